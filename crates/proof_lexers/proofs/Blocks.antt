@@ -2,16 +2,10 @@ pub mod Columns
 pub mod Ends
 pub mod Examples
 pub mod First
-pub mod Further
-pub mod HeaderFacts
 pub mod Headers
-pub mod InLine
 pub mod Margins
-pub mod Markers
-pub mod Pieces
 pub mod Positions
 pub mod Rows
 pub mod Scans
 pub mod Values
-pub mod Walks
 pub mod Written

@@ -54,9 +54,6 @@ escape_by_rows (Some code) n = Char code
 escape_by_rows None (Some n) = Code (digits_of n)
 escape_by_rows None None = Unknown
 
-abbrev Same : ℕ → Type 0
-Same c = escape_of c ≡ escape_by_rows (lookup c escapes) (lookup c numeric_escapes)
-
 -- what holds of a number, and of each other one, holds
 pub row : (c k : ℕ) (P : ℕ → Type 0) → P k → ((c == k) ≡ false → P c) → P c
 row c k P at other = elim (cases_Bool (c == k)) [ inl e ↦ rw (eqb-true c k e) at | inr e ↦ other e ]
@@ -83,4 +80,4 @@ same_uri c = simp (or_assoc, or_false) refl
 
 pub same_tag : (c : ℕ) → classes.is_tag c ≡ is_tag c
 unfolding classes.is_tag is_tag
-same_tag c = rw (same_uri c, same_flow c, or_false (c == 33)) refl
+same_tag c = grind (arith, same_uri, same_flow, or_false)

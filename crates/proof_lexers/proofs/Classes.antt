@@ -1,5 +1,5 @@
 -- Characters of a class at a text's start, and what the model takes of them.
-use Rattle.proof_lexers.proofs.Common.{[], after, all_of, and_parts, ap, append-nil, append_assoc, arith, Bool, cases_Bool, false, further, inl, inr, leading, length, List, past, Position, refl, skip_while, suc, sym, take_while, true, ℕ, ◌++◌, ◌+◌, ◌∙◌, ◌∷◌, ◌≡◌}
+use Rattle.proof_lexers.proofs.Common.{[], after, all_of, append-nil, append_assoc, arith, Bool, cases_Bool, false, further, inl, inr, leading, length, List, past, Position, refl, skip_while, suc, sym, take_while, true, ℕ, ◌++◌, ◌+◌, ◌∷◌, ◌≡◌}
 use Rattle.proof_row.proofs.Texts as texts
 
 -- ---- positions
@@ -34,28 +34,22 @@ module _ (class : ℕ → Bool) where
   pub before_end : (l n : List ℕ) → begins_in class n ≡ false → (leading class (l ++ n) ≡ leading class l) × (after class (l ++ n) ≡ after class l ++ n)
   before_end [] [] h = (refl, refl)
   before_end [] (c ∷ n) h = (rw h refl, rw h refl)
-  before_end (c ∷ l) n h = let z = before_end l n h in elim (cases_Bool (class c)) [ inl e ↦ (rw e (ap (λ k. c ∷ k) z.0), rw e z.1) | inr e ↦ (rw e refl, rw e refl) ]
+  before_end (c ∷ l) n h = grind (arith, before_end l n h)
 
   pub leading_none : (r : List ℕ) → begins_in class r ≡ false → (leading class r ≡ []) × (after class r ≡ r)
   leading_none r h = before_end [] r h
 
   pub leading_all : (l r : List ℕ) → all_of class l ≡ true → begins_in class r ≡ false → (leading class (l ++ r) ≡ l) × (after class (l ++ r) ≡ r)
   leading_all [] r h e = leading_none r e
-  leading_all (c ∷ l) r h e =
-      let q = and_parts (class c) (all_of class l) h in
-      let z = leading_all l r q.1 e in
-      (rw q.0 (ap (λ k. c ∷ k) z.0), rw q.0 z.1)
+  leading_all (c ∷ l) r h e = grind (arith, leading_all l r)
 
   -- ---- the model
 
   module _ (test : ℕ → Bool) (same : (c : ℕ) → class c ≡ test c) where
     pub taken : (a : List ℕ) (p : Position) (t : List ℕ) → take_while test a p t ≡ record { rest = after class a; position = further (length (leading class a)) p; value = t ++ leading class a }
     taken [] p t = rw (none_further p, append-nil) refl
-    taken (c ∷ a) p t = elim (cases_Bool (class c)) [
-      | inl e ↦ rw (← same c, e) (taken a (past p) (t ++ c ∷ []) ∙ rw (one_further p (length (leading class a)), append_assoc) refl)
-      | inr e ↦ rw (← same c, e) (rw (none_further p, append-nil) refl)
-    ]
+    taken (c ∷ a) p t = grind (arith, past, one_further, none_further, append-nil, append_assoc, taken a (past p) (t ++ c ∷ []))
 
     pub skipped : (a : List ℕ) (p : Position) → skip_while test a p ≡ record { rest = after class a; position = further (length (leading class a)) p; value = tt }
-    skipped [] p = ap (λ q. record { rest = []; position = q; value = tt }) (sym (none_further p))
+    skipped [] p = grind (arith, none_further)
     skipped (c ∷ a) p = grind (arith, past, after, one_further, none_further, skipped a (past p))

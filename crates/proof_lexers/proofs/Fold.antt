@@ -1,5 +1,5 @@
 -- The buffers of a flow scalar's scan join the text of its lines, trimmed and folded.
-use Rattle.proof_lexers.proofs.Common.{[], after_elements, ap, append-nil, append_assoc, before_break, begun_with, blank, Bool, content, Element, escaped_break, false, Folded, folded_after, folded_break, if◌then◌else◌, is_empty, joined, last_line, line, line_break, line_feed, lines_of, List, not, refl, replicate, suc, sym, trimmed, trimmed_after, true, with_char, with_escaped_break, without_trailing_blanks, zero, ℕ, ◌&&◌, ◌++◌, ◌∙◌, ◌∷◌, ◌≡◌}
+use Rattle.proof_lexers.proofs.Common.{[], after_elements, ap, append-nil, append_assoc, before_break, begun_with, blank, Bool, content, Element, escaped_break, false, Folded, folded_after, folded_break, if◌then◌else◌, is_empty, joined, last_line, line, line_break, line_feed, lines_of, List, not, refl, replicate, suc, sym, trimmed, trimmed_after, true, without_trailing_blanks, zero, ℕ, ◌&&◌, ◌++◌, ◌∙◌, ◌∷◌, ◌≡◌, arith}
 use Rattle.defs_text.specs.Classes.{space}
 use Rattle.defs_text.specs.FlowScalar.{Lines, text_of, folded}
 use Rattle.proof_lexers.specs.BufferLaws.{BuffersJoinFoldedLines}
@@ -28,10 +28,6 @@ none_trailing [] c l = refl
 none_trailing (b ∷ []) c l = refl
 none_trailing (b ∷ d ∷ g) c l = rw (none_trailing (d ∷ g) c l) refl
 
-kept : (escaped : Bool) (g : List ℕ) (c : ℕ) (l : List Element) → text_of (before_break escaped (blanks g (content c ∷ l))) ≡ g ++ c ∷ text_of (before_break escaped l)
-kept true g c l = text_after g (content c ∷ l)
-kept false g c l = rw (none_trailing g c l) (text_after g _)
-
 -- ---- the text of the lines left
 
 -- within a line, after its trailing blanks
@@ -50,18 +46,13 @@ abbrev joined_text : List Element → Folded → List ℕ
 joined_text es t = (joined (after_elements es t)).text
 
 content_line : (g : List ℕ) (c : ℕ) (ls : Lines) → line_text g (begun_with (content c) ls) ≡ g ++ c ∷ line_text [] ls
-content_line g c (last_line l) = text_after g (content c ∷ l)
-content_line g c (line l escaped ls) = rw (kept escaped g c l) (append_assoc g (c ∷ text_of (before_break escaped l)) (folded_after escaped 0 (trimmed_after ls)))
+content_line g c ls = grind (arith, text_after, none_trailing, append_assoc)
 
 blank_line : (g : List ℕ) (c : ℕ) (ls : Lines) → line_text (g ++ c ∷ []) ls ≡ line_text g (begun_with (blank c) ls)
-blank_line g c (last_line l) = rw (one_more g c l) refl
-blank_line g c (line l escaped ls) = rw (one_more g c l) refl
+blank_line g c ls = grind (arith, one_more)
 
 broken : (escaped : Bool) (n : ℕ) → (if true && not escaped && is_empty (replicate n line_feed) then space ∷ [] else replicate n line_feed) ≡ folded_break escaped n
-broken false zero = refl
-broken true zero = refl
-broken false (suc n) = refl
-broken true (suc n) = refl
+broken escaped n = grind arith
 
 joined_break : (escaped : Bool) (n : ℕ) (text : List ℕ) → joined (after_break escaped n text) ≡ in_line (text ++ folded_break escaped n) []
 joined_break escaped n text = ap (λ g. in_line (text ++ g) []) (broken escaped n)
@@ -71,17 +62,7 @@ more_breaks zero = refl
 more_breaks (suc n) = ap (λ r. line_feed ∷ r) (more_breaks n)
 
 leading_blank : (escaped : Bool) (n : ℕ) (c : ℕ) (ls : Lines) → folded_after escaped n (trimmed_after (begun_with (blank c) ls)) ≡ folded_after escaped n (trimmed_after ls)
-leading_blank escaped n c (last_line l) = refl
-leading_blank escaped n c (line l e ls) = refl
-
-content_after : (escaped : Bool) (n c : ℕ) (l : List Element) (e : Bool) (ls : Lines) → folded_after escaped n (line (content c ∷ l) e ls) ≡ folded_break escaped n ++ c ∷ (text_of l ++ folded_after e 0 ls)
-content_after escaped n c l true ls = append_assoc (folded_break escaped n) (c ∷ text_of l) (folded_after true 0 ls)
-content_after escaped n c l false ls = append_assoc (folded_break escaped n) (c ∷ text_of l) (folded_after false 0 ls)
-
-leading_content : (escaped : Bool) (n : ℕ) (c : ℕ) (ls : Lines) → folded_after escaped n (trimmed_after (begun_with (content c) ls)) ≡ folded_break escaped n ++ c ∷ line_text [] ls
-leading_content escaped n c (last_line l) = refl
-leading_content escaped n c (line l true ls) = content_after escaped n c l true (trimmed_after ls)
-leading_content escaped n c (line l false ls) = content_after escaped n c (without_trailing_blanks l) false (trimmed_after ls)
+leading_blank escaped n c ls = grind arith
 
 mutual
   line_joins : (es : List Element) (text g : List ℕ) → joined_text es (in_line text g) ≡ text ++ line_text g (lines_of es)
@@ -94,19 +75,14 @@ mutual
   break_joins : (es : List Element) (escaped : Bool) (n : ℕ) (text : List ℕ) → joined_text es (after_break escaped n text) ≡ text ++ folded_after escaped n (trimmed_after (lines_of es))
   break_joins [] escaped n text = ap (λ t. t.text) (joined_break escaped n text) ∙ rw append-nil refl
   break_joins (content c ∷ es) escaped n text =
-      ap (λ t. joined_text es (with_char c t)) (joined_break escaped n text)
-      ∙ line_joins es ((text ++ folded_break escaped n) ++ c ∷ []) []
-      ∙ rw (leading_content escaped n c (lines_of es), append_assoc, append_assoc) refl
+      grind (arith, broken, append_assoc, line_joins es ((text ++ folded_break escaped n) ++ c ∷ []) [])
   break_joins (blank c ∷ es) escaped n text = break_joins es escaped n text ∙ ap (λ l. text ++ l) (sym (leading_blank escaped n c (lines_of es)))
   break_joins (line_break ∷ es) escaped n text = ap (λ g. joined_text es (record { text = text; gap = g; leading = true; escaped = escaped })) (more_breaks n) ∙ break_joins es escaped (suc n) text
   break_joins (escaped_break ∷ es) escaped n text =
-      ap (λ t. joined_text es (with_escaped_break t)) (joined_break escaped n text)
-      ∙ break_joins es true 0 (text ++ folded_break escaped n)
-      ∙ rw (append-nil, append_assoc) refl
+      grind (arith, broken, append-nil, append_assoc, break_joins es true 0 (text ++ folded_break escaped n))
 
 from_nothing : (ls : Lines) → line_text [] ls ≡ folded (trimmed ls)
-from_nothing (last_line l) = refl
-from_nothing (line l escaped ls) = refl
+from_nothing ls = grind arith
 
 pub buffers_join : BuffersJoinFoldedLines
 buffers_join es = line_joins es [] [] ∙ from_nothing (lines_of es)

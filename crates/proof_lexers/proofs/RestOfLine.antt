@@ -1,10 +1,12 @@
 -- How the rest of a line is read: blanks, and a comment after one.
-use Rattle.proof_lexers.proofs.Common.{[], along, and_parts, ap, arith, At, begins_with, cases_Bool, eqb-true, Err, false, Fault, further, has_no_break, inl, inr, is_blanks_and_comment, is_break, is_in_line, is_line, is_rest_of_line, length, List, nat_tests, not, not-true, Ok, or-true, or_cases, or_parts, past, Position, Read, refl, Result, skip_while, space, space_from, Spaces, sym, true, Whitespace, with_found, Yes, ℕ, ◌++◌, ◌==◌, ◌||◌, ◌∙◌, ◌∷◌, ◌≡◌, Bool, and-false}
+use Rattle.proof_lexers.proofs.Common.{[], along, and_parts, ap, arith, At, begins_with, cases_Bool, eqb-true, Err, false, Fault, further, has_no_break, inl, inr, is_blanks_and_comment, is_break, is_in_line, is_line, is_rest_of_line, length, List, nat_tests, not, not-true, Ok, or-true, or_cases, or_parts, past, Position, Read, refl, Result, skip_while, space, space_from, Spaces, sym, true, Whitespace, with_found, Yes, ℕ, ◌++◌, ◌==◌, ◌||◌, ◌∙◌, ◌∷◌, ◌≡◌, Bool, and-false, or-false, ◌&&◌, leading, has, after}
 use Rattle.yaml_tokens.specs.declared.problem.Problem.TheVariants as problem
 use Rattle.defs_text.specs.Classes as classes
 use Rattle.defs_text.specs.Breaks.{touches_comment}
 use Rattle.proof_lexers.proofs.Bridges.{same_break}
 use Rattle.proof_lexers.specs.DirectiveEnds.{ends_line}
+use Rattle.model_scanner.specs.Blanks.{after_spaces, are_skipped}
+use Rattle.model_scanner.specs.declared.context.SkipTabs.{SkipTabs}
 use Rattle.proof_lexers.proofs.Classes.{none_further, one_further}
 
 pub along_further : (w : List ℕ) (p : Position) → along w p ≡ further (length w) p
@@ -23,11 +25,39 @@ break_is_none c h = (grind (arith, nat_tests), grind (arith, nat_tests), grind (
 -- all of a line without a break is skipped
 pub line_skipped : (m n : List ℕ) (p : Position) → has_no_break m ≡ true → ends_line n ≡ true → skip_while is_line (m ++ n) p ≡ record { rest = n; position = further (length m) p; value = tt }
 line_skipped [] [] p h e = ap (λ q. record { rest = []; position = q; value = tt }) (sym (none_further p))
-line_skipped [] (c ∷ n) p h e = let breaks : is_break c ≡ true = sym (same_break c) ∙ e in rw breaks (ap (λ q. record { rest = c ∷ n; position = q; value = tt }) (sym (none_further p)))
-line_skipped (c ∷ m) n p h e =
-    let q = and_parts (not (classes.is_break c)) (has_no_break m) h in
-    let no_break : is_break c ≡ false = sym (same_break c) ∙ not-true (classes.is_break c) q.0 in
-    rw no_break (line_skipped m n (past p) q.1 e ∙ ap (λ z. record { rest = n; position = z; value = tt }) (one_further p (length m)))
+line_skipped [] (c ∷ n) p h e = grind (arith, same_break, none_further)
+line_skipped (c ∷ m) n p h e = grind (arith, same_break, one_further, line_skipped m n (past p))
+
+-- ---- the first line of a text
+
+pub in_line : ℕ → Bool
+in_line c = not (classes.is_break c)
+
+pub first_line : (a : List ℕ) → (has_no_break (leading in_line a) ≡ true) × (ends_line (after in_line a) ≡ true)
+unfolding in_line
+first_line [] = (refl, refl)
+first_line (c ∷ a) = grind (arith, first_line a)
+
+-- ---- spaces, and TABs where these are passed
+
+abbrev pub is_space : SkipTabs → ℕ → Bool
+is_space tabs c = (c == 32) || ((c == 9) && are_skipped tabs)
+
+-- what was found, and is found in a text
+abbrev pub found_in : Whitespace → List ℕ → Whitespace
+found_in w a = record { found_tabs = w.found_tabs || has 9 a; has_valid_yaml_ws = w.has_valid_yaml_ws || has 32 a }
+
+pub spaces_passed : (tabs : SkipTabs) (a : List ℕ) (p : Position) (w : Whitespace) → space_from tabs a (record { position = p; found = w })
+    ≡ after_spaces (after (is_space tabs) a) (record { position = further (length (leading (is_space tabs) a)) p; found = found_in w (leading (is_space tabs) a) })
+spaces_passed tabs [] p w = grind (arith, none_further, or-false)
+spaces_passed tabs (c ∷ a) p w = grind (
+  arith,
+  none_further,
+  one_further,
+  or-false,
+  spaces_passed tabs a (past p) (record w { has_valid_yaml_ws = true }),
+  spaces_passed tabs a (past p) (record w { found_tabs = true }),
+)
 
 -- ---- a blank
 
@@ -36,10 +66,6 @@ record Blank (c : ℕ) (a : List ℕ) (s : Spaces) : Type 0 where
   position : next.position ≡ past s.position
   some : (next.found.found_tabs || next.found.has_valid_yaml_ws) ≡ true
   is : space_from Yes (c ∷ a) s ≡ space_from Yes a next
-
-at_end : (n : List ℕ) (s : Spaces) → ends_line n ≡ true → space_from Yes n s ≡ Ok (record { rest = n; position = further 0 s.position; value = s.found })
-at_end [] s k = ap (λ q. Ok (record { rest = []; position = q; value = s.found })) (sym (none_further s.position))
-at_end (c ∷ n) s k = let q = break_is_none c (sym (same_break c) ∙ k) in rw (q.0, q.1, q.2) (ap (λ z. Ok (record { rest = c ∷ n; position = z; value = s.found })) (sym (none_further s.position)))
 
 -- ---- a line
 
@@ -51,7 +77,7 @@ data Walked (some : Bool) (m n : List ℕ) (p : Position) (x : Result (Read Whit
 
 walked : (m n : List ℕ) (s : Spaces) → has_no_break m ≡ true → ends_line n ≡ true → Walked (s.found.found_tabs || s.found.has_valid_yaml_ws) m n s.position (space_from Yes (m ++ n) s)
 unfolding classes.is_blank
-walked [] n s h k = ended s.found refl (or-true _) (at_end n s k)
+walked [] n s h k = ended s.found refl (or-true _) (grind (arith, none_further, break_is_none, same_break))
 walked (c ∷ m) n s h k = elim (cases_Bool (c == 35)) [
   | inl e ↦ rw (eqb-true c 35 e) (hash (rw (eqb-true c 35 e) at h) _ refl)
   | inr e ↦ elim (cases_Bool (classes.is_blank c)) [

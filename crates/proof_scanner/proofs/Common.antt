@@ -154,3 +154,9 @@ unfoldable pub use Rattle.yaml_chars.specs.Class.{is_alphanumeric, is_hex}
 pub use Rattle.yaml_tokens.specs.declared.problem.Fault.{Fault}
 pub use Rattle.yaml_tokens.specs.declared.problem.Fault.TheVariants.{At, OutOfMemory}
 pub use Rattle.yaml_tokens.specs.declared.problem.Problem.{Problem}
+pub use Rattle.yaml_tokens.specs.declared.problem.Problem.TheVariants.{AnchorIndentation, AnchorName, BlockEntryInFlow, BlockEntryNotAllowed, BlockScalarHeader, BlockScalarIndentation, BlockScalarTab, BlockScalarZero, ColonMisplaced, CommentNotSeparated, ContentAfterDocumentEnd, ContentAfterQuoted, DirectiveEnd, DirectiveName, DirectiveNameEnd, EscapedCode, FlowIndentation, FlowTooDeep, GlobalTagCharacter, HexadecimalDigit, InvalidIndentation, KeyExpected, KeyNotAllowed, KeyWithoutColon, PlainDashInFlow, PlainTab, QuotedDocumentMarker, QuotedEnd, QuotedIndentation, TabAfterColon, TabAfterDash, TabAfterKey, TabAsIndentation, TabInBlockIndentation, TagDirectiveEnd, TagDirectiveHandle, TagEnd, TagStart, UnexpectedAt, UnexpectedBacktick, UnexpectedPercent, UnknownEscape, ValueNotAllowed, VerbatimTagEnd, VersionDot, VersionNumber, VersionTooLong, WhitespaceExpected}
+pub use Rattle.model_scanner.proofs.Holds.{passes}
+pub use Rattle.model_scanner.specs.declared.kind.NameKind.TheVariants.{Alias, Anchor}
+pub use Rattle.proof_lexers.specs.Ends.{EndsAs, reads, refuses}
+pub use Rattle.proof_row.proofs.Columns.{further_is_no_break}
+pub use Rattle.proof_row.proofs.Runs.{neither}

@@ -1,7 +1,6 @@
 -- A text without NUL that has a row is read: each run ends the stream or is refused, and a text with a row is not refused.
 use Rattle.proof_row.proofs.OneRow.{one_reading}
-use Rattle.std.proofs.lemmas.List.{length-append}
-use Rattle.proof_scanner.proofs.Common.{ap, arith, At, begins, Err, false, Fares, Fault, fetch, fetch_stream_start, has_no_nul, HasTokens, held_of, here, inl, inr, IsPositionIn, IsRead, length, List, Ok, OutOfMemory, over, Reaches, refl, Result, ScannerState, Stands, start, suc, there, true, zero, ℕ, ◌<◌, ◌≡◌, ◌≤◌}
+use Rattle.proof_scanner.proofs.Common.{ap, arith, At, begins, Err, false, Fares, Fault, fetch, fetch_stream_start, has_no_nul, HasTokens, held_of, here, inl, inr, IsPositionIn, IsRead, length, List, Ok, OutOfMemory, over, Reaches, refl, Result, ScannerState, Stands, start, suc, there, true, zero, ℕ, ◌<◌, ◌≡◌, ◌≤◌, length-append}
 use Rattle.proof_scanner.proofs.Cut.Documents.{whole_text}
 use Rattle.proof_scanner.proofs.Sound.CutsSoFar.{stands_cut, cut_position}
 use Rattle.proof_scanner.specs.StandsInRow.{goes}

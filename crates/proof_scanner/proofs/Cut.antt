@@ -1,5 +1,4 @@
 pub mod Blocks
-pub mod Characters
 pub mod Dispatch
 pub mod Documents
 pub mod Faults
@@ -7,7 +6,6 @@ pub mod Fetched
 pub mod FlowEnds
 pub mod Flows
 pub mod Heres
-pub mod Levels
 pub mod Nodes
 pub mod Passes
 pub mod Pieces

@@ -1,9 +1,3 @@
-pub mod Block
-pub mod Indicators
-pub mod Places
-pub mod Plain
-pub mod Property
 pub mod Quoted
 pub mod Reasons
-pub mod Settings
 pub mod Stuck

@@ -1,11 +1,8 @@
 -- Which lines a block scalar's text goes up to, and that the lines after it don't change its content column.
-use Rattle.proof_lexers.proofs.Common.{[], and_parts, ap, append-nil, append_assoc, arith, cases_lt, column_by, column_same, ends_line, false, first_line, inl, inr, is_content_line, is_document_marker, is_empty_line, is_further_text, is_in_line, is_outside, is_some, is_spaces, IsBefore, le-leb, leading_spaces, length, List, list_all, nat_le, None, not, not-false, Option, refl, row_of, suc, sym, true, up_to_break, zero, ℕ, ◌&&◌, ◌++◌, ◌==◌, ◌∙◌, ◌∷◌, ◌≡◌, ◌≤◌, ◌⊎◌}
+use Rattle.proof_lexers.proofs.Common.{[], ap, append-nil, append_assoc, arith, column_by, column_same, ends_line, false, first_line, is_content_line, is_document_marker, is_empty_line, is_further_text, is_in_line, is_outside, is_some, is_spaces, IsBefore, le-leb, leading_spaces, length, List, list_all, nat_le, None, not, not-false, Option, refl, row_of, suc, sym, true, up_to_break, zero, ℕ, ◌&&◌, ◌++◌, ◌==◌, ◌∙◌, ◌∷◌, ◌≡◌, ◌≤◌, max, nat_tests}
 use Rattle.defs_text.specs.Classes as classes
 use Rattle.proof_lexers.proofs.Bridges.{same_break}
-use Rattle.proof_lexers.proofs.Blocks.InLine.{first_inner}
-use Rattle.proof_lexers.proofs.Blocks.Written.{Line, put, spell, texts, AreLines}
-use Rattle.proof_lexers.proofs.Blocks.Markers.{line_marker}
-use Rattle.proof_lexers.proofs.Blocks.Rows.{break_ends, suc_off}
+use Rattle.proof_lexers.proofs.Blocks.Rows.{AreLines, break_ends, first_inner, Line, line_marker, put, spell, suc_off, texts}
 use Rattle.proof_row.proofs.Columns.{further}
 
 -- ---- a line that is no row is further text
@@ -16,7 +13,7 @@ all_spaces (c ∷ w) h = grind (arith, all_spaces w)
 
 pub spaces_leading : (w : List ℕ) → is_spaces w ≡ true → leading_spaces w ≡ length w
 spaces_leading [] h = refl
-spaces_leading (c ∷ w) h = let q = and_parts (c == 32) (is_spaces w) h in rw (q.0) (ap suc (spaces_leading w q.1))
+spaces_leading (c ∷ w) h = grind (arith, spaces_leading w)
 
 none_outside : (n : ℕ) (w y : List ℕ) → (is_spaces w && nat_le (length w) n) ≡ false → (nat_le n (leading_spaces w) && nat_le (suc n) (length w)) ≡ false → is_in_line w ≡ true → list_all is_some w ≡ true → is_outside n (w ++ y) ≡ true
 unfolding classes.is_nul
@@ -33,11 +30,8 @@ no_row : (column : ℕ) (w : List ℕ) → row_of column w ≡ None → NoRow co
 unfolding row_of is_empty_line is_content_line
 no_row column w h = grind arith
 
-false_true : false ≡ true → ⊥
-false_true e = cc
-
 none_marked : (w y : List ℕ) → NoRow 0 w → ends_line y ≡ true → is_further_text 0 (w ++ y) ≡ true
-none_marked a y z b = grind (arith, false_true, le-leb, line_marker, not-false)
+none_marked a y z b = grind (arith, le-leb, line_marker, not-false)
 
 pub none_further : (column : ℕ) (w y : List ℕ) → row_of column w ≡ None → is_in_line w ≡ true → list_all is_some w ≡ true → ends_line y ≡ true → is_further_text column (w ++ y) ≡ true
 none_further zero w y h inner some ends = none_marked w y (no_row 0 w h) ends
@@ -60,48 +54,35 @@ pub are_append : (ls ns : List Line) (e : List ℕ) → AreLines ls (spell ns e)
 are_append [] ns e are more = more
 are_append (l ∷ ls) ns e are more = (are.0, rw (spell_append ls ns e) (are.1), are_append ls ns e are.2 more)
 
-pub are_first : (ls ns : List Line) (e : List ℕ) → AreLines (ls ++ ns) e → AreLines ls (spell ns e)
-are_first [] ns e are = tt
-are_first (l ∷ ls) ns e are = (are.0, rw (← spell_append ls ns e) (are.1), are_first ls ns e are.2)
-
-pub are_second : (ls ns : List Line) (e : List ℕ) → AreLines (ls ++ ns) e → AreLines ns e
-are_second [] ns e are = are
-are_second (l ∷ ls) ns e are = are_second ls ns e are.2
+pub are_parts : (ls ns : List Line) (e : List ℕ) → AreLines (ls ++ ns) e → AreLines ls (spell ns e) × AreLines ns e
+are_parts [] ns e are = (tt, are)
+are_parts (l ∷ ls) ns e are = let z = are_parts ls ns e are.2 in ((are.0, rw (← spell_append ls ns e) (are.1), z.0), z.1)
 
 -- ---- the column of further text
 
 -- the first line of further text
-text_first : (ns : List Line) (e : List ℕ) → AreLines ns e → is_in_line e ≡ true → up_to_break (spell ns e) ≡ first_line (texts ns) e
-text_first ns e are inner = of_first ns are
-  where
-    before : (w a : List ℕ) → ends_line a ≡ true → is_in_line w ≡ true → up_to_break (w ++ a) ≡ w
-    before [] [] ends h = refl
-    before [] (c ∷ a) ends h = rw ends refl
-    before (c ∷ w) a ends h = let q = first_inner c w h in rw (same_break c, q.0) (ap (λ r. c ∷ r) (before w a ends q.1))
+up_to : (w a : List ℕ) → ends_line a ≡ true → is_in_line w ≡ true → up_to_break (w ++ a) ≡ w
+up_to [] a ends h = grind arith
+up_to (c ∷ w) a ends h = grind (arith, first_inner, same_break, up_to w a)
 
-    of_first : (ns : List Line) → AreLines ns e → up_to_break (spell ns e) ≡ first_line (texts ns) e
-    of_first [] are = ap up_to_break (sym (append-nil e)) ∙ before e [] refl inner
-    of_first (l ∷ ns) are = before l.text (put l.by (spell ns e)) (break_ends l.by (spell ns e)) are.0
+text_first : (ns : List Line) (e : List ℕ) → AreLines ns e → is_in_line e ≡ true → up_to_break (spell ns e) ≡ first_line (texts ns) e
+text_first [] e are inner = ap up_to_break (sym (append-nil e)) ∙ up_to e [] refl inner
+text_first (l ∷ ns) e are inner = up_to l.text (put l.by (spell ns e)) (break_ends l.by (spell ns e)) are.0
 
 -- further text begins with a line that is no row
 pub first_before : (column : ℕ) (ns : List Line) (e : List ℕ) → AreLines ns e → is_in_line e ≡ true → is_further_text column (spell ns e) ≡ true → IsBefore column (first_line (texts ns) e)
 first_before column ns e are inner h = rw (← text_first ns e are inner) (further column (spell ns e) h)
 
 -- which begins left of the column, if that is not 0
-pub first_left : (column : ℕ) (w : List ℕ) → IsBefore column w → (suc (leading_spaces w) ≤ column) ⊎ (column ≡ 0)
-first_left zero w z = inr refl
-first_left (suc n) w z = elim (cases_lt (leading_spaces w) (suc n)) [
-  | inl h ↦ inl (omega (arith, h))
-  | inr h ↦ elim (cases_lt (leading_spaces w) (length w)) [
-    | inl k ↦ absurd (false_true (sym (no_row (suc n) w z.none).no_content ∙ rw (le-leb (suc n) (leading_spaces w) h, le-leb (suc (suc n)) (length w) (omega (arith, h, k)), suc_off n) refl))
-    | inr k ↦ absurd (false_true (sym z.written ∙ all_spaces w k))
-  ]
-]
+pub first_left : (column : ℕ) (w : List ℕ) → IsBefore column w → suc (leading_spaces w) ≤ max column 1
+first_left zero w z = let start = z.start in omega (arith, start)
+first_left (suc n) w z =
+    let start = z.start in
+    let other = z.written in
+    let y = no_row (suc n) w z.none in
+    grind (arith, nat_tests, y, all_spaces, suc_off)
 
 -- and leaves the column of the lines before it as it is
 pub same_column : (digit collection : Option ℕ) (ls ns : List Line) (e : List ℕ) → is_spaces (first_line (texts ns) e) ≡ false → leading_spaces (first_line (texts ns) e) ≤ column_by digit collection (texts ls)
     → column_by digit collection (texts (ls ++ ns) ++ e ∷ []) ≡ column_by digit collection (texts ls)
-same_column digit collection ls [] e other le =
-    ap (λ x. column_by digit collection (x ++ e ∷ [])) (texts_append ls [] ∙ append-nil (texts ls)) ∙ column_same digit collection (texts ls) e [] other le
-same_column digit collection ls (n ∷ ns) e other le =
-    ap (column_by digit collection) (ap (λ x. x ++ e ∷ []) (texts_append ls (n ∷ ns)) ∙ append_assoc (texts ls) (texts (n ∷ ns)) (e ∷ [])) ∙ column_same digit collection (texts ls) n.text (texts ns ++ e ∷ []) other le
+same_column digit collection ls ns e other le = grind (arith, texts_append, append-nil, append_assoc, column_same)

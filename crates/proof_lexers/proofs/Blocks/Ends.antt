@@ -1,18 +1,207 @@
--- Each scan of a block scalar ends as its text says.
-use Rattle.proof_lexers.proofs.Common.{[], ap, append-nil, arith, begins_with, block, block_read, BlockRead, BlockScansEndAsTheirTextSays, BlockStyle, body, collection_of, column_by, ends_line, EndsAs, false, first_line, further_text, header, header_of, indicator_of, inl, inr, is_at_end, is_further_text, is_in_line, is_literal_style, is_some, IsHeaderRead, IsHeaderRefusal, IsRead, leading_spaces, linebreak, List, list_all, None, Option, past, Position, Read, read_body, read_lines, read_split, reads, refl, refuses, Row, rows_of, Some, starts_with_tab, subst, sym, tab, true, unbroken, value_before_end, value_before_text, whole_header, ℕ, ◌++◌, ◌==◌, ◌∙◌, ◌∷◌, ◌≡◌}
+-- Each piece that is a block scalar is read as it, and each scan of one ends as its text says.
+use Rattle.proof_lexers.proofs.Common.{[], ap, append-nil, arith, begins_with, block, block_read, BlockRead, BlockScansEndAsTheirTextSays, BlockStyle, body, collection_of, column_by, ends_line, EndsAs, false, first_line, further_text, header, header_of, indicator_of, is_at_end, is_further_text, is_in_line, is_literal_style, is_some, IsHeaderRead, IsHeaderRefusal, IsRead, leading_spaces, linebreak, List, list_all, None, Option, past, Position, Read, read_body, read_lines, read_split, reads, refl, refuses, Row, rows_of, Some, starts_with_tab, subst, sym, tab, true, unbroken, value_before_end, value_before_text, whole_header, ℕ, ◌++◌, ◌==◌, ◌∙◌, ◌∷◌, ◌≡◌, and_parts, BlockPiecesAreRead, Body, Bool, digit_by, digit_or_zero, further_is_no_break, indent_from, input_ends, is_single, is_tabbed, not, not-true, row_of, slice_index, Split, split, ◌&&◌, if◌then◌else◌, nat_tests}
 use Rattle.defs_text.specs.BlockScalar as defs
 use Rattle.proof_lexers.specs.BlockEnds.{IsBlockPiece, IsBlockRead, IsBlockRefusal, whole_block, after_piece, bad_header}
 use Rattle.proof_lexers.proofs.Ends.{ends_also}
-use Rattle.proof_lexers.proofs.Blocks.Written.{Break, Line, put, spell, texts, Fits, AreLines, lined, split_spell}
-use Rattle.proof_lexers.proofs.Blocks.Headers.{headers_end}
+use Rattle.proof_lexers.proofs.Blocks.Headers.{headers_end, said, linebreak_put}
 use Rattle.proof_lexers.proofs.Blocks.Positions.{spell_more}
-use Rattle.proof_lexers.proofs.Blocks.Rows.{break_ends}
-use Rattle.proof_lexers.proofs.Blocks.HeaderFacts.{said, linebreak_put}
-use Rattle.proof_lexers.proofs.Blocks.Columns.{first_before, first_left, same_column, spell_append, are_first, are_second}
-use Rattle.proof_lexers.proofs.Blocks.Walks.{of_line, stops, ends, walked}
-use Rattle.proof_lexers.proofs.Blocks.Scans.{style_inner}
-use Rattle.proof_lexers.proofs.Blocks.Pieces.{fits_alone, tab_line, tab_whole, fits_before, are_before, pieces_are_read, some_next}
+use Rattle.proof_lexers.proofs.Blocks.Rows.{after_lines, AreLines, at, Break, break_ends, first_inner, Fits, Line, lined, lines_front, put, row_is, spell, split_spell, texts}
+use Rattle.proof_lexers.proofs.Blocks.Columns.{first_before, first_left, same_column, spell_append, are_parts, are_append}
+use Rattle.proof_lexers.proofs.Blocks.Values.{of_line, stops, ends, walked, further_outside}
+use Rattle.proof_lexers.proofs.Blocks.Scans.{style_inner, start, after, block_is, tab_fails, before_further, before_the_end, header_alone_is_read}
 use Rattle.proof_lexers.proofs.Blocks.First.{least_is}
+use Rattle.defs_text.specs.Classes as classes
+use Rattle.defs_token.specs.BlockPiece.{with_value}
+use Rattle.proof_lexers.specs.BlockScan.{tabbed}
+use Rattle.defs_text.specs.BlockScalar.{value_at_end, value_at_text}
+
+-- ---- a TAB after the header
+
+pub tab_line : (w a : List ℕ) (k : Break) (ls : List (List ℕ)) → begins_with tab (w ++ put k a) ≡ starts_with_tab (w ∷ ls)
+tab_line b a k ls = grind (arith, nat_tests)
+
+pub tab_whole : (ls : List Line) (e : List ℕ) → begins_with tab (spell ls e) ≡ starts_with_tab (texts ls ++ e ∷ [])
+tab_whole [] [] = refl
+tab_whole [] (c ∷ e) = refl
+tab_whole (l ∷ ls) e = tab_line l.text (spell ls e) l.by (texts ls ++ e ∷ [])
+
+-- ---- further text begins with no line feed, and is not the end
+
+no_feed : (column : ℕ) (r : List ℕ) → is_further_text column r ≡ true → (slice_index r 0 == 10) ≡ false
+no_feed column r h = grind (arith, nat_tests, further_is_no_break)
+
+-- whether a CR is a break read_alone goes by the character after it
+pub fits_alone : (k : Break) → Fits k []
+fits_alone a = grind arith
+
+fits_next : (k : Break) (next : List ℕ) → (slice_index next 0 == 10) ≡ false → Fits k next
+fits_next k next h = grind arith
+
+fits_line : (k m : Break) (w a b : List ℕ) → Fits k (w ++ put m a) → Fits k (w ++ put m b)
+fits_line k m [] a b h = grind (arith, nat_tests)
+fits_line k m (c ∷ w) a b h = grind arith
+
+pub fits_before : (k : Break) (ls : List Line) (a b : List ℕ) → Fits k b → Fits k (spell ls a) → Fits k (spell ls b)
+fits_before k [] a b fits h = fits
+fits_before k (l ∷ ls) a b fits h = fits_line k l.by l.text (spell ls a) (spell ls b) h
+
+pub are_before : (ls : List Line) (a b : List ℕ) → ((k : Break) → Fits k b) → AreLines ls a → AreLines ls b
+are_before [] a b fits are = tt
+are_before (l ∷ ls) a b fits are = (are.0, fits_before l.by ls a b (fits l.by) are.1, are_before ls a b fits are.2)
+
+-- ---- the column is that of the whole text
+
+pub whole_column : (digit : Option ℕ) (indent : ℕ) (ls ns : List Line) (e : List ℕ) (column : ℕ) → AreLines ns e → is_in_line e ≡ true → column_by digit (collection_of indent) (texts ls) ≡ column → is_further_text column (spell ns e) ≡ true
+    → column_by digit (collection_of indent) (texts (ls ++ ns) ++ e ∷ []) ≡ column
+whole_column digit indent ls ns e column are inner same further =
+    let z = first_before column ns e are inner further in
+    same_column digit (collection_of indent) ls ns e z.written (rw same z.start) ∙ same
+
+-- ---- before further text
+
+module _ (indent : ℕ) (p : Position) (next : List ℕ) where
+  -- what a piece before further text is, by its column
+  record Before (h : defs.Header) (column : ℕ) (ls : List (List ℕ)) (b : BlockRead) : Type 0 where
+    rows : List Row
+    are_rows : rows_of column ls ≡ Some rows
+    tabless : starts_with_tab ls ≡ false
+    further : is_further_text column next ≡ true
+    value : record { style = h.style; column = column; text = value_before_text h rows } ≡ b
+
+  before : (h : defs.Header) (column : ℕ) (ls : List (List ℕ)) (b : BlockRead)
+      → (if is_further_text column next then with_value h column (if starts_with_tab ls then None else value_at_text h (rows_of column ls)) else None) ≡ Some b → Before h column ls b
+  before h column ls b e = grind arith
+
+  module _ (h : defs.Header) (line : List ℕ) (k : Break) (ls : List Line) (b : BlockRead) (is : header_of (indicator_of h.style ∷ line) ≡ Some h) (digit : digit_by (digit_or_zero h.digit) ≡ h.digit) (inner : is_in_line line ≡ true)
+      (fits : Fits k (spell ls [])) (are : AreLines ls []) (not_end : is_at_end next ≡ false) (z : Before h (column_by h.digit (collection_of indent) (texts ls)) (texts ls) b) where
+    abbrev column_here : ℕ
+    column_here = column_by h.digit (collection_of indent) (texts ls)
+
+    free : (slice_index next 0 == 10) ≡ false
+    free = no_feed column_here next z.further
+
+    tabbed_is : (ls : List Line) → Fits k (spell ls []) → AreLines ls [] → starts_with_tab (texts ls) ≡ false → is_tabbed (indicator_of h.style ∷ (line ++ put k (spell ls []))) next ≡ begins_with tab (spell ls next)
+    tabbed_is ls fits are free =
+        ap (λ (s : Split). is_single s.complete && begins_with tab next) (split_spell (record { text = indicator_of h.style ∷ line; by = k } ∷ ls) [] (style_inner h.style line inner, fits, are) refl) ∙ read_of_lines ls free
+      where
+        read_of_lines : (ls : List Line) → starts_with_tab (texts ls) ≡ false → (is_single ((indicator_of h.style ∷ line) ∷ texts ls) && begins_with tab next) ≡ begins_with tab (spell ls next)
+        read_of_lines [] free = refl
+        read_of_lines (l ∷ ls) free = sym free ∙ sym (tab_line l.text (spell ls next) l.by (texts ls))
+
+    text_here : (t : Bool) → begins_with tab (spell ls next) ≡ t → IsRead indent p (record { style = h.style; column = column_here; text = value_before_text h z.rows }) (indicator_of h.style ∷ (line ++ put k (spell ls []))) next (block (is_literal_style h.style) indent (indicator_of h.style ∷ (line ++ put k (spell ls next))) p)
+    text_here true e = refuses _ (tabbed (tabbed_is ls fits are z.tabless ∙ e)) (tab_fails h line k indent p is digit inner (spell ls next) (fits_before k ls [] next (fits_next k next free) fits) e)
+    text_here false e =
+        let y = lined next in
+        let same : spell (ls ++ y.lines) y.last ≡ spell ls next = spell_append ls y.lines y.last ∙ ap (spell ls) (sym y.is) in
+        let fits_there : Fits k (spell ls next) = fits_before k ls [] next (fits_next k next free) fits in
+        let are_next : AreLines ls next = are_before ls [] next (λ k. fits_next k next free) are in
+        let are_parts : AreLines ls (spell y.lines y.last) = subst (AreLines ls) y.is are_next in
+        let here : is_further_text column_here (spell y.lines y.last) ≡ true = ap (is_further_text column_here) (sym y.is) ∙ z.further in
+        let found : block (is_literal_style h.style) indent (indicator_of h.style ∷ (line ++ put k (spell ls next))) p ≡ _ =
+        ap (λ a. block (is_literal_style h.style) indent (indicator_of h.style ∷ (line ++ put k a)) p) (sym same)
+        ∙ block_is h line k indent p is digit inner (ls ++ y.lines) y.last column_here (whole_column h.digit indent ls y.lines y.last column_here y.are y.inner refl here) (are_append ls y.lines y.last are_parts y.are) y.inner (rw same fits_there) (rw same e)
+        ∙ ap (λ a. after h line k indent p is digit inner (indent_from column_here a (at (start h line k indent p is digit inner) []))) same in
+        before_further h line k indent p is digit inner column_here ls next z.rows are_next fits_there are fits z.are_rows not_end (tabbed_is ls fits are z.tabless ∙ e) found
+        (further_outside column_here next (after_lines ls (start h line k indent p is digit inner)) (lines_front ls (start h line k indent p is digit inner) refl) z.further)
+
+    further_read : IsRead indent p b (indicator_of h.style ∷ (line ++ put k (spell ls []))) next (block (is_literal_style b.style) indent ((indicator_of h.style ∷ (line ++ put k (spell ls []))) ++ next) p)
+    further_read =
+        let cut : (indicator_of h.style ∷ (line ++ put k (spell ls []))) ++ next ≡ indicator_of h.style ∷ (line ++ put k (spell ls next)) = spell_more (record { text = indicator_of h.style ∷ line; by = k } ∷ ls) [] next in
+        rw (cut, ← z.value) (text_here (begins_with tab (spell ls next)) refl)
+
+-- ---- at the end of the text
+
+module _ (indent : ℕ) (p : Position) where
+  record AtEnd (h : defs.Header) (column : ℕ) (ls : List (List ℕ)) (last : List ℕ) (b : BlockRead) : Type 0 where
+    rows : List Row
+    are_rows : rows_of column ls ≡ Some rows
+    row : Row
+    is_row : row_of column last ≡ Some row
+    tabless : starts_with_tab (ls ++ last ∷ []) ≡ false
+    value : record { style = h.style; column = column; text = value_before_end h column rows last row } ≡ b
+
+  at_the_end : (h : defs.Header) (column : ℕ) (ls : List (List ℕ)) (last : List ℕ) (b : BlockRead)
+      → with_value h column (if starts_with_tab (ls ++ last ∷ []) then None else value_at_end h column last (rows_of column ls) (row_of column last)) ≡ Some b → AtEnd h column ls last b
+  at_the_end h column ls last b e = grind arith
+
+  end_read : (h : defs.Header) (line : List ℕ) (k : Break) (ls : List Line) (last : List ℕ) (b : BlockRead) → header_of (indicator_of h.style ∷ line) ≡ Some h → digit_by (digit_or_zero h.digit) ≡ h.digit → is_in_line line ≡ true
+      → Fits k (spell ls last) → AreLines ls last → is_in_line last ≡ true
+      → AtEnd h (column_by h.digit (collection_of indent) (texts ls ++ last ∷ [])) (texts ls) last b
+      → IsRead indent p b (indicator_of h.style ∷ (line ++ put k (spell ls last))) [] (block (is_literal_style b.style) indent ((indicator_of h.style ∷ (line ++ put k (spell ls last))) ++ []) p)
+  end_read h line k ls last b is digit inner fits are last_inner z =
+      let K = column_by h.digit (collection_of indent) (texts ls ++ last ∷ []) in
+      let found = block_is h line k indent p is digit inner ls last K refl are last_inner fits (tab_whole ls last ∙ z.tabless) in
+      rw (append-nil, ← z.value) (before_the_end h line k indent p is digit inner K ls last z.rows are last_inner fits z.are_rows found z.row (row_is K last z.row z.is_row))
+
+-- ---- each piece
+
+pub some_next : (d : ℕ) (n : List ℕ) → list_all is_some (d ∷ n) ≡ true → is_at_end (d ∷ n) ≡ false
+unfolding classes.is_nul
+some_next d n h = not-true _ ((and_parts (not (d == 0)) (list_all is_some n) h).0)
+
+-- a piece's first line is a header
+record Headed (w : List ℕ) : Type 0 where
+  h : defs.Header
+  is : header_of w ≡ Some h
+  line : List ℕ
+  cut : w ≡ indicator_of h.style ∷ line
+  digit : digit_by (digit_or_zero h.digit) ≡ h.digit
+  inner : is_in_line line ≡ true
+
+headed : (indent : ℕ) (w : List ℕ) (content : Body) (next : List ℕ) (b : BlockRead) → is_in_line w ≡ true → read_body (header_of w) (collection_of indent) content next ≡ Some b → Headed w
+headed indent [] content next b inner e = cc
+headed indent (c ∷ line) content next b inner e = by (header_of (c ∷ line)) refl
+  where
+    by : (o : Option defs.Header) → header_of (c ∷ line) ≡ o → Headed (c ∷ line)
+    by None f = let no : None ≡ Some b = rw f at e in cc
+    by (Some h) f =
+        let z = said c line h f in record { h = h; is = f; line = line; cut = ap (λ d. d ∷ line) z.begins; digit = z.digit_is; inner = (first_inner c line inner).1 }
+
+module _ (indent : ℕ) (p : Position) (b : BlockRead) where
+  abbrev pub Read_as : List ℕ → List ℕ → Type 0
+  Read_as piece next = IsRead indent p b piece next (block (is_literal_style b.style) indent (piece ++ next) p)
+
+  read_alone : (w : List ℕ) → is_in_line w ≡ true → read_body (header_of w) (collection_of indent) input_ends [] ≡ Some b → Read_as w []
+  read_alone w inner e =
+      let z = headed indent w input_ends [] b inner e in
+      let same : record { style = z.h.style; column = 0; text = [] } ≡ b = cc (e, z.is) in
+      let w' = indicator_of z.h.style ∷ z.line in
+      subst (λ x. Read_as x []) (sym z.cut) (subst (λ (r : BlockRead). IsRead indent p r w' [] (block (is_literal_style r.style) indent (w' ++ []) p)) same
+      (rw append-nil (header_alone_is_read z.h z.line indent p (sym (ap header_of z.cut) ∙ z.is) z.inner)))
+
+  pub to_end : (w : List ℕ) (k : Break) (ls : List Line) (last : List ℕ) → is_in_line w ≡ true → Fits k (spell ls last) → AreLines ls last → is_in_line last ≡ true
+      → read_body (header_of w) (collection_of indent) (body (texts ls) (unbroken last)) [] ≡ Some b → Read_as (w ++ put k (spell ls last)) []
+  to_end w k ls last inner fits are last_inner e =
+      let z = headed indent w (body (texts ls) (unbroken last)) [] b inner e in
+      subst (λ x. Read_as (x ++ put k (spell ls last)) []) (sym z.cut)
+      (end_read indent p z.h z.line k ls last b (sym (ap header_of z.cut) ∙ z.is) z.digit z.inner fits are last_inner (at_the_end indent p z.h _ (texts ls) last b (rw z.is at e)))
+
+  pub read_to_text : (w : List ℕ) (k : Break) (ls : List Line) (next : List ℕ) → is_in_line w ≡ true → Fits k (spell ls []) → AreLines ls [] → is_at_end next ≡ false
+      → read_body (header_of w) (collection_of indent) (body (texts ls) further_text) next ≡ Some b → Read_as (w ++ put k (spell ls [])) next
+  read_to_text w k ls next inner fits are some e =
+      let z = headed indent w (body (texts ls) further_text) next b inner e in
+      let value = rw (z.is, some) at e in
+      subst (λ x. Read_as (x ++ put k (spell ls [])) next) (sym z.cut)
+      (further_read indent p next z.h z.line k ls b (sym (ap header_of z.cut) ∙ z.is) z.digit z.inner fits are some (before indent p next z.h _ (texts ls) b value))
+
+  read_of_lines : (ls : List Line) (last next : List ℕ) → AreLines ls last → is_in_line last ≡ true → list_all is_some next ≡ true → (t : Bool) → is_at_end next ≡ t
+      → read_lines (collection_of indent) (texts ls) last next t ≡ Some b → Read_as (spell ls last) next
+  read_of_lines [] last [] are inner some true x e = read_alone last inner e
+  read_of_lines (l ∷ ls) last [] are inner some true x e = to_end l.text l.by ls last are.0 are.1 are.2 inner e
+  read_of_lines ls last [] are inner some false x e = let no : true ≡ false = x in cc
+  read_of_lines ls last (d ∷ n) are inner some true x e = let no : false ≡ true = sym (some_next d n some) ∙ x in cc
+  read_of_lines [] last (d ∷ n) are inner some false x e = cc
+  read_of_lines (l ∷ ls) [] (d ∷ n) are inner some false x e = read_to_text l.text l.by ls (d ∷ n) are.0 are.1 are.2 x e
+  read_of_lines (l ∷ ls) (c ∷ last) (d ∷ n) are inner some false x e = cc
+
+pub pieces_are_read : BlockPiecesAreRead
+pieces_are_read indent piece next p b some e =
+    let z = lined piece in
+    let cut : split piece ≡ record { complete = texts z.lines; last = z.last } = ap split z.is ∙ split_spell z.lines z.last z.are z.inner in
+    let lines : read_lines (collection_of indent) (texts z.lines) z.last next (is_at_end next) ≡ Some b = ap (λ s. read_split (collection_of indent) s next) (sym cut) ∙ e in
+    subst (λ x. Read_as indent p b x next) (sym z.is) (read_of_lines indent p b z.lines z.last next z.are z.inner some (is_at_end next) refl lines)
+
+-- ---- each scan ends as its text says
 
 -- ---- the column of a piece
 
@@ -28,16 +217,13 @@ part_column None indent ls ns e are inner further =
     let z = first_before (column_by None (collection_of indent) (texts (ls ++ ns) ++ e ∷ [])) ns e are inner further in
     let least = least_is (leading_spaces w) in
     let same = same_column None (collection_of (leading_spaces w)) ls ns e z.written (omega (arith, least)) in
-    let start = z.start in
-    elim (first_left (column_by None (collection_of indent) (texts (ls ++ ns) ++ e ∷ [])) w z) [ inl h ↦ omega (arith, least, same, h) | inr h ↦ omega (arith, least, same, h, start) ]
+    let left = first_left (column_by None (collection_of indent) (texts (ls ++ ns) ++ e ∷ [])) w z in
+    omega (arith, least, same, left)
 
 -- ---- the two ends
 
 pub style_same : (s t : BlockStyle) → indicator_of s ≡ indicator_of t → s ≡ t
-style_same defs.literal defs.literal e = refl
-style_same defs.literal defs.folded e = let no : true ≡ false = ap (λ n. n == 124) e in cc
-style_same defs.folded defs.literal e = let no : false ≡ true = ap (λ n. n == 124) e in cc
-style_same defs.folded defs.folded e = refl
+style_same s t e = grind arith
 
 module _ (style : BlockStyle) (indent : ℕ) (p : Position) where
   abbrev Ends : List ℕ → Type 0
@@ -75,13 +261,13 @@ module _ (style : BlockStyle) (indent : ℕ) (p : Position) where
     to_text : (own ns : List Line) (rs : List Row) → ls ≡ own ++ ns → rows_of column (texts own) ≡ Some rs → is_further_text column (spell ns last) ≡ true → list_all is_some (spell ns last) ≡ true → Ends (line ++ put k (spell ls last))
     to_text own ns rs split_at rows further some_next_text =
         let joined : spell ls last ≡ spell own (spell ns last) = ap (λ x. spell x last) split_at ∙ spell_append own ns last in
-        let are_own : AreLines own (spell ns last) = are_first own ns last (rw (← split_at) are) in
+        let parts = are_parts own ns last (rw (← split_at) are) in
         let column_is : column ≡ column_by h.digit (collection_of indent) (texts (own ++ ns) ++ last ∷ []) = ap (λ x. column_by h.digit (collection_of indent) (texts x ++ last ∷ [])) split_at in
-        let same : column ≡ column_by h.digit (collection_of indent) (texts own) = column_is ∙ part_column h.digit indent own ns last (are_second own ns last (rw (← split_at) are)) last_inner (rw (← column_is) further) in
+        let same : column ≡ column_by h.digit (collection_of indent) (texts own) = column_is ∙ part_column h.digit indent own ns last parts.1 last_inner (rw (← column_is) further) in
         let fits_own : Fits k (spell own []) = fits_before k own (spell ns last) [] (fits_alone k) (rw (← joined) fits) in
         let tab_free = tab_of own (spell ns last) (rw (← joined) tabless) in
         let not_end = further_not_end column (spell ns last) further some_next_text in
-        let lines = split_spell (record { text = indicator_of style ∷ line; by = k } ∷ own) [] (style_inner style line inner, fits_own, are_before own (spell ns last) [] fits_alone are_own) refl in
+        let lines = split_spell (record { text = indicator_of style ∷ line; by = k } ∷ own) [] (style_inner style line inner, fits_own, are_before own (spell ns last) [] fits_alone parts.0) refl in
         let rows_here : rows_of (column_by h.digit (collection_of indent) (texts own)) (texts own) ≡ Some rs = rw (← same) rows in
         let further_here : is_further_text (column_by h.digit (collection_of indent) (texts own)) (spell ns last) ≡ true = rw (← same) further in
         found (line ++ put k (spell ls last)) (indicator_of style ∷ (line ++ put k (spell own []))) (spell ns last) line (value_before_text h rs) h (column_by h.digit (collection_of indent) (texts own)) is

@@ -1,9 +1,7 @@
 -- The first lines give the content column.
-use Rattle.proof_lexers.proofs.Common.{[], all_lines, along, and_parts, ap, append-nil, arith, at_least, cases_Bool, collection_of, Column, column_by, deepest_start, digit_by, false, First, first_indent, FirstLinesGiveTheColumn, indent_from, inl, inr, is_break, is_in_line, is_spaces, leading_spaces, least_column, List, max, past, Position, Read, refl, Split, split, suc, sym, true, unbroken, zero, ℕ, ◌++◌, ◌+◌, ◌==◌, ◌∙◌, ◌∷◌, ◌≡◌, ◌≤◌, nat_tests}
+use Rattle.proof_lexers.proofs.Common.{[], all_lines, along, and_parts, ap, append-nil, arith, at_least, collection_of, Column, column_by, deepest_start, digit_by, false, First, first_indent, FirstLinesGiveTheColumn, indent_from, is_break, is_in_line, is_spaces, leading_spaces, least_column, List, max, past, Position, Read, refl, split, suc, sym, true, unbroken, zero, ℕ, ◌++◌, ◌+◌, ◌==◌, ◌∙◌, ◌∷◌, ◌≡◌, ◌≤◌, nat_tests, past_break}
 use Rattle.model_scanner.specs.BlockScalar.{content}
-use Rattle.proof_lexers.proofs.Blocks.InLine.{first_inner}
-use Rattle.proof_lexers.proofs.Blocks.Written.{Break, Line, put, spell, texts, Fits, AreLines, Lined, lined, split_spell}
-use Rattle.proof_lexers.proofs.Blocks.Margins.{after_break, after_line, at, col_along, empty_passes, last_passes}
+use Rattle.proof_lexers.proofs.Blocks.Margins.{after_break, after_line, AreLines, at, Break, col_along, first_inner, Fits, Line, Lined, lined, put, spell, split_spell, texts}
 use Rattle.proof_lexers.proofs.Blocks.Columns.{spaces_leading}
 
 -- within the spaces of a first line
@@ -21,52 +19,50 @@ first_break d a most p b fits = grind arith
 abbrev with_column : ℕ → Read Column → Read Column
 with_column n r = record { rest = r.rest; position = r.position; value = record { column = n; breaks = r.value.breaks } }
 
--- a line that isn't of spaces alone ends the search
-first_other : (column : ℕ) (w a : List ℕ) (most : ℕ) (p : Position) (b : List ℕ) → is_spaces w ≡ false → is_in_line w ≡ true → p.col + leading_spaces w ≤ column
-    → first_indent (w ++ a) (looking most p b) ≡ with_column (max most (p.col + leading_spaces w)) (indent_from column (w ++ a) (at p b))
-first_other column [] a most p b h inner le = cc
-first_other column (c ∷ w) a most p b h inner le = grind (arith, nat_tests, first_inner, first_other column w a most (past p) b)
+-- the column that is found is not less than one that was seen before
+first_least : (a : List ℕ) (s : First) → s.spaces ≤ s.position.col → max s.most s.spaces ≤ (first_indent a s).value.column
+first_least [] s le = omega arith
+first_least (c ∷ a) s le = grind (
+  arith,
+  first_least a (record s { position = past s.position }),
+  first_least a (record s { spaces = s.position.col + 1; position = past s.position }),
+  first_least a (record { most = max s.most s.spaces; spaces = 0; position = past_break s.position; breaks = s.breaks ++ 10 ∷ [] }),
+)
 
 -- The search passes what a search up to a column passes that is at least the one it finds.
-first_is_indent : (column : ℕ) (ls : List Line) (last : List ℕ) (most : ℕ) (p : Position) (b : List ℕ) → p.col ≡ 0 → AreLines ls last → is_in_line last ≡ true → max most (deepest_start (texts ls ++ last ∷ [])) ≤ column
-    → first_indent (spell ls last) (looking most p b) ≡ with_column (max most (deepest_start (texts ls ++ last ∷ []))) (indent_from column (spell ls last) (at p b))
-first_is_indent column [] last most p b col are inner le = elim (cases_Bool (is_spaces last)) [
-  | inl e ↦
-      let lead = spaces_leading last e in
-      let far = col_along last p in
-      let deep : deepest_start (last ∷ []) ≡ leading_spaces last = rw e (omega arith) in
-      let same : max most (along last p).col ≡ max most (deepest_start (last ∷ [])) = omega (arith, deep, lead, far, col) in
-      (ap (λ a. first_indent a (looking most p b)) (sym (append-nil last)) ∙ first_spaces last [] most p b e) ∙ ap (λ n. record { rest = []; position = along last p; value = record { column = n; breaks = b } }) same
-      ∙ ap (with_column (max most (deepest_start (last ∷ [])))) (sym (last_passes column last p b e (omega (arith, le, deep, lead, col))))
-  | inr e ↦
-      let deep : deepest_start (last ∷ []) ≡ leading_spaces last = rw e refl in
-      let same : max most (p.col + leading_spaces last) ≡ max most (deepest_start (last ∷ [])) = omega (arith, deep, col) in
-      let z = first_other column last [] most p b e inner (omega (arith, le, deep, col)) in
-      let y : first_indent last (looking most p b) ≡ with_column (max most (p.col + leading_spaces last)) (indent_from column last (at p b)) = rw append-nil at z in
-      y ∙ ap (λ n. with_column n (indent_from column last (at p b))) same
-]
-first_is_indent column (l ∷ ls) last most p b col are inner le = elim (cases_Bool (is_spaces l.text)) [
-  | inl e ↦
-      let lead = spaces_leading l.text e in
-      let far = col_along l.text p in
-      let deep : deepest_start (l.text ∷ (texts ls ++ last ∷ [])) ≡ max (leading_spaces l.text) D = rw e refl in
-      let same : max (max most (along l.text p).col) D ≡ N = omega (arith, deep, lead, far, col) in
-      first_spaces l.text (put l.by (spell ls last)) most p b e ∙ first_break l.by (spell ls last) most (along l.text p) b are.1
-      ∙ first_is_indent column ls last (max most (along l.text p).col) (after_line l p) (b ++ 10 ∷ []) refl are.2 inner (omega (arith, le, same))
-      ∙ ap (λ n. with_column n (indent_from column (spell ls last) (at (after_line l p) (b ++ 10 ∷ [])))) same
-      ∙ ap (with_column N) (sym (empty_passes column l (spell ls last) p b e (omega (arith, le, deep, lead, col)) are.1))
-  | inr e ↦
-      let deep : deepest_start (l.text ∷ (texts ls ++ last ∷ [])) ≡ leading_spaces l.text = rw e refl in
-      let same : max most (p.col + leading_spaces l.text) ≡ N = omega (arith, deep, col) in
-      first_other column l.text (put l.by (spell ls last)) most p b e are.0 (omega (arith, le, deep, col))
-      ∙ ap (λ n. with_column n (indent_from column (l.text ++ put l.by (spell ls last)) (at p b))) same
-]
-  where
-    N : ℕ
-    N = max most (deepest_start (l.text ∷ (texts ls ++ last ∷ [])))
+first_is_indent : (column : ℕ) (a : List ℕ) (s : First) → (first_indent a s).value.column ≤ column
+    → first_indent a s ≡ with_column (first_indent a s).value.column (indent_from column a (at s.position s.breaks))
+first_is_indent column [] s le = refl
+first_is_indent column (c ∷ a) s le = grind (
+  arith,
+  nat_tests,
+  first_least a (record s { spaces = s.position.col + 1; position = past s.position }),
+  first_is_indent column a (record s { position = past s.position }),
+  first_is_indent column a (record s { spaces = s.position.col + 1; position = past s.position }),
+  first_is_indent column a (record { most = max s.most s.spaces; spaces = 0; position = past_break s.position; breaks = s.breaks ++ 10 ∷ [] }),
+)
 
-    D : ℕ
-    D = deepest_start (texts ls ++ last ∷ [])
+-- a line that isn't of spaces alone ends the search
+first_other : (w a : List ℕ) (most : ℕ) (p : Position) (b : List ℕ) → is_spaces w ≡ false → is_in_line w ≡ true
+    → (first_indent (w ++ a) (looking most p b)).value.column ≡ max most (p.col + leading_spaces w)
+first_other [] a most p b h inner = cc
+first_other (c ∷ w) a most p b h inner = grind (arith, nat_tests, first_inner, first_other w a most (past p) b)
+
+-- The column that is found is that of the deepest line of spaces, or of the first other line.
+first_column_is : (ls : List Line) (last : List ℕ) (most : ℕ) (p : Position) (b : List ℕ) → p.col ≡ 0 → AreLines ls last
+    → is_in_line last ≡ true
+    → (first_indent (spell ls last) (looking most p b)).value.column ≡ max most (deepest_start (texts ls ++ last ∷ []))
+first_column_is [] last most p b col are inner =
+    grind (arith, append-nil, first_spaces last [] most p b, first_other last [] most p b, spaces_leading, col_along)
+first_column_is (l ∷ ls) last most p b col are inner = grind (
+  arith,
+  first_spaces l.text (put l.by (spell ls last)) most p b,
+  first_break l.by (spell ls last) most (along l.text p) b are.1,
+  first_other l.text (put l.by (spell ls last)) most p b,
+  spaces_leading l.text,
+  col_along l.text p,
+  first_column_is ls last (max most (along l.text p).col) (after_line l p) (b ++ 10 ∷ []) refl are.2 inner,
+)
 
 -- ---- with a digit and without one
 
@@ -85,9 +81,11 @@ content_is indent zero ls last p col are inner =
     let K = column_for indent 0 ls last in
     let least = least_is indent in
     let start : record { most = 0; spaces = 0; position = p; breaks = [] } ≡ looking 0 p [] = ap (λ k. record { most = 0; spaces = k; position = p; breaks = [] }) (sym col) in
+    let found = first_column_is ls last 0 p [] col are inner in
     let same : max (max 0 D) indent ≡ K = omega (arith, least) in
     ap (λ s. at_least indent (first_indent (spell ls last) s)) start
-    ∙ ap (at_least indent) (first_is_indent K ls last 0 p [] col are inner (omega (arith, same)))
+    ∙ ap (at_least indent) (first_is_indent K (spell ls last) (looking 0 p []) (omega (arith, found, same)))
+    ∙ ap (λ n. with_column (max n indent) (indent_from K (spell ls last) (at p []))) found
     ∙ ap (λ n. with_column n (indent_from K (spell ls last) (at p []))) same
 content_is indent (suc n) ls last p col are inner = ap (λ k. indent_from (k + suc n) (spell ls last) (at p [])) (sym (grind (arith, nat_tests)))
 
@@ -95,7 +93,4 @@ pub first_lines : FirstLinesGiveTheColumn
 first_lines indent increment text p col = of_lines (lined text)
   where
     of_lines : Lined text → (content indent increment text p).value.column ≡ column_by (digit_by increment) (collection_of indent) (all_lines (split text).complete (unbroken (split text).last))
-    of_lines z =
-        let cut : split text ≡ record { complete = texts z.lines; last = z.last } = ap split z.is ∙ split_spell z.lines z.last z.are z.inner in
-        ap (λ a. (content indent increment a p).value.column) z.is ∙ ap (λ (r : Read Column). r.value.column) (content_is indent increment z.lines z.last p col z.are z.inner)
-        ∙ ap (λ (s : Split). column_by (digit_by increment) (collection_of indent) (all_lines s.complete (unbroken s.last))) (sym cut)
+    of_lines z = grind (arith, nat_tests, split_spell, content_is, digit_by)

@@ -1,5 +1,5 @@
 -- Block scalars' headers are read as what they say.
-use Rattle.proof_lexers.proofs.Common.{[], after_digit, after_sign, after_style, along, and_then, ap, arith, At, begins_with, BlockStyle, Bool, cases_Bool, chomping, chomping_of, clip, comment, digit_of, ends_line, EndsAs, Err, false, folded, further, has_zero, header, header_break, header_end, header_of, HeadersEndAsTheirLineSays, if◌then◌else◌, increment, indicator_of, indicators, indicators_of, inl, inr, is_break, is_in_line, is_rest_of_line, is_sign, IsHeaderRead, IsHeaderRefusal, keep, late_chomping, length, linebreak, List, literal, nat_tests, no_header, None, Ok, Option, or-true, past, past_indicators, Position, Read, reads, refl, refuses, sign_of, slice_index, Some, space, strip, sym, tab, tabbed, true, whole_header, with_chomping, with_indicators, Yes, zero_digit, ℕ, ◌++◌, ◌-◌, ◌==◌, ◌∙◌, ◌∷◌, ◌≡◌, eqb-true}
+use Rattle.proof_lexers.proofs.Common.{[], after_digit, after_sign, after_style, along, and_then, ap, arith, At, begins_with, BlockStyle, Bool, cases_Bool, chomping, chomping_of, clip, comment, digit_of, ends_line, EndsAs, Err, false, folded, further, has_zero, header, header_break, header_end, header_of, HeadersEndAsTheirLineSays, if◌then◌else◌, increment, indicator_of, indicators, indicators_of, inl, inr, is_break, is_in_line, is_rest_of_line, is_sign, IsHeaderRead, IsHeaderRefusal, keep, late_chomping, length, linebreak, List, literal, nat_tests, no_header, None, Ok, Option, or-true, past, past_indicators, Position, Read, reads, refl, refuses, sign_of, slice_index, Some, space, strip, sym, tab, tabbed, true, whole_header, with_chomping, with_indicators, Yes, zero_digit, ℕ, ◌++◌, ◌-◌, ◌==◌, ◌∙◌, ◌∷◌, ◌≡◌, eqb-true, digit_by, digit_or_zero, Fault, Header, read_header}
 use Rattle.yaml_chars.specs.Class.{is_digit}
 use Rattle.yaml_tokens.specs.declared.problem.Problem.TheVariants as problem
 use Rattle.yaml_tokens.specs.declared.token.Chomping.TheVariants.{Clip}
@@ -9,7 +9,7 @@ use Rattle.proof_lexers.proofs.Bridges.{same_break}
 use Rattle.proof_lexers.proofs.Along.{along_append}
 use Rattle.proof_lexers.proofs.RestOfLine as rest_of_lines
 use Rattle.proof_lexers.proofs.RestOfLine.{along_further, in_line_is, Rest, glued, goes_on, rest_of_line}
-use Rattle.proof_lexers.proofs.Blocks.InLine.{first_inner}
+use Rattle.proof_lexers.proofs.Blocks.Margins.{after_break, Break, first_inner, Fits, put}
 
 -- what stands at a line's end is no indicator
 still : (c : ℕ) → is_break c ≡ true → ((c == 43) ≡ false) × ((c == 45) ≡ false) × (is_digit c ≡ false)
@@ -18,16 +18,13 @@ still c h = (grind (arith, nat_tests), grind (arith, nat_tests), grind (arith, n
 
 -- ---- after a header's line
 
-same_rest : (r : List ℕ) (p q : Position) → (linebreak r p).rest ≡ (linebreak r q).rest
-same_rest a p q = grind arith
-
 module _ (start : Position) (style : BlockStyle) (line r : List ℕ) (h : defs.Header) (is : header_of (indicator_of style ∷ line) ≡ Some h) (q : Position) (along_it : along line (past start) ≡ q) where
   at_line_end : ends_line r ≡ true → EndsAs (IsHeaderRead start style line r) (IsHeaderRefusal start style line r) (and_then (header_break start r q) (λ (b : Read Bool). Ok (with_indicators (indicators_of h) b)))
   unfolding header_break
   at_line_end e = of_text r e
     where
       next : (c : ℕ) (a : List ℕ) (t : Bool) → begins_with tab (linebreak (c ∷ a) start).rest ≡ t → (slice_index (linebreak (c ∷ a) q).rest 0 == 9) ≡ t
-      next c a t f = (grind arith) ∙ ap (begins_with tab) (same_rest (c ∷ a) q start) ∙ f
+      next c a t f = grind arith
 
       of_text : (a : List ℕ) → ends_line a ≡ true → EndsAs (IsHeaderRead start style line a) (IsHeaderRefusal start style line a) (and_then (header_break start a q) (λ (b : Read Bool). Ok (with_indicators (indicators_of h) b)))
       of_text [] e = reads _ (whole_header h is refl) (rw along_it refl)
@@ -111,14 +108,14 @@ module _ (start : Position) (style : BlockStyle) (r : List ℕ) (ends : ends_lin
   unfolding header
   zero_fails line none zero e = refuses _ (zero_digit none zero) (rw e refl)
 
-  said : (l : List ℕ) → header_of (indicator_of style ∷ l) ≡ after_style style l
-  said l = elim style as (λ s. header_of (indicator_of s ∷ l) ≡ after_style s l) [ literal ↦ refl | folded ↦ refl ]
+  style_said : (l : List ℕ) → header_of (indicator_of style ∷ l) ≡ after_style style l
+  style_said l = elim style as (λ s. header_of (indicator_of s ∷ l) ≡ after_style s l) [ literal ↦ refl | folded ↦ refl ]
 
   -- ---- a sign first
 
   module _ (c : ℕ) (ch : defs.Chomping) (sign : IsSign c ch) where
     sign_said : (l : List ℕ) → header_of (indicator_of style ∷ c ∷ l) ≡ after_sign style ch l
-    sign_said l = said (c ∷ l) ∙ rw (sign.said_so) refl
+    sign_said l = style_said (c ∷ l) ∙ rw (sign.said_so) refl
 
     with_digit : (l a : List ℕ) (n : ℕ) (p : Position) → increment start (l ++ r) (past (past start)) ≡ Ok (record { rest = a; position = p; value = n })
         → indicators start (c ∷ (l ++ r)) (past start) ≡ Ok (record { rest = a; position = p; value = record { chomping = chomping_of ch; increment = n } })
@@ -145,7 +142,7 @@ module _ (start : Position) (style : BlockStyle) (r : List ℕ) (ends : ends_lin
 
     digit_said : (l : List ℕ) → header_of (indicator_of style ∷ c ∷ l) ≡ after_digit style (c - 48) l
     unfolding sign_of digit_of
-    digit_said l = said (c ∷ l) ∙ rw (no_minus, no_plus, counts) refl
+    digit_said l = style_said (c ∷ l) ∙ rw (no_minus, no_plus, counts) refl
 
     with_sign : (l a : List ℕ) (ch : defs.Chomping) (p : Position) → chomping (l ++ r) (past (past start)) ≡ record { rest = a; position = p; value = chomping_of ch }
         → indicators start (c ∷ (l ++ r)) (past start) ≡ Ok (record { rest = a; position = p; value = record { chomping = chomping_of ch; increment = c - 48 } })
@@ -169,15 +166,51 @@ module _ (start : Position) (style : BlockStyle) (r : List ℕ) (ends : ends_lin
 
   of_line : (l : List ℕ) → is_in_line l ≡ true → Ends l
   unfolding indicators sign_of digit_of chomping increment is_digit classes.is_blank
-  of_line [] inner = finish [] [] [] (made clip None) refl refl (said []) (said []) (rw (end_chomping r (past start) ends, end_increment start r (past start) ends) (ap (λ x. Ok (with_chomping 0 x)) (end_chomping r (past start) ends))) (refl, refl)
+  of_line [] inner = finish [] [] [] (made clip None) refl refl (style_said []) (style_said []) (rw (end_chomping r (past start) ends, end_increment start r (past start) ends) (ap (λ x. Ok (with_chomping 0 x)) (end_chomping r (past start) ends))) (refl, refl)
   of_line (c ∷ l) inner = elim (sign_kind c) [
     | sign ch is ↦ sign_first c ch is l (first_inner c l inner).1
     | no_sign e f ↦ elim (digit_kind c) [
-      | is_zero g ↦ rw g (zero_fails (48 ∷ l) (said (48 ∷ l)) refl refl)
+      | is_zero g ↦ rw g (zero_fails (48 ∷ l) (style_said (48 ∷ l)) refl refl)
       | count g h k ↦ digit_first c e f g h k l (first_inner c l inner).1
-      | no_digit g z h ↦ finish (c ∷ l) [] (c ∷ l) (made clip None) refl inner (said (c ∷ l) ∙ rw (f, e, h) refl) (said []) (rw (e, f, g, e, f) refl) (rw (e, f, h) refl, rw (z, e, f) refl)
+      | no_digit g z h ↦ finish (c ∷ l) [] (c ∷ l) (made clip None) refl inner (style_said (c ∷ l) ∙ rw (f, e, h) refl) (style_said []) (rw (e, f, g, e, f) refl) (rw (e, f, h) refl, rw (z, e, f) refl)
     ]
   ]
 
 pub headers_end : HeadersEndAsTheirLineSays
 headers_end style line after p h e = of_line p style after e line h
+
+-- ---- what a header says of itself, and that the model reads it so
+
+-- A header has the style that it begins with, and no digit 0.
+pub record From (s : BlockStyle) (h : defs.Header) : Type 0 where
+  pub style_is : h.style ≡ s
+  pub digit_is : digit_by (digit_or_zero h.digit) ≡ h.digit
+
+-- the same of a header and its first character
+pub record Said (c : ℕ) (h : defs.Header) : Type 0 where
+  pub begins : c ≡ indicator_of h.style
+  pub digit_is : digit_by (digit_or_zero h.digit) ≡ h.digit
+
+pub said : (c : ℕ) (l : List ℕ) (h : defs.Header) → header_of (c ∷ l) ≡ Some h → Said c h
+unfolding digit_of sign_of
+said c l h e = grind (arith, eqb-true)
+
+-- ---- the model reads it
+
+module _ (h : defs.Header) (line after : List ℕ) (p : Position) (is : header_of (indicator_of h.style ∷ line) ≡ Some h) where
+  -- what is read of a header's line is the header
+  own : (r : Read Header) → IsHeaderRead p h.style line after r → (begins_with tab (linebreak after p).rest ≡ false) × (r ≡ read_header h after (along line (past p)))
+  own r (whole_header g f t) = let same : g ≡ h = (let x : Some g ≡ Some h = sym f ∙ is in cc) in (t, ap (λ k. read_header k after (along line (past p))) same)
+
+  -- it is refused for a TAB only
+  for_tab : (f : Fault) → IsHeaderRefusal p h.style line after f → (begins_with tab (linebreak after p).rest ≡ true) × (f ≡ At problem.BlockScalarTab p)
+  for_tab f a = grind (arith, is)
+
+  pub header_reads : is_in_line line ≡ true → ends_line after ≡ true → begins_with tab (linebreak after p).rest ≡ false → header p (line ++ after) (past p) ≡ Ok (read_header h after (along line (past p)))
+  header_reads inner ends still = elim (headers_end h.style line after p inner ends) [ reads r k e ↦ e ∙ ap Ok (own r k).1 | refuses f why e ↦ let no = (for_tab f why).0 in absurd (cc (no, still)) ]
+
+  pub header_tabs : is_in_line line ≡ true → ends_line after ≡ true → begins_with tab (linebreak after p).rest ≡ true → header p (line ++ after) (past p) ≡ Err (At problem.BlockScalarTab p)
+  header_tabs inner ends begins = elim (headers_end h.style line after p inner ends) [ reads r k e ↦ let no = (own r k).0 in absurd (cc (no, begins)) | refuses f why e ↦ e ∙ ap Err (for_tab f why).1 ]
+
+pub linebreak_put : (k : Break) (a : List ℕ) (q : Position) → Fits k a → linebreak (put k a) q ≡ record { rest = a; position = after_break k q; value = tt }
+linebreak_put b a q fits = grind arith

@@ -1,6 +1,6 @@
 -- What the model does before content: spaces and breaks.
-use Rattle.proof_lexers.proofs.Common.{[], along, and_parts, ap, append-nil, arith, BlockState, Bool, indent_from, is_break, is_spaces, length, Lines, lines_from, List, lt-ltb, Margin, margin, nat_lt, past, past_break, Position, refl, sym, true, ℕ, ◌++◌, ◌+◌, ◌==◌, ◌∙◌, ◌∷◌, ◌≡◌, ◌≤◌}
-use Rattle.proof_lexers.proofs.Blocks.Written.{Break, feed, carriage, both, Line, put, Fits}
+use Rattle.proof_lexers.proofs.Common.{[], along, ap, append-nil, arith, BlockState, Bool, indent_from, is_break, is_spaces, length, Lines, lines_from, List, Margin, margin, past, past_break, Position, refl, sym, true, ℕ, ◌++◌, ◌+◌, ◌∙◌, ◌∷◌, ◌≡◌, ◌≤◌, nat_tests}
+pub use Rattle.proof_lexers.proofs.Blocks.Written.{AreLines, both, Break, carriage, feed, first_inner, Fits, Line, lined, Lined, put, spell, split_spell, texts}
 
 -- the position after a break
 abbrev pub before_break : Break → Position → Position
@@ -42,10 +42,7 @@ margin_passes literal column (c ∷ a) p l b = grind (arith, margin_passes liter
 
 along_spaces : (column : ℕ) (w a : List ℕ) (p : Position) (b : List ℕ) → is_spaces w ≡ true → p.col + length w ≤ column → indent_from column (w ++ a) (at p b) ≡ indent_from column a (at (along w p) b)
 along_spaces column [] a p b h le = refl
-along_spaces column (c ∷ w) a p b h le =
-    let q = and_parts (c == 32) (is_spaces w) h in
-    let deep : nat_lt p.col column ≡ true = lt-ltb p.col column (omega (arith, le)) in
-    rw (q.0, deep) (along_spaces column w a (past p) b q.1 (omega (arith, le)))
+along_spaces column (c ∷ w) a p b h le = grind (arith, nat_tests, along_spaces column w a (past p) b)
 
 pub col_along : (w : List ℕ) (p : Position) → (along w p).col ≡ p.col + length w
 col_along [] p = omega arith

@@ -1,11 +1,9 @@
 -- The definitions' positions are the model's.
-use Rattle.proof_lexers.proofs.Common.{[], along, ap, append-nil, append_assoc, arith, false, first_content, is_break, is_in_line, is_spaces, length, List, None, not, past, past_break, Position, position_after, position_past, refl, sym, true, ℕ, ◌++◌, ◌+◌, ◌∙◌, ◌∷◌, ◌≡◌, ◌≤◌, Read, indent_from, Column, Option, if◌then◌else◌, is_empty, Some}
+use Rattle.proof_lexers.proofs.Common.{[], along, ap, append-nil, append_assoc, arith, false, first_content, is_break, is_in_line, is_spaces, length, List, None, past, past_break, Position, position_after, position_past, refl, sym, true, ℕ, ◌++◌, ◌+◌, ◌∙◌, ◌∷◌, ◌≡◌, ◌≤◌, Read, indent_from, Column, Option, if◌then◌else◌, is_empty, Some}
 use Rattle.defs_text.specs.Classes as classes
 use Rattle.defs_text.specs.Breaks as cut
 use Rattle.proof_lexers.proofs.Bridges.{same_break}
-use Rattle.proof_lexers.proofs.Blocks.InLine.{first_inner}
-use Rattle.proof_lexers.proofs.Blocks.Written.{Break, Line, put, spell, Fits, AreLines}
-use Rattle.proof_lexers.proofs.Blocks.Margins.{after_break, after_line, after_lines, empty_passes, at}
+use Rattle.proof_lexers.proofs.Blocks.Margins.{after_break, after_line, after_lines, AreLines, at, Break, empty_passes, first_inner, Fits, Line, put, spell}
 use Rattle.proof_lexers.proofs.Plain.Turns.{in_line_position, line_position, same_feed}
 
 -- after a character of a line
@@ -28,9 +26,7 @@ both_past p r = in_line_position 13 (10 ∷ r) p refl
 
 pub after_chars : (w y next : List ℕ) (p : Position) → is_in_line w ≡ true → position_after p (w ++ y) next ≡ position_after (along w p) y next
 after_chars [] y next p h = refl
-after_chars (c ∷ w) y next p h =
-    let q = first_inner c w h in
-    ap (λ x. position_after x (w ++ y) next) (past_is p c ((w ++ y) ++ next) q.0) ∙ after_chars w y next (past p) q.1
+after_chars (c ∷ w) y next p h = grind (arith, first_inner, past_is, after_chars w y next (past p))
 
 pub after_put : (k : Break) (y next : List ℕ) (p : Position) → Fits k (y ++ next) → position_after p (put k y) next ≡ position_after (after_break k p) y next
 unfolding classes.is_break
@@ -38,14 +34,11 @@ after_put a y next p fits = grind (arith, feed_past, line_position, both_past, p
 
 pub spell_more : (ls : List Line) (a b : List ℕ) → spell ls a ++ b ≡ spell ls (a ++ b)
 spell_more [] a b = refl
-spell_more (l ∷ ls) a b = append_assoc l.text (put l.by (spell ls a)) b ∙ ap (λ r. l.text ++ r) (put_more l.by (spell ls a) b ∙ ap (put l.by) (spell_more ls a b))
-  where
-    put_more : (k : Break) (x y : List ℕ) → put k x ++ y ≡ put k (x ++ y)
-    put_more a x y = grind arith
+spell_more (l ∷ ls) a b = grind (arith, append_assoc, spell_more ls a b)
 
 pub after_spell : (ls : List Line) (y next : List ℕ) (p : Position) → AreLines ls (y ++ next) → position_after p (spell ls y) next ≡ position_after (after_lines ls p) y next
 after_spell [] y next p are = refl
-after_spell (l ∷ ls) y next p are = grind (arith, spell_more, after_chars, after_put, after_spell ls y next (after_line l p) are.2)
+after_spell (l ∷ ls) y next p are = grind (arith, spell_more, after_chars, after_put, after_spell ls y next (after_line l p))
 
 -- ---- the position of the first content
 
@@ -65,10 +58,7 @@ first_empty column l y p h le fits = first_is column (l.text ++ put l.by y) p []
 
 header_chars : (column : ℕ) (w y : List ℕ) (p : Position) → is_in_line w ≡ true → first_content column true p (w ++ y) ≡ first_content column true (along w p) y
 header_chars column [] y p h = refl
-header_chars column (c ∷ w) y p h =
-    let q = first_inner c w h in
-    let ends : cut.ends_line c (w ++ y) ≡ false = rw (same_break c, q.0) refl in
-    ap (λ b. first_content column (not b) (position_past p c (w ++ y)) (w ++ y)) ends ∙ ap (λ x. first_content column true x (w ++ y)) (past_is p c (w ++ y) q.0) ∙ header_chars column w y (past p) q.1
+header_chars column (c ∷ w) y p h = grind (arith, first_inner, same_break, past_is, header_chars column w y (past p))
 
 pub first_header : (column : ℕ) (w : List ℕ) (k : Break) (y : List ℕ) (p : Position) → is_in_line w ≡ true → Fits k y → first_content column true p (w ++ put k y) ≡ first_content column false (after_break k (along w p)) y
 unfolding classes.is_break

@@ -1,12 +1,26 @@
 -- The lines of a block scalar are read row by row.
-use Rattle.proof_lexers.proofs.Common.{[], along, ap, append-nil, append_assoc, arith, at_marker, between, BlockState, Bool, cases_Bool, content_row, drop, empty_row, ends_line, eq-eqb, false, Fault, indent_from, inl, inr, is_blank, is_break, is_content_line, is_document_marker, is_empty_line, is_in_line, is_spaces, le-ltb, leading_spaces, leb-true, length, Lines, lines_from, List, lt-ltb, margin, nat_lt, nat_tests, None, not-true, Ok, Option, past, Position, put_row, Read, refl, Result, Row, row_of, rows_of, Some, suc, sym, true, zero, ℕ, ◌&&◌, ◌++◌, ◌+◌, ◌==◌, ◌∙◌, ◌∷◌, ◌≡◌, ◌≤◌}
+use Rattle.proof_lexers.proofs.Common.{[], along, ap, append-nil, append_assoc, arith, at_marker, between, BlockState, Bool, cases_Bool, content_row, drop, empty_row, ends_line, eq-eqb, false, Fault, indent_from, inl, inr, is_blank, is_break, is_content_line, is_document_marker, is_empty_line, is_in_line, is_spaces, le-ltb, leading_spaces, leb-true, length, Lines, lines_from, List, lt-ltb, margin, nat_lt, nat_tests, None, not-true, Ok, Option, past, Position, put_row, Read, refl, Result, Row, row_of, rows_of, Some, suc, sym, true, zero, ℕ, ◌&&◌, ◌++◌, ◌+◌, ◌==◌, ◌∙◌, ◌∷◌, ◌≡◌, ◌≤◌, or-true}
 use Rattle.defs_text.specs.Classes as classes
 use Rattle.model_scanner.specs.BlockScalar.{line, begins, begun, with_char}
-use Rattle.proof_lexers.proofs.Bridges.{and_false}
-use Rattle.proof_lexers.proofs.Blocks.InLine.{first_inner}
-use Rattle.proof_lexers.proofs.Blocks.Written.{Break, Line, put, spell, texts, Fits, AreLines}
-use Rattle.proof_lexers.proofs.Blocks.Margins.{after_break, after_line, after_lines, at, before, margin_passes, empty_passes, last_passes}
-use Rattle.proof_lexers.proofs.Blocks.Markers.{marker_in_line}
+use Rattle.proof_lexers.proofs.Bridges.{and_false, same_marker}
+pub use Rattle.proof_lexers.proofs.Blocks.Margins.{after_break, after_line, after_lines, AreLines, at, before, Break, col_along, empty_passes, first_inner, Fits, last_passes, Line, lined, lines_front, margin_passes, put, spell, split_spell, texts}
+
+-- ---- a document marker is seen alike in a line and in the text that begins with the line
+
+break_is_none : (c : ℕ) → classes.is_break c ≡ true → ((c == 45) ≡ false) × ((c == 46) ≡ false)
+unfolding classes.is_break
+break_is_none c h = (grind (arith, nat_tests), grind (arith, nat_tests))
+
+break_is_gap : (c : ℕ) → classes.is_break c ≡ true → classes.is_blank_or_end c ≡ true
+unfolding classes.is_blank_or_end
+break_is_gap c h = rw (h, or-true (classes.is_blank c)) refl
+
+pub line_marker : (w r : List ℕ) → ends_line r ≡ true → is_document_marker (w ++ r) ≡ is_document_marker w
+unfolding classes.are_marks
+line_marker a r h = grind (arith, break_is_none, and_false, break_is_gap)
+
+pub marker_in_line : (col : ℕ) (w r : List ℕ) → ends_line r ≡ true → at_marker col (w ++ r) ≡ ((col == 0) && is_document_marker w)
+marker_in_line col w r h = same_marker col (w ++ r) ∙ rw (line_marker w r h) refl
 
 -- ---- what is known after rows
 
@@ -71,9 +85,7 @@ module _ (literal : Bool) (column : ℕ) where
 
   chars : (w a : List ℕ) (p : Position) (l : Lines) → is_in_line w ≡ true → scan (w ++ a) (inside p l) ≡ scan a (inside (along w p) (record l { text = l.text ++ w }))
   chars [] a p l h = rw append-nil refl
-  chars (c ∷ w) a p l h =
-      let q = first_inner c w h in
-      rw (q.0) (chars w a (past p) (with_char c l) q.1 ∙ ap (λ t. scan a (inside (along w (past p)) (record l { text = t }))) (append_assoc l.text (c ∷ []) w))
+  chars (c ∷ w) a p l h = grind (arith, first_inner, append_assoc, chars w a (past p) (with_char c l))
 
   line_ends : (k : Break) (a : List ℕ) (p : Position) (l : Lines) → Fits k a → scan (put k a) (inside p l) ≡ scan a (front (after_break k p) (record l { broken = true }))
   unfolding is_break
@@ -99,8 +111,7 @@ module _ (literal : Bool) (column : ℕ) where
       rw (here, none k same is, at_column) refl
     where
       none : (k : ℕ) → k ≡ column → drop k w ≡ char ∷ rest → ((p.col == 0) && is_document_marker (char ∷ rest)) ≡ false
-      none zero same is = rw col (ap (λ (x : List ℕ). (column == 0) && is_document_marker x) (sym is) ∙ free)
-      none (suc n) same is = rw (col, ← same, suc_off n) refl
+      none k h e = grind (arith, suc_off)
 
   -- after a content line's characters
   abbrev pub written : Row → Lines → Lines

@@ -1,28 +1,20 @@
 -- The whole scan of a block scalar whose lines are known.
-use Rattle.proof_lexers.proofs.Common.{[], after_header, along, and_then, ap, append-nil, arith, At, begins_with, Block, block, block_position, BlockRead, Bool, breaks, cases_Bool, chomping_of, collection_of, Column, column_by, content_row, digit_by, digit_or_zero, drop, empty_row, empty_text, Err, false, Fault, first_content, further_position, has_content, Header, header, header_of, indent_from, indicator_of, indicators_of, inl, inr, is_at_end, is_in_line, is_literal_style, is_open, is_spaces, is_tabbed, IsRead, le-ltb, length, Lines, lines_from, List, max, nat_le, nat_lt, nat_tests, None, not, Ok, past, past_spaces, Position, position_after, position_or, Read, read_header, reads, refl, refuses, Result, Row, rows_of, Some, suc, sym, tab, tail, true, value_before_end, value_before_text, with_content, without_spaces, ℕ, ◌&&◌, ◌++◌, ◌+◌, ◌∙◌, ◌∷◌, ◌≡◌, ◌≤◌, Option}
+use Rattle.proof_lexers.proofs.Common.{[], after_header, along, and_then, ap, append-nil, arith, At, begins_with, Block, block, block_position, BlockRead, Bool, breaks, cases_Bool, chomping_of, collection_of, Column, column_by, content_row, digit_by, digit_or_zero, drop, empty_row, empty_text, Err, false, Fault, first_content, further_position, has_content, Header, header, header_of, indent_from, indicator_of, indicators_of, inl, inr, is_at_end, is_in_line, is_literal_style, is_open, is_spaces, is_tabbed, IsRead, le-ltb, length, Lines, lines_from, List, max, nat_le, nat_lt, nat_tests, None, Ok, past, past_spaces, Position, position_after, position_or, Read, read_header, reads, refl, refuses, Result, Row, rows_of, Some, suc, sym, tab, tail, true, value_before_end, value_before_text, with_content, without_spaces, ℕ, ◌&&◌, ◌++◌, ◌+◌, ◌∙◌, ◌∷◌, ◌≡◌, ◌≤◌, Option}
 use Rattle.yaml_tokens.specs.declared.problem.Problem.TheVariants as problem
 use Rattle.defs_text.specs.Classes as classes
 use Rattle.defs_text.specs.BlockScalar as defs
 use Rattle.model_scanner.specs.BlockScalar.{content}
 use Rattle.proof_lexers.proofs.Bridges.{and_false, both}
 use Rattle.proof_lexers.specs.BlockScan.{read, shallow, is_shallow}
-use Rattle.proof_lexers.proofs.Blocks.Written.{Break, Line, put, spell, texts, Fits, AreLines}
-use Rattle.proof_lexers.proofs.Blocks.Margins.{after_break, after_lines, at, before, margin_passes, last_passes, col_along, lines_front}
 use Rattle.proof_lexers.proofs.Blocks.First.{content_is}
 use Rattle.proof_lexers.proofs.Blocks.Positions.{spell_more, after_chars, after_put, after_spell, first_header, header_alone, stopped_at, first_is}
-use Rattle.proof_lexers.proofs.Blocks.Rows.{after_rows, front, written, rows_go, last_empty, last_content, break_ends, IsRow, no_content, is_content, starts}
-use Rattle.proof_lexers.proofs.Blocks.Further.{Outside, further_stops}
-use Rattle.proof_lexers.proofs.Blocks.Values.{after_empty, content_value, empty_value, end_value, last_value}
-use Rattle.proof_lexers.proofs.Blocks.HeaderFacts.{header_reads, header_tabs, linebreak_put}
-use Rattle.proof_lexers.proofs.Blocks.Walks.{found_in, all_empty, are_full}
-
-second_false : (a b c : Bool) → (((a && false) && b) && c) ≡ false
-second_false d b c = grind arith
+use Rattle.proof_lexers.proofs.Blocks.Rows.{after_break, after_lines, after_rows, AreLines, at, before, Break, break_ends, col_along, Fits, front, is_content, IsRow, last_content, last_empty, last_passes, Line, lines_front, margin_passes, no_content, put, rows_go, spell, starts, texts, written}
+use Rattle.proof_lexers.proofs.Blocks.Values.{Outside, further_stops, after_empty, content_value, empty_value, end_value, last_value, found_in, all_empty, are_full}
+use Rattle.proof_lexers.proofs.Blocks.Headers.{header_reads, header_tabs, linebreak_put}
 
 pub style_inner : (s : defs.BlockStyle) (line : List ℕ) → is_in_line line ≡ true → is_in_line (indicator_of s ∷ line) ≡ true
 unfolding classes.is_break
-style_inner defs.literal line h = h
-style_inner defs.folded line h = h
+style_inner s line h = grind arith
 
 module _ (h : defs.Header) (line : List ℕ) (k : Break) (indent : ℕ) (p : Position) (is : header_of (indicator_of h.style ∷ line) ≡ Some h) (digit : digit_by (digit_or_zero h.digit) ≡ h.digit) (inner : is_in_line line ≡ true) where
   -- the position after the header's break
@@ -136,7 +128,7 @@ module _ (h : defs.Header) (line : List ℕ) (k : Break) (indent : ℕ) (p : Pos
     pub before_further : Outside column next (after_lines ls start) → IsRead indent p before_text piece next (scanned (spell ls next))
     before_further z = elim (cases_Bool (has_content rs)) [
       | inl e ↦ let f = found_in column ls next start [] rs refl are rows e in let first : first_content column true p piece ≡ Some f.position = piece_first column (spell ls []) _ fits_alone (f.found [] are_alone) in
-          reads_it column before_text (spell ls next) piece next (f.rest next) f.char f.position _ f.breaks_before lines_read free (rw (first, second_false (not (is_at_end next))) refl)
+          reads_it column before_text (spell ls next) piece next (f.rest next) f.char f.position _ f.breaks_before lines_read free (rw first (grind arith))
           found_by (f.found next are) (in_position column f.position.col f.in_column) (read_to z) position_is (where_is first)
           (ap (λ b. lines_read.text ++ tail (chomping_of h.chomping) b lines_read) (closed z _) ∙ content_value h false rs (are_full column (texts ls) rs rows) e ∙ rw e refl)
       | inr e ↦ without_rows e z _ _ refl refl
@@ -164,9 +156,6 @@ module _ (h : defs.Header) (line : List ℕ) (k : Break) (indent : ℕ) (p : Pos
         let are' : AreLines ls (last ++ []) = rw append-nil are in
         after_chars (indicator_of h.style ∷ line) (put k (spell ls last)) [] p (style_inner h.style line inner) ∙ after_put k (spell ls last) [] (along line (past p)) more ∙ after_spell ls last [] start are'
         ∙ ap (λ x. position_after (after_lines ls start) x []) (sym (append-nil last)) ∙ after_chars last [] [] (after_lines ls start) last_inner in sym end_position
-
-    reaches : (n : ℕ) → (nat_le column n && nat_lt 0 n) ≡ nat_le (max column 1) n
-    reaches n = both _ _ (λ e. grind (arith, nat_tests)) (λ e. grind (arith, nat_tests))
 
     at_front : last_position.col ≡ 0
     at_front = lines_front ls start refl
@@ -208,7 +197,7 @@ module _ (h : defs.Header) (line : List ℕ) (k : Break) (indent : ℕ) (p : Pos
     before_the_end empty_row (no_content spaces le) = elim (cases_Bool (has_content rs)) [
       | inl e ↦ content_by empty_row rows_read (sees_before e)
           (rows_go (is_literal_style h.style) column ls last start (after_empty 0) rs refl are rows ∙ last_empty (is_literal_style h.style) column last last_position rows_read at_front spaces le)
-          (ap (λ b. rows_read.text ++ tail (chomping_of h.chomping) b rows_read) (reaches (along last last_position).col ∙ ap (nat_le (max column 1)) far)
+          (ap (λ b. rows_read.text ++ tail (chomping_of h.chomping) b rows_read) (ap (λ n. nat_le column n && nat_lt 0 n) far ∙ both _ _ (λ e. grind (arith, nat_tests)) (λ e. grind (arith, nat_tests)))
           ∙ content_value h (nat_le (max column 1) (length last)) rs (are_full column (texts ls) rs rows) e ∙ rw e refl)
       | inr e ↦ empty_none e spaces le
     ]
@@ -235,19 +224,14 @@ module _ (h : defs.Header) (line : List ℕ) (k : Break) (indent : ℕ) (p : Pos
 
 -- ---- a header at the end of the text
 
-no_lines : (indent increment : ℕ) (q : Position) → (content indent increment [] q).rest ≡ []
+no_lines : (indent increment : ℕ) (q : Position)
+    → ((content indent increment [] q).rest ≡ []) × ((content indent increment [] q).position ≡ q)
 unfolding content
-no_lines indent a q = grind (arith, nat_tests)
-
-same_end : (indent increment : ℕ) (q : Position) → (content indent increment [] q).position ≡ q
-unfolding content
-same_end indent a q = grind (arith, nat_tests)
+no_lines indent a q = (grind (arith, nat_tests), grind (arith, nat_tests))
 
 nothing_there : (ch : defs.Chomping) (b : List ℕ) → empty_text (chomping_of ch) false b ≡ []
 unfolding empty_text
-nothing_there defs.strip b = refl
-nothing_there defs.clip b = refl
-nothing_there defs.keep b = refl
+nothing_there ch b = grind arith
 
 pub header_alone_is_read : (h : defs.Header) (line : List ℕ) (indent : ℕ) (p : Position) → header_of (indicator_of h.style ∷ line) ≡ Some h → is_in_line line ≡ true
     → IsRead indent p (record { style = h.style; column = 0; text = [] }) (indicator_of h.style ∷ line) [] (block (is_literal_style h.style) indent (indicator_of h.style ∷ line) p)
@@ -257,7 +241,8 @@ header_alone_is_read h line indent p is inner =
     let i = digit_or_zero h.digit in
     let header_reads_it : header p line (past p) ≡ Ok (read_header h [] q) = ap (λ a. header p a (past p)) (sym (append-nil line)) ∙ header_reads h line [] p is inner refl refl in
     let ends : after_header (is_literal_style h.style) indent p (record { indicators = indicators_of h; broken = false }) (content indent i [] q) ≡ Ok (record { rest = []; position = q; value = record { position = p; text = [] } }) =
-    rw (no_lines indent i q, same_end indent i q, nothing_there h.chomping (content indent i [] q).value.breaks) refl in
+    let none = no_lines indent i q in
+    rw (none.0, none.1, nothing_there h.chomping (content indent i [] q).value.breaks) refl in
     let position : q ≡ further_position p (indicator_of h.style ∷ line) [] =
     sym (ap (λ x. position_after p x []) (sym (append-nil (indicator_of h.style ∷ line))) ∙ after_chars (indicator_of h.style ∷ line) [] [] p (style_inner h.style line inner)) in
     let where_is : block_position 0 p (indicator_of h.style ∷ line) [] ≡ p = ap (λ o. position_or o p) (header_alone 0 (indicator_of h.style ∷ line) p (style_inner h.style line inner)) in

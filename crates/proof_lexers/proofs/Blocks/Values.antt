@@ -1,9 +1,14 @@
--- What rows leave in the model's buffers is the text that the definitions give them.
-use Rattle.proof_lexers.proofs.Common.{[], ap, append-nil, append_assoc, arith, between, between_lines, BlockStyle, Bool, breaks, chomping_of, clip, content_row, empty_after, empty_row, empty_text, false, has_content, if◌then◌else◌, is_blank, is_literal_style, keep, length, Lines, List, nothing_before_end, nothing_before_text, refl, Row, starts_blank, strip, suc, sym, tail, text_after, text_of, true, with_content, zero, ℕ, ◌++◌, ◌+◌, ◌||◌, ◌∙◌, ◌∷◌, ◌≡◌}
+-- What rows leave in the model's buffers is the text that the definitions give them; where content is found after rows, and what ends them.
+use Rattle.proof_lexers.proofs.Common.{[], ap, append-nil, append_assoc, arith, between, between_lines, BlockStyle, Bool, breaks, chomping_of, clip, content_row, empty_after, empty_row, empty_text, false, has_content, if◌then◌else◌, is_blank, is_literal_style, keep, length, Lines, List, nothing_before_end, nothing_before_text, refl, Row, starts_blank, strip, suc, sym, tail, text_after, text_of, true, with_content, zero, ℕ, ◌++◌, ◌+◌, ◌||◌, ◌∙◌, ◌∷◌, ◌≡◌, drop, indent_from, is_further_text, is_in_line, is_some, list_all, None, Option, Position, row_of, rows_of, Some, ◌≤◌, and_parts, nat_tests, cases_Bool, eqb-true, inl, inr, is_break, is_document_marker, is_outside, lt-ltb, nat_lt, ne_eqb, not, not-true, Ok, past, past_spaces, without_spaces, ◌&&◌, ◌==◌}
 use Rattle.defs_text.specs.BlockScalar as defs
-use Rattle.proof_lexers.proofs.Bridges.{same_blank}
+use Rattle.proof_lexers.proofs.Bridges.{same_blank, same_break, same_marker}
 use Rattle.proof_lexers.proofs.Fold.{more_breaks}
-use Rattle.proof_lexers.proofs.Blocks.Rows.{after_row, after_rows}
+use Rattle.proof_lexers.proofs.Blocks.Rows.{after_line, after_lines, after_row, after_rows, AreLines, at, Break, break_ends, empty_passes, first_of, first_row, front, is_content, IsRow, Line, no_content, put, scan, spell, starts, texts, through}
+use Rattle.std.proofs.lemmas.List.Folds.{list_all-append}
+use Rattle.proof_lexers.proofs.Blocks.Columns.{none_further}
+use Rattle.defs_text.specs.Classes as classes
+use Rattle.model_scanner.specs.BlockScalar.{begins}
+use Rattle.proof_lexers.proofs.Blocks.Positions.{space_past}
 
 -- content is never empty
 abbrev pub AreFull : List Row → Type 0
@@ -39,8 +44,7 @@ module _ (s : BlockStyle) where
   text_goes : (rs : List Row) (t l : List ℕ) (n : ℕ) (b : Bool) → AreFull rs → b ≡ starts_blank l → Holds (rows_after rs (after_content t n b)) (t ++ text_after s l n rs) (empty_after n rs)
   unfolding between
   text_goes [] t l n b full e = record { text_is = sym (append-nil t); breaks_are = refl; is_broken = refl }
-  text_goes (empty_row ∷ rs) t l n b full e =
-      holds_on _ _ _ _ _ (ap (λ x. rows_after rs (record { text = t; breaks = x; broken = true; blank = b })) (more_breaks n)) refl (text_goes rs t l (suc n) b full e)
+  text_goes (empty_row ∷ rs) t l n b full e = grind (arith, more_breaks, text_goes rs t l (suc n) b full e)
   text_goes (content_row [] ∷ rs) t l n b full e = absurd full
   text_goes (content_row (c ∷ m) ∷ rs) t l n b full e =
       let gap = between_lines s n (starts_blank l || starts_blank (c ∷ m)) in
@@ -53,8 +57,7 @@ module _ (s : BlockStyle) where
   first_goes : (rs : List Row) (n k : ℕ) → AreFull rs → has_content rs ≡ true → Holds (rows_after rs (after_empty n)) (breaks n ++ text_of s rs) (empty_after k rs)
   unfolding between
   first_goes [] n k full h = cc
-  first_goes (empty_row ∷ rs) n k full h =
-      holds_on _ _ _ _ _ (ap (λ x. rows_after rs (record { text = []; breaks = x; broken = false; blank = false })) (more_breaks n)) (break_before n (text_of s rs)) (first_goes rs (suc n) (suc k) full h)
+  first_goes (empty_row ∷ rs) n k full h = grind (arith, more_breaks, break_before, first_goes rs (suc n) (suc k) full h)
   first_goes (content_row [] ∷ rs) n k full h = absurd full
   first_goes (content_row (c ∷ m) ∷ rs) n k full h =
       holds_on _ (rows_after rs (after_content (breaks n ++ c ∷ m) 0 (is_blank c))) ((breaks n ++ c ∷ m) ++ text_after s (c ∷ m) 0 rs) _ _
@@ -106,16 +109,10 @@ rows_more : (b : Bool) (rs : List Row) (r : Row) (l : Lines) → after_rows b (r
 rows_more b [] r l = refl
 rows_more b (q ∷ rs) r l = rows_more b rs r (after_row b q l)
 
-full_more : (rs : List Row) (c : ℕ) (m : List ℕ) → AreFull rs → AreFull (rs ++ content_row (c ∷ m) ∷ [])
-full_more [] c m full = tt
-full_more (empty_row ∷ rs) c m full = full_more rs c m full
-full_more (content_row [] ∷ rs) c m full = absurd full
-full_more (content_row (d ∷ n) ∷ rs) c m full = full_more rs c m full
-
-some_more : (rs : List Row) (m : List ℕ) → has_content (rs ++ content_row m ∷ []) ≡ true
-some_more [] m = refl
-some_more (empty_row ∷ rs) m = some_more rs m
-some_more (content_row n ∷ rs) m = refl
+more_rows : (rs : List Row) (c : ℕ) (m : List ℕ) → AreFull rs
+    → AreFull (rs ++ content_row (c ∷ m) ∷ []) × (has_content (rs ++ content_row (c ∷ m) ∷ []) ≡ true)
+more_rows [] c m full = (tt, refl)
+more_rows (r ∷ rs) c m full = grind (arith, more_rows rs c m)
 
 pub last_value : (h : defs.Header) (rs : List Row) (c : ℕ) (m : List ℕ) → AreFull rs
     → (after_row (is_literal_style h.style) (content_row (c ∷ m)) (after_rows (is_literal_style h.style) rs (after_empty 0))).text
@@ -125,8 +122,139 @@ unfolding tail
 last_value h rs c m full =
     let all = rs ++ content_row (c ∷ m) ∷ [] in
     let x = after_row (is_literal_style h.style) (content_row (c ∷ m)) (after_rows (is_literal_style h.style) rs (after_empty 0)) in
-    let z = first_goes h.style all 0 0 (full_more rs c m full) (some_more rs (c ∷ m)) in
+    let z = first_goes h.style all 0 0 (more_rows rs c m full).0 (more_rows rs c m full).1 in
     let more = rows_more (is_literal_style h.style) rs (content_row (c ∷ m)) (after_empty 0) in
     let text : x.text ≡ text_of h.style all = ap (λ (l : Lines). l.text) (sym more) ∙ z.text_is in
     let none : breaks (empty_after 0 all) ≡ [] = sym z.breaks_are ∙ ap (λ (l : Lines). l.breaks) more in
     ap (λ t. t ++ tail (chomping_of h.chomping) true (record x { broken = false })) text ∙ ap (λ t. text_of h.style all ++ t) (grind arith)
+
+-- ---- where content is found after rows, and how far rows go in a text
+
+-- ---- content is never empty
+
+drop_some : (n : ℕ) (w : List ℕ) (rs : List Row) → suc n ≤ length w → AreFull rs → AreFull (content_row (drop n w) ∷ rs)
+drop_some n [] rs long full = absurd (omega (arith, long))
+drop_some zero (c ∷ w) rs long full = full
+drop_some (suc n) (c ∷ w) rs long full = drop_some n w rs (omega (arith, long)) full
+
+row_full : (column : ℕ) (w : List ℕ) (r : Row) (rs : List Row) → IsRow column w r → AreFull rs → AreFull (r ∷ rs)
+row_full column w a rs b full = grind (arith, nat_tests, drop_some)
+
+pub are_full : (column : ℕ) (ws : List (List ℕ)) (rs : List Row) → rows_of column ws ≡ Some rs → AreFull rs
+are_full column [] rs h = let none : [] ≡ rs = cc in rw (← none) tt
+are_full column (w ∷ ws) rs h = elim (first_of column w ws rs h) [ first_row r more e is f ↦ rw e (row_full column w r more is (are_full column ws more f)) ]
+
+-- a line and its break have no NUL, nor has the text after them
+pub of_line : (l : Line) (a : List ℕ) → list_all is_some (l.text ++ put l.by a) ≡ true → (list_all is_some l.text ≡ true) × (list_all is_some a ≡ true)
+of_line l a h = let q = and_parts (list_all is_some l.text) (list_all is_some (put l.by a)) (sym (list_all-append is_some l.text (put l.by a)) ∙ h) in (q.0, after_put l.by q.1)
+  where
+    after_put : (k : Break) → list_all is_some (put k a) ≡ true → list_all is_some a ≡ true
+    after_put b h = grind arith
+
+-- ---- the first content
+
+module _ (column : ℕ) where
+  -- Content is found after rows, whatever stands after them.
+  pub record Found (ls : List Line) (p : Position) (b : List ℕ) : Type 0 where
+    pub char : ℕ
+    pub rest : List ℕ → List ℕ
+    pub position : Position
+    pub breaks_before : List ℕ
+    pub in_column : position.col ≡ column
+    pub found : (a : List ℕ) → AreLines ls a → indent_from column (spell ls a) (at p b) ≡ record { rest = char ∷ rest a; position = position; value = record { column = column; breaks = breaks_before } }
+
+  pub found_in : (ls : List Line) (a : List ℕ) (p : Position) (b : List ℕ) (rs : List Row) → p.col ≡ 0 → AreLines ls a → rows_of column (texts ls) ≡ Some rs → has_content rs ≡ true → Found ls p b
+  found_in [] a p b rs col are h some = let none : [] ≡ rs = cc in let no : false ≡ true = rw (← none) at some in cc
+  found_in (l ∷ ls) a p b rs col are h some = elim (first_of column l.text (texts ls) rs h) [
+    | first_row empty_row more e (no_content s le) f ↦
+        let z = found_in ls a (after_line l p) (b ++ 10 ∷ []) more refl are.2 f (ap has_content (sym e) ∙ some) in
+        record { char = z.char; rest = z.rest; position = z.position; breaks_before = z.breaks_before; in_column = z.in_column; found = λ a are. empty_passes column l (spell ls a) p b s (omega (arith, le, col)) are.1 ∙ z.found a are.2 }
+    | first_row (content_row m) more e (is_content lead long free) f ↦
+        let z = starts column column l.text p (omega (arith, col)) lead long are.0 in
+        record { char = z.char; rest = λ a. z.rest ++ put l.by (spell ls a); position = z.position; breaks_before = b; in_column = z.in_column; found = λ a are. z.found (put l.by (spell ls a)) b }
+  ]
+
+  -- ---- empty lines alone
+
+  pub all_empty : (ls : List Line) (a : List ℕ) (p : Position) (b : List ℕ) (rs : List Row) → p.col ≡ 0 → AreLines ls a → rows_of column (texts ls) ≡ Some rs → has_content rs ≡ false
+      → indent_from column (spell ls a) (at p b) ≡ indent_from column a (at (after_lines ls p) (b ++ breaks (length rs)))
+  all_empty [] a p b rs col are h none = grind (arith, append-nil)
+  all_empty (l ∷ ls) a p b rs col are h none = elim (first_of column l.text (texts ls) rs h) [
+    | first_row empty_row more e (no_content s le) f ↦
+        empty_passes column l (spell ls a) p b s (omega (arith, le, col)) are.1 ∙ all_empty ls a (after_line l p) (b ++ 10 ∷ []) more refl are.2 f (ap has_content (sym e) ∙ none)
+        ∙ ap (λ x. indent_from column a (at (after_lines ls (after_line l p)) x)) (append_assoc b (10 ∷ []) (breaks (length more)) ∙ ap (λ x. b ++ breaks (length x)) (sym e))
+    | first_row (content_row m) more e is f ↦ let no : true ≡ false = ap has_content (sym e) ∙ none in cc
+  ]
+
+  -- ---- how far rows go
+
+  -- Rows go up to further text, or to the text's end.
+  pub data Walked (ms : List Line) (e : List ℕ) : Type 0 where
+    stops : (ls ns : List Line) (rs : List Row) → ms ≡ ls ++ ns → rows_of column (texts ls) ≡ Some rs → is_further_text column (spell ns e) ≡ true → list_all is_some (spell ns e) ≡ true → Walked ms e
+    ends : (rs : List Row) (r : Row) → rows_of column (texts ms) ≡ Some rs → row_of column e ≡ Some r → Walked ms e
+
+  last_walked : (e : List ℕ) (o : Option Row) → row_of column e ≡ o → is_in_line e ≡ true → list_all is_some e ≡ true → Walked [] e
+  last_walked e None f inner some = stops [] [] [] refl refl (let z = none_further column e [] f inner some refl in rw append-nil at z) some
+  last_walked e (Some r) f inner some = ends [] r refl f
+
+  line_walked : (l : Line) (ms : List Line) (e : List ℕ) (o : Option Row) → row_of column l.text ≡ o → is_in_line l.text ≡ true → list_all is_some (spell (l ∷ ms) e) ≡ true → Walked ms e → Walked (l ∷ ms) e
+  line_walked l ms e None f inner some z = stops [] (l ∷ ms) [] refl refl (none_further column l.text (put l.by (spell ms e)) f inner (of_line l (spell ms e) some).0 (break_ends l.by (spell ms e))) some
+  line_walked l ms e (Some r) f inner some (stops ls ns rs cut rows further free) = stops (l ∷ ls) ns (r ∷ rs) (ap (λ x. l ∷ x) cut) (rw (f, rows) refl) further free
+  line_walked l ms e (Some r) f inner some (ends rs s rows last) = ends (r ∷ rs) s (rw (f, rows) refl) last
+
+  pub walked : (ms : List Line) (e : List ℕ) → AreLines ms e → is_in_line e ≡ true → list_all is_some (spell ms e) ≡ true → Walked ms e
+  walked [] e are inner some = last_walked e (row_of column e) refl inner some
+  walked (l ∷ ms) e are inner some = line_walked l ms e (row_of column l.text) refl are.0 some (walked ms e are.2 inner (of_line l (spell ms e) some).1)
+
+-- ---- further text ends a block scalar
+
+-- ---- text outside
+
+-- Where a scalar's lines end: after spaces, before a character that is none of its lines'.
+pub record Outside (column : ℕ) (next : List ℕ) (p : Position) : Type 0 where
+  pub char : ℕ
+  pub rest : List ℕ
+  pub position : Position
+  pub is : without_spaces next ≡ char ∷ rest
+  pub at_position : past_spaces p next ≡ position
+  pub solid : is_break char ≡ false
+  pub shallow : position.col ≤ column
+  pub margin : ((char == 32) && nat_lt position.col column) ≡ false
+  pub none : begins column position.col (char ∷ rest) ≡ false
+  pub found : (b : List ℕ) → indent_from column next (at p b) ≡ record { rest = char ∷ rest; position = position; value = record { column = column; breaks = b } }
+
+space_outside : (column c : ℕ) (r : List ℕ) (p : Position) → (c == 32) ≡ true → nat_lt p.col column ≡ true → Outside column r (past p) → Outside column (c ∷ r) p
+space_outside column c r p e deep z = grind (arith, eqb-true, space_past)
+
+here_outside : (column c : ℕ) (r : List ℕ) (p : Position) → (c == 32) ≡ false → is_break c ≡ false → p.col ≤ column → begins column p.col (c ∷ r) ≡ false → Outside column (c ∷ r) p
+here_outside column c r p e b le none = grind arith
+
+pub outside : (n column : ℕ) (r : List ℕ) (p : Position) → p.col + n ≡ column → is_outside n r ≡ true → Outside column r p
+unfolding begins
+outside zero column r p col h = cc
+outside (suc n) column [] p col h = cc
+outside (suc n) column (c ∷ r) p col h = elim (cases_Bool (c == 32)) [
+  | inl e ↦ space_outside column c r p e (lt-ltb p.col column (omega (arith, col))) (outside n column r (past p) (omega (arith, col)) (rw e at h))
+  | inr e ↦
+      let q = and_parts (not (classes.is_break c)) (not (classes.is_nul c)) (rw e at h) in
+      here_outside column c r p e (sym (same_break c) ∙ not-true _ q.0) (omega (arith, col)) (grind (arith, ne_eqb))
+]
+
+marked : (r : List ℕ) (p : Position) → p.col ≡ 0 → is_document_marker r ≡ true → Outside 0 r p
+unfolding begins classes.are_marks is_break
+marked a p col h = grind (arith, same_marker, begins, here_outside)
+
+pub further_outside : (column : ℕ) (r : List ℕ) (p : Position) → p.col ≡ 0 → is_further_text column r ≡ true → Outside column r p
+further_outside zero r p col h = marked r p col h
+further_outside (suc n) r p col h = outside (suc n) (suc n) r p (omega (arith, col)) h
+
+pub further_stops : (literal : Bool) (column : ℕ) (r : List ℕ) (p : Position) (x : Lines) → Outside column r p → scan literal column r (front p x) ≡ Ok (record { rest = without_spaces r; position = past_spaces p r; value = x })
+further_stops literal column r p x z =
+    let stops : indent_from column (z.char ∷ z.rest) (at z.position x.breaks) ≡ record { rest = z.char ∷ z.rest; position = z.position; value = record { column = column; breaks = x.breaks } } = rw (z.margin, z.solid) refl in
+    through literal column r (z.char ∷ z.rest) p z.position x x.breaks (z.found x.breaks ∙ sym stops)
+    ∙ stop z.char z.rest z.position z.margin z.solid z.none
+    ∙ ap (λ a. Ok (record { rest = a; position = z.position; value = x })) (sym z.is)
+    ∙ ap (λ q. Ok (record { rest = without_spaces r; position = q; value = x })) (sym z.at_position)
+  where
+    stop : (c : ℕ) (a : List ℕ) (q : Position) → ((c == 32) && nat_lt q.col column) ≡ false → is_break c ≡ false → begins column q.col (c ∷ a) ≡ false → scan literal column (c ∷ a) (front q x) ≡ Ok (record { rest = c ∷ a; position = q; value = x })
+    stop c a q m b n = rw (m, b, n) refl

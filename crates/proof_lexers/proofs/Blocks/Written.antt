@@ -1,8 +1,11 @@
 -- Each text is lines, each with its break as written, and a last line without one.
-use Rattle.proof_lexers.proofs.Common.{[], and-false, and_parts, ap, cases_Bool, eqb-true, false, inl, inr, is_break, is_in_line, List, or_cases, refl, slice_index, Split, split, true, with_empty_line, ℕ, ◌&&◌, ◌++◌, ◌==◌, ◌∙◌, ◌∷◌, ◌≡◌}
+use Rattle.proof_lexers.proofs.Common.{[], and-false, and_parts, ap, cases_Bool, eqb-true, false, inl, inr, is_break, is_in_line, List, or_cases, refl, slice_index, Split, split, true, with_empty_line, ℕ, ◌&&◌, ◌++◌, ◌==◌, ◌∙◌, ◌∷◌, ◌≡◌, arith, nat_tests, not, not-true}
 use Rattle.defs_text.specs.Classes as classes
 use Rattle.proof_lexers.proofs.Bridges.{same_break}
-use Rattle.proof_lexers.proofs.Blocks.InLine.{first_inner}
+
+-- the first character of a line, and the others
+pub first_inner : (c : ℕ) (w : List ℕ) → is_in_line (c ∷ w) ≡ true → (is_break c ≡ false) × (is_in_line w ≡ true)
+first_inner c w h = let q = and_parts (not (classes.is_break c)) (is_in_line w) h in (rw (← same_break c) (not-true _ q.0), q.1)
 
 -- a break as written: LF, CR, or CR LF
 pub data Break : Type 0 where
@@ -73,14 +76,7 @@ pub lined : (a : List ℕ) → Lined a
 lined [] = record { lines = []; last = []; is = refl; are = tt; inner = refl }
 lined (c ∷ []) = let z = lined [] in elim (cases_Bool (is_break c)) [ inl e ↦ lone_break c [] z e (and-false (c == 13)) | inr e ↦ char_line c [] z z.lines z.is z.are e ]
 lined (c ∷ d ∷ a) =
-    let z = lined (d ∷ a) in
-    elim (cases_Bool (is_break c)) [
-      | inr e ↦ char_line c (d ∷ a) z z.lines z.is z.are e
-      | inl e ↦ elim (cases_Bool ((c == 13) && (d == 10))) [
-        | inl g ↦ let q = and_parts (c == 13) (d == 10) g in rw (eqb-true c 13 q.0, eqb-true d 10 q.1) (two_breaks a (lined a))
-        | inr g ↦ lone_break c (d ∷ a) z e g
-      ]
-    ]
+    grind (arith, nat_tests, cases_Bool, char_line, and_parts, eqb-true, two_breaks, lone_break, lined (d ∷ a), lined a)
 
 -- ---- the lines of the text are these
 
@@ -89,23 +85,15 @@ of_lines ls w = record { complete = ls; last = w }
 
 split_last : (w : List ℕ) → is_in_line w ≡ true → split w ≡ of_lines [] w
 split_last [] h = refl
-split_last (c ∷ w) h = let q = first_inner c w h in rw (same_break c, q.0, split_last w q.1) refl
+split_last (c ∷ w) h = grind (arith, first_inner, same_break, split_last w)
 
 split_line : (w a : List ℕ) (ls : List (List ℕ)) (r : List ℕ) → is_in_line w ≡ true → split a ≡ of_lines ([] ∷ ls) r → split (w ++ a) ≡ of_lines (w ∷ ls) r
 split_line [] a ls r h e = e
-split_line (c ∷ w) a ls r h e = let q = first_inner c w h in rw (same_break c, q.0, split_line w a ls r q.1 e) refl
-
-split_feed : (a : List ℕ) → split (10 ∷ a) ≡ with_empty_line (split a)
-unfolding classes.is_break
-split_feed [] = refl
-split_feed (c ∷ a) = refl
+split_line (c ∷ w) a ls r h e = grind (arith, first_inner, same_break, split_line w a ls r)
 
 split_break : (b : Break) (a : List ℕ) → Fits b a → split (put b a) ≡ with_empty_line (split a)
 unfolding classes.is_break
-split_break feed a fits = split_feed a
-split_break carriage [] fits = refl
-split_break carriage (c ∷ a) fits = rw fits refl
-split_break both a fits = split_feed a
+split_break b a h = grind (arith)
 
 pub split_spell : (ls : List Line) (r : List ℕ) → AreLines ls r → is_in_line r ≡ true → split (spell ls r) ≡ of_lines (texts ls) r
 split_spell [] r are h = split_last r h

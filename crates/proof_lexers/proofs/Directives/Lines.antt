@@ -1,5 +1,5 @@
 -- Directives are read as their lines say, and no other text is.
-use Rattle.proof_lexers.proofs.Common.{[], after, after_declaration, after_major, after_value, after_version, and_parts, and_then, ap, append-nil, append_assoc, arith, At, begins_prefix, begins_with, blanks, Bool, by_comment, by_declaration, by_name, by_octets, by_version, cases_Bool, codes, declaration_by, decoded, Directive, directive, directive_of, DirectivesAreRead, DirectivesEndAsTheirTextSays, eqb-true, Err, false, Fault, first_break, further, handle_and_rest, has_no_break, if◌then◌else◌, inl, inr, is_alpha, is_alphanumeric, is_at_gap, is_blank, is_flow, is_handle, is_rest_of_line, is_same, is_tag, is_uri, is_uri_mark, IsDirectiveRefusal, IsNoDeclaration, IsNoVersion, kind, leading, length, length-append, List, long_major, long_minor, name, next_line, no_major, no_minor, no_name, no_point, no_prefix, None, not, not-false, not-true, number, number_of, Ok, open_name, Option, past, Position, position_after, prefix, prefix_after, Problem, problem_of, Read, reads, refl, refuses, reserved, Result, skip_while, slice_index, Some, suc, sym, tag, tag_declaration, tag_value, token_of, true, unknown, UriFault, value, version, version_of, version_value, with_minor, with_prefix, ℕ, ◌++◌, ◌+◌, ◌==◌, ◌||◌, ◌∙◌, ◌∷◌, ◌≡◌, nat_tests}
+use Rattle.proof_lexers.proofs.Common.{[], after, after_declaration, after_major, after_value, after_version, and_then, ap, append-nil, append_assoc, arith, At, begins_prefix, begins_with, blanks, by_comment, by_declaration, by_name, by_octets, by_version, cases_Bool, codes, declaration_by, decoded, Directive, directive, directive_of, DirectivesAreRead, DirectivesEndAsTheirTextSays, eqb-true, Err, false, Fault, first_break, further, handle_and_rest, has_no_break, if◌then◌else◌, inl, inr, is_alpha, is_alphanumeric, is_at_gap, is_blank, is_flow, is_handle, is_rest_of_line, is_same, is_tag, is_uri, is_uri_mark, IsDirectiveRefusal, IsNoDeclaration, IsNoVersion, kind, leading, length, length-append, List, long_major, long_minor, name, next_line, no_major, no_minor, no_name, no_point, no_prefix, None, not-false, not-true, number, number_of, Ok, open_name, past, Position, prefix, prefix_after, Problem, problem_of, Read, reads, refl, refuses, reserved, Result, skip_while, slice_index, Some, suc, sym, tag, tag_declaration, tag_value, token_of, true, unknown, UriFault, value, version, version_of, version_value, with_minor, with_prefix, ℕ, ◌++◌, ◌+◌, ◌==◌, ◌||◌, ◌∙◌, ◌∷◌, ◌≡◌, nat_tests}
 use Rattle.defs_token.specs.Token.{Tok}
 use Rattle.yaml_tokens.specs.declared.problem.Problem.TheVariants as problem
 use Rattle.defs_text.specs.Classes as classes
@@ -9,30 +9,15 @@ use Rattle.proof_lexers.proofs.Bridges.{same_blank, same_alpha, same_tag}
 use Rattle.proof_lexers.specs.DirectiveEnds.{ends_line, after_line, no_mark, goes_on, whole_directive, no_directive}
 use Rattle.proof_lexers.proofs.Separation.Positions.{position_append, position_in_line}
 use Rattle.proof_lexers.proofs.Properties.Uris.{uris_are_read}
-use Rattle.proof_lexers.proofs.RestOfLine.{line_skipped}
-use Rattle.proof_lexers.proofs.Directives.Parts.{none_at_end, no_break_after, ended, comment, text, line_ends, spells_name, kind_is, gap_is}
-use Rattle.proof_lexers.proofs.Directives.Values.{NumberSees, missing, long, found, number_sees, not_at_end, HandleSees, handle_sees}
+use Rattle.proof_lexers.proofs.RestOfLine.{first_line, in_line, line_skipped}
+use Rattle.proof_lexers.proofs.Directives.Values.{none_at_end, no_break_after, ended, comment, text, line_ends, spells_name, kind_is, gap_is, missing, long, found, number_sees, not_at_end, handle_sees}
 use Rattle.proof_lexers.proofs.Directives.Values as values
 use Rattle.proof_lexers.proofs.Classes.{same_place, before_end, skipped, span_cut}
 
 pub same_text : (a b : List ℕ) → is_same a b ≡ true → a ≡ b
-same_text [] [] h = refl
-same_text [] (d ∷ b) h = cc
+same_text [] b h = grind arith
 same_text (c ∷ a) [] h = cc
-same_text (c ∷ a) (d ∷ b) h =
-    let q = and_parts (c == d) (is_same a b) h in
-    let first : c ≡ d = eqb-true c d q.0 in
-    rw first (ap (λ r. d ∷ r) (same_text a b q.1))
-
-none_by : (b : Bool) → ◌≡◌ {A = Option Directive} (if b then None else None) None
-none_by a = grind arith
-
-four_texts : (a b c d r : List ℕ) → a ++ (b ++ (c ++ (46 ∷ (d ++ r)))) ≡ (a ++ (b ++ (c ++ 46 ∷ d))) ++ r
-four_texts a b c d r = sym (append_assoc a (b ++ (c ++ 46 ∷ d)) r ∙ ap (λ k. a ++ k) (append_assoc b (c ++ 46 ∷ d) r ∙ ap (λ k. b ++ k) (append_assoc c (46 ∷ d) r)))
-
-no_hash : classes.is_blank_or_end 35 ≡ true → ⊥
-unfolding classes.is_blank_or_end classes.is_blank classes.is_break classes.is_nul
-no_hash h = cc
+same_text (c ∷ a) (d ∷ b) h = grind (arith, eqb-true, same_text a b)
 
 no_tag_at_end : (n : List ℕ) → ends_line n ≡ true → is_tag (slice_index n 0) ≡ false
 unfolding is_tag is_uri is_alphanumeric is_uri_mark is_flow classes.is_tag classes.is_uri classes.is_decimal_digit classes.is_letter classes.is_flow
@@ -47,20 +32,12 @@ data Told (start : Position) (l n : List ℕ) (x : Result (Read Tok) Fault) : Ty
 module _ (start : Position) (l n : List ℕ) (line : has_no_break l ≡ true) (ends : ends_line n ≡ true) where
   -- ---- the line's end
 
-  last_position : (before m : List ℕ) (p : Position) → l ≡ before ++ m → p ≡ further (suc (length before)) start
-      → position_after (further (length m) p) (first_break n) (next_line n) ≡ position_after start ((37 ∷ l) ++ first_break n) (next_line n)
-  unfolding classes.is_break
-  last_position before m p cut position =
-      let so_long : length l ≡ length before + length m = ap length cut ∙ length-append before m in
-      let here : further (length m) p ≡ position_after start (37 ∷ l) (first_break n ++ next_line n) =
-      ap (further (length m)) position ∙ same_place start (suc (length l)) (omega (arith, so_long)) (omega (arith, so_long)) ∙ position_in_line start (37 ∷ l) (first_break n ++ next_line n) line in
-      ap (λ q. position_after q (first_break n) (next_line n)) here ∙ sym (position_append start (37 ∷ l) (first_break n) (next_line n))
-
   finish : (before m : List ℕ) (d : Directive) (p : Position) → l ≡ before ++ m → p ≡ further (suc (length before)) start → directive_of (37 ∷ l) ≡ (if is_rest_of_line m then Some d else None)
       → ((k : List ℕ) → m ≡ 35 ∷ k → IsDirectiveRefusal start l (At problem.CommentNotSeparated (further (suc (length before)) start)))
       → (is_rest_of_line m ≡ false → begins_with 35 m ≡ false → IsDirectiveRefusal start l (At problem.DirectiveEnd start)) → Told start l n (after_value start (record { rest = m ++ n; position = p; value = token_of d }))
+  unfolding classes.is_break
   finish before m d p cut position says by_hash by_other = elim (line_ends start p m n (no_break_after before m (ap has_no_break (sym cut) ∙ line)) ends) [
-    | ended is e ↦ rw e (is_directive d (says ∙ rw is refl) (ap (λ q. Ok (record { rest = next_line n; position = q; value = token_of d })) (last_position before m p cut position)))
+    | ended is e ↦ rw e (is_directive d (says ∙ rw is refl) (ap (λ q. Ok (record { rest = next_line n; position = q; value = token_of d })) (grind (arith, nat_tests, length-append, further, first_break, same_place, position_in_line, position_append))))
     | comment begins none e ↦ rw (e, position) (fails _ (says ∙ rw none refl) (glued m refl begins) refl)
     | text none begins e ↦ rw e (fails (At problem.DirectiveEnd start) (says ∙ rw none refl) (by_other none begins) refl)
   ]
@@ -121,7 +98,7 @@ module _ (start : Position) (l n : List ℕ) (line : has_no_break l ≡ true) (e
         tail = span_cut classes.is_decimal_digit said ∙ ap (λ r. major ++ r) (point ∙ ap (λ r. 46 ∷ r) (span_cut classes.is_decimal_digit s ∙ ap (λ r. r ++ rest) lead))
 
         cut : l ≡ before ++ rest
-        cut = from_word ∙ ap (λ r. leading classes.is_alpha l ++ (leading classes.is_blank after_word ++ r)) tail ∙ four_texts (leading classes.is_alpha l) (leading classes.is_blank after_word) major minor rest
+        cut = grind (arith, from_word, tail, append_assoc)
 
         position : further (length minor) (past (further (length major) said_position)) ≡ further (suc (length before)) start
         position = grind (arith, length-append, same_place)
@@ -135,7 +112,7 @@ module _ (start : Position) (l n : List ℕ) (line : has_no_break l ≡ true) (e
     ]
       where
         no_version : number_of (leading classes.is_decimal_digit s) ≡ None → version_of said ≡ None
-        no_version without = rw (point, is, without) (none_by (is_rest_of_line (after classes.is_decimal_digit s)))
+        no_version without = rw (point, is, without) (grind arith)
 
     point_read : (r : List ℕ) (v : ℕ) → after classes.is_decimal_digit said ≡ r → number_of major ≡ Some v
         → Told start l n (and_then (after_major start (record { rest = r ++ n; position = further (length major) said_position; value = v })) (λ t. after_value start t))
@@ -150,15 +127,15 @@ module _ (start : Position) (l n : List ℕ) (line : has_no_break l ≡ true) (e
     versions : Told start l n (and_then (value start version (after_word ++ n) word_position) (λ t. after_value start t))
     unfolding version_value
     versions = rw (blanks_skipped after_word word_position) (elim (number_sees start said_position said n ends) [
-      | missing none without e ↦ rw e (version_refused problem.VersionNumber _ (rw without (grind (arith, none_by, after))) (no_major none) refl)
-      | long much without e ↦ rw e (version_refused problem.VersionTooLong _ (rw without (grind (arith, none_by, after))) (long_major much) refl)
+      | missing none without e ↦ rw e (version_refused problem.VersionNumber _ (rw without (grind (arith, after))) (no_major none) refl)
+      | long much without e ↦ rw e (version_refused problem.VersionTooLong _ (rw without (grind (arith, after))) (long_major much) refl)
       | found v is e ↦ rw e (point_read (after classes.is_decimal_digit said) v refl is)
     ])
 
   -- ---- declarations
 
   begins_with_prefix : (g : List ℕ) → ((slice_index (g ++ n) 0 == 33) || is_tag (slice_index (g ++ n) 0)) ≡ begins_prefix g
-  begins_with_prefix a = grind (arith, same_tag, not_at_end, ends, no_tag_at_end)
+  begins_with_prefix g = grind (arith, same_tag, not_at_end, ends, no_tag_at_end)
 
   module _ (word : leading classes.is_alpha l ≡ codes "TAG") (gap : is_at_gap after_word ≡ true) where
     abbrev handle_is : List ℕ
@@ -197,10 +174,10 @@ module _ (start : Position) (l n : List ℕ) (line : has_no_break l ≡ true) (e
 
       declaration_end : (cs : List ℕ) → begins_prefix from_prefix ≡ true → decoded prefix_text ≡ Ok cs → is_at_gap after_prefix ≡ true
           → Told start l n (after_value start (record { rest = after_prefix ++ n; position = further (length prefix_text) prefix_position; value = Tok.tag_directive handle_is cs }))
-      unfolding directive_of
+      unfolding directive_of classes.is_blank_or_end classes.is_blank classes.is_break classes.is_nul
       declaration_end cs begins means apart =
           finish before after_prefix (tag_declaration handle_is cs) _ cut position ((rw (word, gap) refl) ∙ declares cs begins means)
-          (λ k e. absurd (no_hash (sym (ap is_at_gap e) ∙ apart)))
+          (λ k e. absurd (cc (sym (ap is_at_gap e) ∙ apart)))
           (λ none begins_no. after_declaration after_prefix (record { prefix = cs; is_declaration = record { is_name = word; is_whole = gap }; has_handle = is; has_prefix = begins; is_prefix = means; is_before = refl; is_apart = apart }) none)
         where
           before : List ℕ
@@ -289,14 +266,6 @@ module _ (start : Position) (l n : List ℕ) (line : has_no_break l ≡ true) (e
 told : (start : Position) (l n : List ℕ) → has_no_break l ≡ true → ends_line n ≡ true → Told start l n (directive (37 ∷ (l ++ n)) start)
 told start l n line ends = by_word start l n line ends (leading classes.is_alpha l) refl
 
-in_line : ℕ → Bool
-in_line c = not (classes.is_break c)
-
-first_line : (a : List ℕ) → (has_no_break (leading in_line a) ≡ true) × (ends_line (after in_line a) ≡ true)
-unfolding in_line
-first_line [] = (refl, refl)
-first_line (c ∷ a) = let q = first_line a in elim (cases_Bool (classes.is_break c)) [ inl e ↦ (rw e refl, rw (e, e) refl) | inr e ↦ (rw (e, e) q.0, rw e q.1) ]
-
 pub directives_end : DirectivesEndAsTheirTextSays
 directives_end a start =
     let z = first_line a in
@@ -307,10 +276,4 @@ directives_end a start =
     ]
 
 pub directives_are_read : DirectivesAreRead
-directives_are_read line next d p no_break ends is = elim (told p line next no_break ends) [
-  | fails f none why e ↦ let no : Some d ≡ None = sym is ∙ none in cc
-  | is_directive k says e ↦
-      let one : Some k ≡ Some d = sym says ∙ is in
-      let same : k ≡ d = cc in
-      e ∙ ap (λ z. Ok (after_line p (37 ∷ line) next (token_of z))) same
-]
+directives_are_read line next d p no_break ends is = grind (arith, told p line next no_break ends)

@@ -1,5 +1,5 @@
 -- What a plain scalar's scan finds from a position in it on, and what one character before that adds.
-use Rattle.proof_lexers.proofs.Common.{[], and_parts, ap, append_assoc, arith, At, begins_flow, begins_token, begins_white, Bool, collection_of, Context, ends_plain, ends_with_content, Err, false, Fault, Folded, goes_on, has_break, if◌then◌else◌, is_apart, is_before_line_feed, is_blanks, is_gap, is_white, joined, List, nat_lt, not, Ok, on_line, Option, or-false, or-true, Plain, Position, position_after, position_past, Read, refl, Result, Stand, stand_after, stops, subst, sym, true, with_blank, with_break, with_char, ℕ, ◌&&◌, ◌++◌, ◌||◌, ◌∙◌, ◌∷◌, ◌≡◌}
+use Rattle.proof_lexers.proofs.Common.{[], and_parts, ap, append_assoc, arith, At, begins_flow, begins_token, begins_white, Bool, collection_of, Context, ends_plain, ends_with_content, Err, false, Fault, Folded, goes_on, has_break, if◌then◌else◌, is_apart, is_before_line_feed, is_blanks, is_gap, is_white, joined, List, nat_lt, not, Ok, on_line, Option, or-false, or-true, Plain, Position, position_after, position_past, Read, refl, Result, Stand, stand_after, stops, subst, sym, true, with_blank, with_break, with_char, ℕ, ◌++◌, ◌||◌, ◌∙◌, ◌∷◌, ◌≡◌}
 use Rattle.yaml_tokens.specs.declared.problem.Problem.TheVariants as problem
 use Rattle.defs_text.specs.Classes.{is_blank, is_break, is_flow}
 use Rattle.defs_token.specs.Plain.{inside, past}
@@ -45,10 +45,7 @@ flow_solid c h = grind (arith, h)
 -- In flow a scalar does not go on over the start of a text that begins with a flow indicator, up to another character.
 pub no_flow : (flow : Bool) (collection : Option ℕ) (s : Stand) (before : List ℕ) (c : ℕ) (more rest : List ℕ) → flow ≡ true → rest ≡ before ++ c ∷ more → is_flow c ≡ false → begins_flow rest ≡ true → goes_on flow collection s before (c ∷ more) ≡ true → ⊥
 no_flow flow collection s [] c more rest e cut other begins goes = cc (ap begins_flow cut, begins, other)
-no_flow flow collection s (d ∷ before) c more rest e cut other begins goes =
-    let here : (flow && is_flow d) ≡ true = rw e (sym (ap begins_flow cut) ∙ begins) in
-    let no_flow_in : (flow && is_flow d) ≡ false = grind (arith, further_on, or-true, flow_solid) in
-    cc (here, no_flow_in)
+no_flow flow collection s (d ∷ before) c more rest e cut other begins goes = grind (arith, further_on, or-true, flow_solid)
 
 -- whether a text begins with a break
 abbrev pub begins_break : List ℕ → Bool

@@ -1,5 +1,5 @@
 -- Plain scalars as texts: what the laws say of some.
-use Rattle.proof_lexers.proofs.Common.{[], are_marks, At, begins_with_marker, by_dash, by_tab, codes, Context, EndsAs, false, is_blank_or_end, is_nul, IsPlainRefusal, List, plain, plain_element, plain_value, Position, refl, true, ℕ, ◌++◌, ◌∷◌, ◌≡◌}
+use Rattle.proof_lexers.proofs.Common.{[], are_marks, At, begins_with_marker, by_dash, by_tab, codes, Context, EndsAs, false, is_blank_or_end, is_nul, IsPlainRefusal, List, plain, plain_element, plain_value, Position, refl, true, ℕ, ◌++◌, ◌∷◌, ◌≡◌, ap, arith, ◌∙◌, has, both_ways}
 use Rattle.yaml_tokens.specs.declared.problem.Problem.TheVariants as problem
 use Rattle.defs_text.specs.Classes.{is_blank, is_break, is_flow}
 use Rattle.proof_lexers.specs.PlainEnds.{IsScalarRead}
@@ -28,15 +28,12 @@ before_comma = scalars_read flow (codes "a:b") (codes ":,") (codes "a:b") here r
 -- a dash before a comma, after a blank
 dashed : IsPlainRefusal flow here (codes "a -,") (At problem.PlainDashInFlow (record { index = 5; line = 1; col = 5 }))
 unfolding is_blank is_break is_nul is_blank_or_end is_flow
-dashed = by_dash (codes "a ") (codes ",") refl (λ t. no_tab t.before (t.blanks ++ t.rest) t.is_text) refl refl refl refl refl
+dashed =
+    by_dash (codes "a ") (codes ",") refl (λ t. both_ways false refl (ap (has 9) t.is_text ∙ has_tab t.before (t.blanks ++ t.rest))) refl refl refl refl refl
   where
-    no_tab : (before more : List ℕ) → codes "a -," ≡ before ++ 9 ∷ more → ⊥
-    no_tab [] more e = cc e
-    no_tab (a ∷ []) more e = cc e
-    no_tab (a ∷ b ∷ []) more e = cc e
-    no_tab (a ∷ b ∷ c ∷ []) more e = cc e
-    no_tab (a ∷ b ∷ c ∷ d ∷ []) more e = cc e
-    no_tab (a ∷ b ∷ c ∷ d ∷ x ∷ r) more e = cc e
+    has_tab : (before more : List ℕ) → has 9 (before ++ 9 ∷ more) ≡ true
+    has_tab [] more = refl
+    has_tab (c ∷ before) more = grind (arith, has_tab before more)
 
 -- a TAB at the start of a line of it
 tabbed : IsPlainRefusal block here (codes "a\n\tb") (At problem.PlainTab here)

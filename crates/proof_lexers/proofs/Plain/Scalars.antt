@@ -1,31 +1,148 @@
 -- Plain scalars are read as their values, and no other text is.
-use Rattle.proof_lexers.proofs.Common.{[], and_parts, ap, arith, At, at_dash, begins_left, begins_solid, Bool, by_column, by_dash, by_tab, cases_Bool, collection_of, Context, EndsAs, false, Fault, Folded, goes_on, goes_over, has_document_marker, has_no_nul, HasTab, inl, inr, is_indented, is_shallow, is_white, IsPlainRead, IsPlainRefusal, joined, List, nat_le, nat_lt, nat_tests, not-true, nothing, or_parts, Plain, plain, plain_from, plain_value, PlainScalarsAreRead, PlainScansEndAsTheirTextSays, Position, position_after, Read, reads, refl, refuses, Result, Some, stand_after, stops, suc, sym, true, whole_plain, with_char, ℕ, ◌&&◌, ◌++◌, ◌+◌, ◌∙◌, ◌∷◌, ◌≡◌}
+use Rattle.proof_lexers.proofs.Common.{[], and_parts, ap, arith, At, at_dash, begins_left, begins_solid, Bool, by_column, by_dash, by_tab, cases_Bool, collection_of, Context, EndsAs, false, Fault, Folded, goes_on, goes_over, has_document_marker, has_no_nul, HasTab, inl, inr, is_indented, is_shallow, is_white, IsPlainRead, IsPlainRefusal, joined, List, nat_lt, nat_tests, not-true, nothing, or_parts, Plain, plain, plain_from, plain_value, PlainScalarsAreRead, PlainScansEndAsTheirTextSays, Position, position_after, Read, reads, refl, refuses, Result, Some, stand_after, stops, suc, sym, true, whole_plain, with_char, ℕ, ◌&&◌, ◌++◌, ◌+◌, ◌∙◌, ◌∷◌, ◌≡◌, after_blank, append-nil, at_marker, can_be_plain, ends_at_colon, ends_plain, eqb-true, is_apart, is_blank, is_break, not, Ok, on_line, slice_index, Stand, tabs, ◌==◌, ◌||◌}
 use Rattle.yaml_tokens.specs.declared.problem.Problem.TheVariants as problem
-use Rattle.defs_text.specs.Classes.{is_blank, is_break}
-use Rattle.defs_token.specs.Plain.{past}
 use Rattle.defs_token.specs.Plain as defs
 use Rattle.model_scanner.specs.Machine as machine
-use Rattle.model_scanner.specs.Plain.{inside, first, starts}
+use Rattle.model_scanner.specs.Plain.{inside, first, starts, between}
 use Rattle.proof_lexers.specs.PlainEnds.{IsScalarRead, just}
 use Rattle.proof_lexers.proofs.Ends.{ends_also}
 use Rattle.proof_row.proofs.Plains.{plains}
-use Rattle.proof_lexers.proofs.Plain.Found.{after_text, after_more, Tabbed, Fails, dash, tabbed, tab, after_tab, flow_untabbed, Found, found, fails, same_left, no_lead, content_char, solid_first, past_content}
-use Rattle.proof_lexers.proofs.Plain.Turns.{off_margin, in_line_position, in_line, dash_parts}
-use Rattle.proof_lexers.proofs.Plain.Scans.{scans}
+use Rattle.proof_lexers.proofs.Plain.Turns.{after_blanks, after_more, after_tab, after_text, as_deep, at_feed, at_line, at_tabs, blank_step, break_step, can_be, content_char, content_step, dash, dash_parts, dash_untabbed, dashed, ends_comment, ends_over, Fails, fails, flow_untabbed, Found, found, found_here, in_line, in_line_position, in_text, line_is, no_lead, no_line, off_margin, Outcome, outcome, past_content, same_left, scan, Scans, solid_first, stopped, tab, Tabbed, tabbed, went}
 use Rattle.proof_lexers.proofs.Plain.Values.{no_markers, value_is}
+use Rattle.defs_text.specs.Classes as classes
+use Rattle.proof_lexers.proofs.Bridges.{same_break, same_blank}
+use Rattle.proof_lexers.proofs.Separation.Separations.{no_hash}
+
+-- a blank and no break, a break, or content
+data Kind (c : ℕ) : Type 0 where
+  is_breaks : is_break c ≡ true → Kind c
+  is_blanks : is_break c ≡ false → is_blank c ≡ true → Kind c
+  is_solid : is_white c ≡ false → (is_break c || is_blank c) ≡ false → Kind c
+
+kind : (c : ℕ) → Kind c
+kind c = grind (arith, is_breaks, is_solid, same_blank, same_break)
+
+feed_breaks : (c : ℕ) → c ≡ 10 → is_break c ≡ true
+unfolding is_break
+feed_breaks c h = rw h refl
+
+module _ (ctx : Context) (start : Position) where
+  -- where a scan stops before content
+  stop_here : (u : Bool) (c : ℕ) (a : List ℕ) (s : Stand) (p : Position) (t : Folded) (x : Result (Read Plain) Fault) → is_white c ≡ false → ends_plain ctx.flow (collection_of ctx.indent) s (c ∷ a) ≡ true
+      → x ≡ Ok (record { rest = c ∷ a; position = p; value = record { text = t.text; leading = t.leading } }) → Found ctx start u s p t (c ∷ a) x
+  stop_here u c a s p t x white ends is = found_here ctx start u s p t (c ∷ a) x (rw white ends) white is
+
+  -- ---- after a gap
+
+  by_outcome : (c : ℕ) (a : List ℕ) (s : Stand) (p : Position) (t : Folded) → is_white c ≡ false → is_apart s ≡ true → Scans ctx start a → Outcome ctx start c a s p t (scan ctx start (c ∷ a) between p t)
+      → Found ctx start false s p t (c ∷ a) (scan ctx start (c ∷ a) between p t)
+  by_outcome c a s p t white apart ih (stopped ends is) = stop_here false c a s p t _ white ends is
+  by_outcome c a s p t white apart ih (went on deep is) = content_step ctx start c a between s p t _ white on deep ih is
+  by_outcome c a s p t white apart ih (dashed flow is_dash begins is) = fails (At problem.PlainDashInFlow p) (dash [] a (dash_untabbed ctx start c a s flow is_dash begins) flow (ap (λ k. k ∷ a) is_dash) begins refl apart) is
+
+  blanks_by : (c : ℕ) (a : List ℕ) (p : Position) (t : Folded) → (c == 0) ≡ false → t.leading ≡ false → (p.col == 0) ≡ false → is_shallow ctx p.col ≡ false → Scans ctx start a → Kind c
+      → Found ctx start false after_blank p t (c ∷ a) (scan ctx start (c ∷ a) between p t)
+  blanks_by c a p t nul lead off deep ih (is_breaks e) = break_step ctx start c a false between after_blank p t _ e ih (rw e refl)
+  blanks_by c a p t nul lead off deep ih (is_blanks e f) =
+      blank_step ctx start c a false between between after_blank after_blank p t _ e f refl (λ b r k. cc) (λ k i l h. cc l) (λ i. cc i) ih
+      (after_blanks (rw lead refl) (off_margin p.col) (as_deep ctx p.col deep)) (rw (e, f, lead) refl)
+  blanks_by c a p t nul lead off deep ih (is_solid white plain) =
+      by_outcome c a after_blank p t white refl ih (outcome ctx start c a after_blank p t white nul refl (no_line ctx c a p off deep))
+
+  -- ---- at a line's start
+
+  line_blank : (c column : ℕ) (a : List ℕ) (p : Position) (t : Folded) (tabbed : Bool) → ((c == 9) && nat_lt p.col ctx.indent) ≡ tabbed → column ≡ p.col → t.leading ≡ true → is_break c ≡ false → is_blank c ≡ true → Scans ctx start a
+      → Found ctx start false (on_line column) p t (c ∷ a) (scan ctx start (c ∷ a) between p t)
+  line_blank c column a p t true h is lead e f ih =
+      let q = and_parts (c == 9) (nat_lt p.col ctx.indent) h in
+      blank_step ctx start c a false between tabs (on_line column) (on_line (suc column)) p t _ e f refl
+      (λ b r k cut blank content. tab [] b r column (ap (λ d. d ∷ a) (eqb-true c 9 q.0) ∙ ap (λ d. 9 ∷ d) cut) refl refl (rw is (q.1)) blank content) (λ k i l j. refl) (λ i. refl) ih
+      (at_tabs (suc column) (rw lead refl)) (rw (e, f, lead, h) refl)
+  line_blank c column a p t false h is lead e f ih =
+      blank_step ctx start c a false between between (on_line column) (on_line (suc column)) p t _ e f refl (λ b r k. cc) (λ k i l j. absurd (no_mark k i l j)) (λ i. cc i) ih
+      (at_line (suc column) (omega (arith, is)) (rw lead refl)) (rw (e, f, lead, h) refl)
+    where
+      no_mark : (k : ℕ) → c ≡ 9 → on_line column ≡ on_line k → nat_lt k ctx.indent ≡ true → ⊥
+      no_mark k i l j = grind arith
+
+  line_by : (c column : ℕ) (a : List ℕ) (p : Position) (t : Folded) → (c == 0) ≡ false → column ≡ p.col → t.leading ≡ true → Scans ctx start a → Kind c
+      → Found ctx start false (on_line column) p t (c ∷ a) (scan ctx start (c ∷ a) between p t)
+  line_by c column a p t nul is lead ih (is_breaks e) = break_step ctx start c a false between (on_line column) p t _ e ih (rw e refl)
+  line_by c column a p t nul is lead ih (is_blanks e f) = line_blank c column a p t ((c == 9) && nat_lt p.col ctx.indent) refl is lead e f ih
+  line_by c column a p t nul is lead ih (is_solid white plain) =
+      by_outcome c a (on_line column) p t white refl ih (outcome ctx start c a (on_line column) p t white nul refl (line_is ctx c column a ∙ ap (λ k. at_marker k (c ∷ a) || is_shallow ctx k) is))
+
+  -- ---- after a TAB at a line's start
+
+  tabs_by : (c column : ℕ) (a : List ℕ) (p : Position) (t : Folded) → t.leading ≡ true → Scans ctx start a → Kind c → Found ctx start true (on_line column) p t (c ∷ a) (scan ctx start (c ∷ a) tabs p t)
+  tabs_by c column a p t lead ih (is_breaks e) = break_step ctx start c a true tabs (on_line column) p t _ e ih (rw e refl)
+  tabs_by c column a p t lead ih (is_blanks e f) =
+      let hash : (c == 35) ≡ false = no_hash c f in
+      blank_step ctx start c a true tabs tabs (on_line column) (on_line (suc column)) p t _ e f refl
+      (λ b r k cut blank content. after_tab (c ∷ b) r refl (ap (λ d. c ∷ d) cut) (rw (same_blank c, f) blank) content) (λ k i l j. refl) (λ i. refl) ih
+      (at_tabs (suc column) (rw lead refl)) (rw (e, hash, f, lead) refl)
+  tabs_by c column a p t lead ih (is_solid white plain) =
+      let break : is_break c ≡ false = sym (same_break c) ∙ (or_parts (classes.is_blank c) (classes.is_break c) white).1 in
+      let blank : is_blank c ≡ false = sym (same_blank c) ∙ (or_parts (classes.is_blank c) (classes.is_break c) white).0 in
+      elim (cases_Bool (c == 35)) [
+        | inl h ↦ stop_here true c a (on_line column) p t _ white (ends_comment ctx start c a (on_line column) h) (rw (break, h) refl)
+        | inr h ↦ fails (At problem.PlainTab start) (tabbed (after_tab [] (c ∷ a) refl refl refl (rw (white, h) refl))) (rw (break, h, blank) refl)
+      ]
+
+  -- ---- within a line
+
+  inside_by : (c : ℕ) (a : List ℕ) (p : Position) (text : List ℕ) → (c == 0) ≡ false → (p.col == 0) ≡ false → is_shallow ctx p.col ≡ false → Scans ctx start a → Kind c
+      → Found ctx start false defs.inside p (in_text text) (c ∷ a) (scan ctx start (c ∷ a) inside p (in_text text))
+  inside_by c a p text nul off deep ih (is_breaks e) = break_step ctx start c a false inside defs.inside p (in_text text) _ e ih (rw e refl)
+  inside_by c a p text nul off deep ih (is_blanks e f) =
+      blank_step ctx start c a false inside between defs.inside after_blank p (in_text text) _ e f refl (λ b r k. cc) (λ k i l h. cc l) (λ i. cc i) ih
+      (after_blanks refl (off_margin p.col) (as_deep ctx p.col deep)) (rw (e, f) refl)
+  inside_by c a p text nul off deep ih (is_solid white plain) = elim (cases_Bool (ends_at_colon ctx.flow (c ∷ a) || (ctx.flow && classes.is_flow c))) [
+    | inl e ↦
+        let stops : can_be_plain ctx.flow c (slice_index a 0) ≡ false = can_be ctx.flow c a ∙ ap not e in
+        stop_here false c a defs.inside p (in_text text) (scan ctx start (c ∷ a) inside p (in_text text)) white (ends_over ctx start c a defs.inside true nul refl refl e) (rw (plain, stops) refl)
+    | inr e ↦
+        let goes : can_be_plain ctx.flow c (slice_index a 0) ≡ true = can_be ctx.flow c a ∙ ap not e in
+        content_step ctx start c a inside defs.inside p (in_text text) (scan ctx start (c ∷ a) inside p (in_text text)) white (ends_over ctx start c a defs.inside false nul refl refl e) deep ih (rw (plain, goes, append-nil) refl)
+  ]
+
+  -- ---- everywhere
+
+  step : (c : ℕ) (a : List ℕ) → (c == 0) ≡ false → Scans ctx start a → Scans ctx start (c ∷ a)
+  step c a nul ih m s p t (in_line text is off deep) = rw is (inside_by c a p text nul off deep ih (kind c))
+  step c a nul ih m s p t (after_blanks lead off deep) = blanks_by c a p t nul lead off deep ih (kind c)
+  step c a nul ih m s p t (at_line column is lead) = line_by c column a p t nul is lead ih (kind c)
+  step c a nul ih m s p t (at_tabs column lead) = tabs_by c column a p t lead ih (kind c)
+  step c a nul ih m s p t (at_feed column b cut) =
+      let feed : c ≡ 10 = cc in
+      break_step ctx start c a false between (on_line column) p t _ (feed_breaks c feed) ih (rw (feed_breaks c feed) refl)
+
+  none : Scans ctx start []
+  none m s p t (in_line text is off deep) = found_here ctx start false defs.inside p t [] _ refl refl refl
+  none m s p t (after_blanks lead off deep) = found_here ctx start false after_blank p t [] _ refl refl refl
+  none m s p t (at_line column is lead) = found_here ctx start false (on_line column) p t [] _ refl refl refl
+  none m s p t (at_tabs column lead) = found_here ctx start true (on_line column) p t [] _ refl refl refl
+  none m s p t (at_feed column b cut) = cc
+
+  pub scans : (a : List ℕ) → has_no_nul a ≡ true → Scans ctx start a
+  unfolding classes.is_nul
+  scans [] h = none
+  scans (c ∷ a) h = let q = and_parts (not (classes.is_nul c)) (has_no_nul a) h in step c a (not-true (classes.is_nul c) q.0) (scans a q.1)
+
+-- ---- plain scalars are read as their values
 
 deep : (ctx : Context) (p : Position) → is_indented ctx p ≡ true → is_shallow ctx (p.col + 1) ≡ false
 unfolding is_shallow
-deep ctx p h = elim (cases_Bool ctx.flow) [ inl e ↦ rw e refl | inr e ↦ let le : nat_le ctx.indent (suc p.col) ≡ true = rw e at h in rw e (grind (arith, nat_tests)) ]
+deep ctx p h = grind (arith, nat_tests)
 
 -- ---- each text
 
 module _ (ctx : Context) (start : Position) (c : ℕ) (a : List ℕ) (white : is_white c ≡ false) where
-  blank : is_blank c ≡ false
-  blank = (or_parts (is_blank c) (is_break c) white).0
+  blank : classes.is_blank c ≡ false
+  blank = (or_parts (classes.is_blank c) (classes.is_break c) white).0
 
-  break : is_break c ≡ false
-  break = (or_parts (is_blank c) (is_break c) white).1
+  break : classes.is_break c ≡ false
+  break = (or_parts (classes.is_blank c) (classes.is_break c) white).1
 
   abbrev read_first : Folded
   read_first = with_char c (joined nothing)

@@ -1,12 +1,12 @@
 -- What the model does at each character of a plain scalar, in the definitions' words.
-use Rattle.proof_lexers.proofs.Common.{[], after_blank, and_parts, ap, arith, At, at_break, at_dash, at_marker, at_plain, begins_flow, begins_token, begins_white, Bool, can_be_plain, cases_Bool, collection_of, Context, ends_at_colon, ends_at_comment, ends_at_line, ends_plain, eqb-true, Err, false, Fault, Folded, inl, inr, is_before_line_feed, is_blank, is_blank_or_breakz, is_blanks, is_break, is_cr_lf, is_deeper, is_flow, is_shallow, is_value_indicator, is_white, joined, List, nat_lt, nat_tests, not, Ok, on_line, or-true, or_parts, past, past_break, Plain, plain_from, Position, position_past, Read, refl, Result, slice_index, Stand, stops, suc, sym, tabs, true, with_blank, with_break, with_char, ℕ, ◌&&◌, ◌++◌, ◌+◌, ◌==◌, ◌||◌, ◌∙◌, ◌∷◌, ◌≡◌}
+use Rattle.proof_lexers.proofs.Common.{[], after_blank, and_parts, ap, arith, At, at_break, at_dash, at_marker, at_plain, begins_flow, begins_token, begins_white, Bool, can_be_plain, cases_Bool, collection_of, Context, ends_at_colon, ends_at_comment, ends_at_line, ends_plain, eqb-true, Err, false, Fault, Folded, inl, inr, is_before_line_feed, is_blank, is_blank_or_breakz, is_blanks, is_break, is_cr_lf, is_deeper, is_flow, is_shallow, is_white, joined, List, nat_lt, nat_tests, not, Ok, on_line, or-true, or_parts, past, past_break, Plain, plain_from, Position, position_past, Read, refl, Result, slice_index, Stand, stops, suc, sym, tabs, true, with_blank, with_break, with_char, ℕ, ◌&&◌, ◌++◌, ◌+◌, ◌==◌, ◌||◌, ◌∙◌, ◌∷◌, ◌≡◌}
 use Rattle.yaml_tokens.specs.declared.problem.Problem.TheVariants as problem
 use Rattle.defs_text.specs.Classes as classes
 use Rattle.defs_token.specs.Plain as defs
 use Rattle.model_scanner.specs.Plain.{Mode, inside, between, goes_on}
 use Rattle.proof_lexers.proofs.Bridges.{both, same_break, same_blank, same_gap, same_flow, same_marker, and_false}
 pub use Rattle.proof_lexers.proofs.Bridges.{or_false}
-use Rattle.proof_lexers.proofs.Plain.Found.{after_char, tab_blank, Tabbed, Moves, Found, found, further, after_gap, after_content}
+pub use Rattle.proof_lexers.proofs.Plain.Found.{after_char, after_content, after_gap, after_more, after_tab, after_text, content_char, dash, dash_untabbed, Fails, fails, flow_untabbed, Found, found, further, Moves, no_lead, past_content, same_left, solid_first, tab, tab_blank, Tabbed, tabbed}
 
 pub or_true : (b : Bool) → (b || true) ≡ true
 or_true b = or-true b
@@ -17,12 +17,9 @@ pub end_is_a_gap : is_blank_or_breakz 0 ≡ true
 unfolding is_blank is_break
 end_is_a_gap = refl
 
-colon_by : (flow : Bool) (a : List ℕ) → not (is_blank_or_breakz (slice_index a 0) || (flow && is_flow (slice_index a 0))) ≡ not (is_value_indicator flow false a)
-colon_by flow b = grind (arith, end_is_a_gap, same_gap, same_flow, or_false)
-
 pub can_be : (flow : Bool) (c : ℕ) (a : List ℕ) → can_be_plain flow c (slice_index a 0) ≡ not (ends_at_colon flow (c ∷ a) || (flow && classes.is_flow c))
 unfolding can_be_plain classes.is_flow
-can_be flow c a = grind (arith, eqb-true, or_false, colon_by, same_flow)
+can_be flow c a = grind (arith, eqb-true, or_false, end_is_a_gap, same_gap, same_flow)
 
 shallow_by : (indent column : ℕ) → not (is_deeper (collection_of indent) column) ≡ nat_lt column indent
 shallow_by a column = grind (arith, nat_tests, both)
@@ -50,7 +47,7 @@ off_margin n = grind (arith, nat_tests)
 
 pub as_deep : (ctx : Context) (n : ℕ) → is_shallow ctx n ≡ false → is_shallow ctx (n + 1) ≡ false
 unfolding is_shallow
-as_deep ctx n h = elim (cases_Bool ctx.flow) [ inl e ↦ rw e refl | inr e ↦ let deep : nat_lt n ctx.indent ≡ false = rw e at h in rw e (grind (arith, nat_tests)) ]
+as_deep ctx n h = grind (arith, nat_tests)
 
 -- whether content after a TAB is refused
 abbrev pub is_tabs : Mode → Bool
@@ -132,9 +129,6 @@ module _ (ctx : Context) (start : Position) where
       gap_step c a u n s next p (past p) t (with_blank c t) x white (rw (no_break, blank) g) (in_line_position c a p (rw no_break refl)) (rw (no_break, blank) refl) tabs_after
       (record { begins = begins; goes_further = λ i b. stays i; is_no_token = λ i. rw white refl }) ih stands is
 
-  pub no_tabs : {A : Type 0} → false ≡ true → A
-  no_tabs e = cc
-
   -- ---- content
 
   pub content_step : (c : ℕ) (a : List ℕ) (m : Mode) (s : Stand) (p : Position) (t : Folded) (x : Result (Read Plain) Fault) → is_white c ≡ false → ends_plain ctx.flow (collection_of ctx.indent) s (c ∷ a) ≡ false → is_shallow ctx p.col ≡ false
@@ -170,24 +164,24 @@ module _ (ctx : Context) (start : Position) where
   pub outcome : (c : ℕ) (a : List ℕ) (s : Stand) (p : Position) (t : Folded) → is_white c ≡ false → (c == 0) ≡ false → ends_at_comment s (c ∷ a) ≡ (c == 35)
       → ends_at_line ctx.flow (collection_of ctx.indent) s (c ∷ a) ≡ (at_marker p.col (c ∷ a) || is_shallow ctx p.col) → Outcome c a s p t (scan (c ∷ a) between p t)
   unfolding goes_on at_plain classes.is_blank_or_end classes.is_nul
-  outcome c a s p t white nul comment line =
-      let solid : (is_break c || is_blank c) ≡ false = let q = or_parts (classes.is_blank c) (classes.is_break c) white in rw (← same_break c, ← same_blank c, q.0, q.1) refl in
-      elim (cases_Bool (is_shallow ctx p.col)) [
-        | inl e ↦ stopped (ends_line c a s (line ∙ rw e (or_true (at_marker p.col (c ∷ a))))) (rw (solid, e) refl)
-        | inr e ↦ elim (cases_Bool (c == 35)) [
-          | inl f ↦ stopped (ends_comment c a s (comment ∙ f)) (rw (solid, e, f) refl)
-          | inr f ↦ elim (cases_Bool (at_marker p.col (c ∷ a))) [
-            | inl g ↦ stopped (ends_line c a s (line ∙ rw g refl)) (rw (solid, e, f, g) refl)
-            | inr g ↦ elim (cases_Bool (at_dash ctx.flow (c ∷ a))) [
-              | inl h ↦ let q = dash_parts ctx.flow c a h in dashed q.0 q.1 q.2 (rw (solid, e, f, g, h) refl)
-              | inr h ↦
-                  let plain : at_plain ctx.flow (c ∷ a) ≡ not (ends_at_colon ctx.flow (c ∷ a) || (ctx.flow && classes.is_flow c)) = let q = or_parts (classes.is_blank c) (classes.is_break c) white in
-                  rw (← same_gap c, q.0, q.1, nul, can_be ctx.flow c a) refl in
-                  elim (cases_Bool (ends_at_colon ctx.flow (c ∷ a) || (ctx.flow && classes.is_flow c))) [
-                    | inl k ↦ stopped (ends_over c a s true nul (comment ∙ f) (line ∙ rw (e, g) refl) k) (rw (solid, e, f, g, h, plain ∙ ap not k) refl)
-                    | inr k ↦ went (ends_over c a s false nul (comment ∙ f) (line ∙ rw (e, g) refl) k) e (rw (solid, e, f, g, h, plain ∙ ap not k) refl)
-                  ]
-            ]
-          ]
-        ]
-      ]
+  outcome c a s p t white nul comment line = by _ _ _ _ _ refl refl refl refl refl
+    where
+      q : (classes.is_blank c ≡ false) × (classes.is_break c ≡ false)
+      q = or_parts (classes.is_blank c) (classes.is_break c) white
+
+      solid : (is_break c || is_blank c) ≡ false
+      solid = rw (← same_break c, ← same_blank c, q.0, q.1) refl
+
+      plain : at_plain ctx.flow (c ∷ a) ≡ not (ends_at_colon ctx.flow (c ∷ a) || (ctx.flow && classes.is_flow c))
+      plain = rw (← same_gap c, q.0, q.1, nul, can_be ctx.flow c a) refl
+
+      by : (shallow hash marker minus ends : Bool) → is_shallow ctx p.col ≡ shallow → (c == 35) ≡ hash → at_marker p.col (c ∷ a) ≡ marker
+          → at_dash ctx.flow (c ∷ a) ≡ minus
+          → (ends_at_colon ctx.flow (c ∷ a) || (ctx.flow && classes.is_flow c)) ≡ ends → Outcome c a s p t (scan (c ∷ a) between p t)
+      by true hash marker minus ends e f g h k =
+          stopped (ends_line c a s (line ∙ rw e (or_true (at_marker p.col (c ∷ a))))) (rw (solid, e) refl)
+      by false true marker minus ends e f g h k = stopped (ends_comment c a s (comment ∙ f)) (rw (solid, e, f) refl)
+      by false false true minus ends e f g h k = stopped (ends_line c a s (line ∙ rw g refl)) (rw (solid, e, f, g) refl)
+      by false false false true ends e f g h k = let q = dash_parts ctx.flow c a h in dashed q.0 q.1 q.2 (rw (solid, e, f, g, h) refl)
+      by false false false false true e f g h k = stopped (ends_over c a s true nul (comment ∙ f) (line ∙ rw (e, g) refl) k) (rw (solid, e, f, g, h, plain ∙ ap not k) refl)
+      by false false false false false e f g h k = went (ends_over c a s false nul (comment ∙ f) (line ∙ rw (e, g) refl) k) e (rw (solid, e, f, g, h, plain ∙ ap not k) refl)

@@ -1,10 +1,9 @@
 -- The buffers after a plain scalar have its value, and no line of it begins with a document marker.
-use Rattle.proof_lexers.proofs.Common.{[], after_element, after_elements, and_parts, ap, append-nil, are_marks, arith, begins_with_marker, blank, Bool, break_further, cases_Bool, content, drop, Element, elements, ends_plain, ends_with_content, eqb-true, false, Folded, goes_on, has_document_marker, if◌then◌else◌, inl, inr, is_before_line_feed, is_blank_or_end, is_document_marker, is_white, joined, line_break, List, nat_tests, not, not-true, nothing, on_line, Option, or-true, plain_element, plain_value, refl, Some, Spelled, Stand, suc, sym, true, with_break, zero, ℕ, ◌&&◌, ◌++◌, ◌||◌, ◌∙◌, ◌∷◌, ◌≡◌}
+use Rattle.proof_lexers.proofs.Common.{[], after_element, after_elements, and_parts, ap, append-nil, are_marks, arith, begins_with_marker, blank, Bool, break_further, cases_Bool, content, drop, Element, elements, ends_with_content, eqb-true, false, Folded, goes_on, has_document_marker, if◌then◌else◌, inl, inr, is_before_line_feed, is_blank_or_end, joined, line_break, List, nat_tests, nothing, on_line, Option, or-true, plain_element, plain_value, refl, Some, Spelled, Stand, suc, sym, true, with_break, zero, ℕ, ◌∙◌, ◌∷◌, ◌≡◌}
 use Rattle.defs_text.specs.Classes.{is_blank, is_break}
 use Rattle.defs_token.specs.Plain.{past}
 use Rattle.proof_lexers.proofs.Fold.{buffers_join}
-use Rattle.proof_lexers.proofs.Plain.Found.{after_char, after_text}
-use Rattle.proof_lexers.proofs.Plain.Turns.{in_text}
+use Rattle.proof_lexers.proofs.Plain.Turns.{after_char, after_text}
 
 -- ---- elements
 
@@ -42,11 +41,8 @@ elements_of zero (c ∷ a) = first_element c a (λ k. elements_of k a)
 
 -- ---- after content
 
-solid_char : (c : ℕ) (t : Folded) → (not (is_blank c) && not (is_break c)) ≡ true → after_char c [] t ≡ in_text ((joined t).text ++ c ∷ [])
-solid_char c t h = let q = and_parts (not (is_blank c)) (not (is_break c)) h in rw (not-true (is_blank c) q.0, not-true (is_break c) q.1) refl
-
 joined_solid : (c : ℕ) (r : List ℕ) (t : Folded) → ends_with_content c r ≡ true → (joined (after_text (c ∷ r) t)).text ≡ (after_text (c ∷ r) t).text
-joined_solid c [] t h = ap (λ u. (joined u).text) (solid_char c t h) ∙ append-nil ((joined t).text ++ c ∷ []) ∙ ap (λ u. u.text) (sym (solid_char c t h))
+joined_solid c [] t h = grind (arith, append-nil)
 joined_solid c (d ∷ r) t h = joined_solid d r (after_char c (d ∷ r) t) h
 
 -- ---- document markers
@@ -58,24 +54,12 @@ no_marker_on flow collection [] next h e = cc
 no_marker_on flow collection (a ∷ []) next h e = cc
 no_marker_on flow collection (a ∷ b ∷ []) next h e = cc
 no_marker_on flow collection (a ∷ b ∷ c ∷ []) next h e = cc
-no_marker_on flow collection (a ∷ b ∷ c ∷ d ∷ r) next h e =
-    let q = and_parts (are_marks a b c) (is_blank d || is_break d) h in
-    let white : is_white a ≡ false = grind (arith, nat_tests) in
-    let mark : is_document_marker (a ∷ b ∷ c ∷ d ∷ (r ++ next)) ≡ true = grind arith in
-    let ends : ends_plain flow collection (on_line 0) (a ∷ b ∷ c ∷ d ∷ (r ++ next)) ≡ true = rw (mark, or-true) refl in
-    let here = (and_parts (is_white a || not (ends_plain flow collection (on_line 0) (a ∷ b ∷ c ∷ d ∷ (r ++ next)))) _ e).0 in
-    let no : false ≡ true = rw (white, ends) at here in
-    cc
+no_marker_on flow collection (a ∷ b ∷ c ∷ d ∷ r) next h e = grind (arith, nat_tests, and_parts, nat_tests, on_line, or-true)
 
 pub no_markers : (flow : Bool) (collection : Option ℕ) (s : Stand) (more next : List ℕ) → goes_on flow collection s more next ≡ true → has_document_marker more ≡ false
 no_markers flow collection s [] next h = refl
 no_markers flow collection s (c ∷ r) next h =
-    let q = and_parts (is_white c || not (ends_plain flow collection s (c ∷ (r ++ next)))) (goes_on flow collection (past s c) r next) h in
-    let others = no_markers flow collection (past s c) r next q.1 in
-    elim (cases_Bool (is_break c)) [
-      | inr e ↦ rw (e, others) refl
-      | inl e ↦ elim (cases_Bool (begins_with_marker r)) [ inl f ↦ let goes = q.1 in absurd (no_marker_on flow collection r next f (rw e at goes)) | inr f ↦ rw (e, f, others) refl ]
-    ]
+    grind (arith, nat_tests, goes_on, no_marker_on, no_markers flow collection (past s c) r next)
 
 -- ---- the value
 

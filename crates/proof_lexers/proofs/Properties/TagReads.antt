@@ -1,5 +1,5 @@
 -- Each tag is read as it is written.
-use Rattle.proof_lexers.proofs.Common.{[], after, after_class, after_name, after_tag, all_of, and_parts, and_then, ap, append_assoc, Bool, cases_Bool, codes, decoded, eqb-true, Err, false, further, if◌then◌else◌, inl, inr, is_empty, is_same, is_tag, leading, length, length-append, List, may_follow, named, None, Ok, or_cases, past, Position, read_tag, refl, Result, shorthand, slice_index, Some, sym, tag_by, tag_end, tag_of_class, TagsAreRead, true, uri, uri_character, UriFault, verbatim, ℕ, ◌&&◌, ◌++◌, ◌==◌, ◌∙◌, ◌∷◌, ◌≡◌}
+use Rattle.proof_lexers.proofs.Common.{[], after, after_class, after_name, after_tag, all_of, and_parts, and_then, ap, append_assoc, Bool, cases_Bool, codes, decoded, eqb-true, Err, false, further, inl, inr, is_empty, is_same, is_tag, leading, length, length-append, List, may_follow, named, None, Ok, or_cases, past, Position, read_tag, refl, Result, shorthand, slice_index, Some, sym, tag_end, tag_of_class, TagsAreRead, true, uri, uri_character, UriFault, verbatim, ℕ, ◌&&◌, ◌++◌, ◌==◌, ◌∙◌, ◌∷◌, ◌≡◌, arith}
 use Rattle.defs_text.specs.Classes as classes
 use Rattle.defs_text.specs.Tags as defs
 use Rattle.model_scanner.specs.Tag.{tag}
@@ -20,12 +20,7 @@ follower class flow (c ∷ r) h space tab feed carriage nul comma bracket bracke
 
 -- a tag whose suffix is written so
 of_class : (class : ℕ → Bool) (h t : List ℕ) (g : defs.Tag) → tag_of_class class h t ≡ Some g → (all_of class t ≡ true) × (decoded t ≡ Ok g.suffix) × (g.handle ≡ h)
-of_class class h t g e = by (all_of class t) (decoded t) refl refl e
-  where
-    by : (b : Bool) (d : Result (List ℕ) UriFault) → all_of class t ≡ b → decoded t ≡ d → (if b then tag_by h d else None) ≡ Some g → (all_of class t ≡ true) × (decoded t ≡ Ok g.suffix) × (g.handle ≡ h)
-    by false d a k e = cc
-    by true (Err f) a k e = cc
-    by true (Ok cs) a k e = let same : record { handle = h; suffix = cs } ≡ g = cc in (a, k ∙ ap (λ (z : defs.Tag). Ok z.suffix) same, ap (λ (z : defs.Tag). z.handle) (sym same))
+of_class class h t g e = grind arith
 
 word_fails : (name r : List ℕ) (f : UriFault) → all_of classes.is_alpha name ≡ true → decoded r ≡ Err f → decoded (name ++ r) ≡ Err f
 unfolding uri_character
@@ -46,8 +41,7 @@ module _ (flow : Bool) (rest : List ℕ) (g : defs.Tag) (p : Position) (follows 
   none_after [] k h e z = at_end rest e
     where
       at_end : (r : List ℕ) → begins_in (λ c. c == k) r ≡ false → (slice_index r 0 == k) ≡ false
-      at_end [] e = z
-      at_end (c ∷ r) e = e
+      at_end r h = grind arith
 
   suffix_of : (q : Position) (l before cs : List ℕ) → all_of classes.is_tag l ≡ true → decoded l ≡ Ok cs → uri is_tag p (l ++ rest) q before ≡ Ok (record { rest = rest; position = further (length l) q; value = before ++ cs })
   unfolding classes.is_tag classes.is_uri classes.is_decimal_digit classes.is_letter classes.is_flow
@@ -89,14 +83,11 @@ module _ (flow : Bool) (rest : List ℕ) (g : defs.Tag) (p : Position) (follows 
   local_read : (name m : List ℕ) → all_of classes.is_alpha name ≡ true → defs.begins_with_mark m ≡ false → is_empty (name ++ m) ≡ false → tag_of_class classes.is_tag (codes "!") (name ++ m) ≡ Some g → ReadsOn name m
   local_read name m all unmarked some h = by (decoded m) refl (of_class classes.is_tag (codes "!") (name ++ m) g h)
     where
-      no_mark : (l : List ℕ) → defs.begins_with_mark l ≡ false → begins_in (λ c. c == 33) l ≡ false
-      no_mark a e = cc
-
       by : (d : Result (List ℕ) UriFault) → decoded m ≡ d → (all_of classes.is_tag (name ++ m) ≡ true) × (decoded (name ++ m) ≡ Ok g.suffix) × (g.handle ≡ codes "!") → ReadsOn name m
       by (Err f) e k = absurd (cc (k.1, word_fails name m f all e))
       by (Ok cs) e k =
           let whole : name ++ cs ≡ g.suffix = cc (k.1, decoded_word name m cs all e) in
-          rw (none_after m 33 (no_mark m unmarked) mark_ends refl, suffix_of (further (length name) (past p)) m name cs (tags_after name m k.0) e, same_empty name m cs e ∙ some, same_end flow rest, follows, whole, k.2, local_position p (length name) (length m) (length (name ++ m)) (length-append name m)) refl
+          rw (none_after m 33 (cc) mark_ends refl, suffix_of (further (length name) (past p)) m name cs (tags_after name m k.0) e, same_empty name m cs e ∙ some, same_end flow rest, follows, whole, k.2, local_position p (length name) (length m) (length (name ++ m)) (length-append name m)) refl
 
   -- a text that begins no verbatim tag
   shorthand_here : (a : List ℕ) → begins_in (λ c. c == 60) a ≡ false → tag flow (33 ∷ (a ++ rest)) p

@@ -1,10 +1,10 @@
 -- Tags are read as what is written, and no other text is.
-use Rattle.proof_lexers.proofs.Common.{[], after, after_class, after_name, all_of, and_parts, and_then, ap, append_assoc, arith, at_start, begins_with, Bool, both_ways, cases_Bool, codes, decoded, ends_tag, EndsAs, eqb-true, Err, false, Fault, further, if◌then◌else◌, inl, inr, is_alpha, is_alphanumeric, is_empty, is_flow, is_tag, is_uri, is_uri_mark, IsTagFault, IsTagRead, IsTagRefusal, leading, length, length-append, List, local, local_goes_on, local_octets, may_follow, named, nat_tests, ne_eqb, no_suffix, Ok, past, Position, Read, read_tag, reads, refl, refuses, Result, shorthand, slice_index, Some, some_suffix, suc, suffix_goes_on, suffix_octets, sym, tag_end, tag_of_class, TagsEndAsTheirTextSays, take_while, true, uri_character, UriFault, verbatim, verbatim_end, verbatim_goes_on, verbatim_octets, whole_tag, written_tag, ℕ, ◌++◌, ◌+◌, ◌==◌, ◌∙◌, ◌∷◌, ◌≡◌}
+use Rattle.proof_lexers.proofs.Common.{[], after, after_class, after_name, all_of, and_parts, and_then, ap, append_assoc, arith, at_start, begins_with, Bool, cases_Bool, codes, decoded, ends_tag, EndsAs, eqb-true, Err, false, Fault, further, if◌then◌else◌, inl, inr, is_alpha, is_empty, IsTagFault, IsTagRead, IsTagRefusal, leading, length, length-append, List, local, local_goes_on, local_octets, may_follow, named, nat_tests, no_suffix, Ok, past, Position, Read, read_tag, reads, refl, refuses, Result, shorthand, slice_index, Some, some_suffix, suc, suffix_goes_on, suffix_octets, sym, tag_end, tag_of_class, TagsEndAsTheirTextSays, take_while, true, uri_character, UriFault, verbatim, verbatim_end, verbatim_goes_on, verbatim_octets, whole_tag, written_tag, ℕ, ◌++◌, ◌+◌, ◌==◌, ◌∙◌, ◌∷◌, ◌≡◌}
 use Rattle.yaml_tokens.specs.declared.problem.Problem.TheVariants as problem
 use Rattle.defs_text.specs.Classes as classes
 use Rattle.defs_text.specs.Tags as defs
 use Rattle.model_scanner.specs.Tag.{Tag, tag}
-use Rattle.proof_lexers.proofs.Bridges.{same_gap, same_flow, same_alpha, same_tag}
+use Rattle.proof_lexers.proofs.Bridges.{same_gap, same_flow, same_alpha}
 use Rattle.proof_lexers.specs.TagEnds.{unclosed}
 pub use Rattle.proof_lexers.proofs.Classes.{span_cut, all_leading, leading_all}
 use Rattle.proof_lexers.proofs.Classes.{same_place, begins_in, ends_after, taken}
@@ -72,26 +72,13 @@ module _ (flow : Bool) (start : Position) (b : List ℕ) where
 pub decoded_some : (c : ℕ) (r cs : List ℕ) → decoded (c ∷ r) ≡ Ok cs → is_empty cs ≡ false
 decoded_some c r cs h = grind arith
 
-absent : (class : ℕ → Bool) (c k : ℕ) → class c ≡ true → class k ≡ false → (c == k) ≡ false
-absent class c k h other = ne_eqb c k (λ same. both_ways (class c) (ap class same ∙ other) h)
-
-word_is_tag : (c : ℕ) → is_alpha c ≡ true → is_tag c ≡ true
-unfolding is_alpha is_tag is_uri is_uri_mark is_alphanumeric is_flow
-word_is_tag c h = grind (arith, nat_tests)
-
-no_words : (classes.is_alpha 60 ≡ false) × (classes.is_alpha 37 ≡ false)
-unfolding classes.is_alpha classes.is_decimal_digit classes.is_letter
-no_words = (refl, refl)
-
-no_tags : (classes.is_tag 60 ≡ false) × (classes.is_tag 33 ≡ false)
-unfolding classes.is_tag classes.is_uri classes.is_decimal_digit classes.is_letter classes.is_flow
-no_tags = (refl, refl)
-
 pub alpha_starts : (c : ℕ) → classes.is_alpha c ≡ true → ((c == 60) ≡ false) × ((c == 37) ≡ false) × (classes.is_tag c ≡ true)
-alpha_starts c h = (absent classes.is_alpha c 60 h no_words.0, absent classes.is_alpha c 37 h no_words.1, same_tag c ∙ word_is_tag c (sym (same_alpha c) ∙ h))
+unfolding classes.is_alpha classes.is_decimal_digit classes.is_letter classes.is_tag classes.is_uri classes.is_flow
+alpha_starts c h = (grind (arith, nat_tests), grind (arith, nat_tests), grind (arith, nat_tests))
 
 tag_starts : (c : ℕ) → classes.is_tag c ≡ true → ((c == 60) ≡ false) × ((c == 33) ≡ false)
-tag_starts c h = (absent classes.is_tag c 60 h no_tags.0, absent classes.is_tag c 33 h no_tags.1)
+unfolding classes.is_decimal_digit classes.is_letter classes.is_tag classes.is_uri classes.is_flow
+tag_starts c h = (grind (arith, nat_tests), grind (arith, nat_tests))
 
 -- a text that begins with a word or a mark is no verbatim tag
 is_shorthand : (name r : List ℕ) → all_of classes.is_alpha name ≡ true → (begins_in (λ c. c == 60) r) ≡ false → defs.after_mark (name ++ r) ≡ defs.shorthand (name ++ r)
@@ -124,8 +111,7 @@ no_mark [] h = (refl, refl)
 no_mark (c ∷ r) h = let q = and_parts (classes.is_tag c) (all_of classes.is_tag r) h in ((tag_starts c q.0).1, (tag_starts c q.0).0)
 
 nil_parts : (a b : List ℕ) → is_empty (a ++ b) ≡ true → (a ≡ []) × (b ≡ [])
-nil_parts [] [] h = (refl, refl)
-nil_parts [] (c ∷ b) h = cc
+nil_parts [] b h = grind arith
 nil_parts (c ∷ a) b h = cc
 
 pub same_empty : (name l cs : List ℕ) → decoded l ≡ Ok cs → is_empty (name ++ cs) ≡ is_empty (name ++ l)
@@ -162,8 +148,7 @@ module _ (flow : Bool) (start : Position) (text name : List ℕ) (all : all_of c
   local_by m l rest (Ok cs) cut ends not_verbatim unmarked begins lead b e = by (is_empty (name ++ l)) refl
     where
       goes : may_follow flow rest ≡ false → IsTagRefusal flow text problem.TagEnd
-      goes g =
-          local_goes_on cs not_verbatim (ap defs.begins_with_mark ends ∙ unmarked) (ap (λ r. decoded (leading classes.is_tag r)) ends ∙ (ap decoded lead ∙ e)) (ap (λ r. may_follow flow (after classes.is_tag r)) ends ∙ (ap (may_follow flow) b ∙ g))
+      goes g = grind (arith, nat_tests, local_goes_on)
 
       by : (none : Bool) → is_empty (name ++ l) ≡ none → Ends flow start text (tag_end flow start (local (record { rest = after classes.is_tag m; position = further (length (leading classes.is_tag m)) (further (length name) (past start)); value = name ++ cs })))
       by true f =

@@ -52,8 +52,7 @@ module _ (test class : ℕ → Bool) (start : Position) (same : (c : ℕ) → cl
   more c a p t b e = grind arith
 
   with_code : (c : ℕ) (a : List ℕ) (p : Position) (t : List ℕ) (d : Result (List ℕ) UriFault) → answer a p (t ++ c ∷ []) d ≡ answer a p t (put_code c d)
-  with_code c a p t (Ok cs) = rw (append_assoc) refl
-  with_code c a p t (Err f) = refl
+  with_code c a p t d = grind (arith, append_assoc)
 
   -- After a percent sign two digits are an octet, or the text is refused.
   data Octets (o : Octet) (a : List ℕ) (p : Position) (t : List ℕ) : Type 0 where
@@ -63,10 +62,6 @@ module _ (test class : ℕ → Bool) (start : Position) (same : (c : ℕ) → cl
 
   of_class : (c : ℕ) → is_digit c 16 ≡ true → class c ≡ true
   of_class c h = same c ∙ digits c h
-
-  none_by : (b : Bool) (x : ℕ) (l : List ℕ) → is_digit x 16 ≡ false → octet_at (37 ∷ (if b then x ∷ l else [])) ≡ None
-  unfolding octet_at
-  none_by a x l e = grind arith
 
   second_octet : (o : Octet) (x : ℕ) (r : List ℕ) (p : Position) (t : List ℕ) → is_digit x 16 ≡ true → class x ≡ true → is_hex x ≡ true → Octets o (x ∷ r) p t
   unfolding octet_at
@@ -86,7 +81,7 @@ module _ (test class : ℕ → Bool) (start : Position) (same : (c : ℕ) → cl
   octets_at o [] p t = no_octets refl refl
   octets_at o (x ∷ r) p t = elim (cases_Bool (is_digit x 16)) [
     | inl e ↦ second_octet o x r p t e (of_class x e) (same_digit x ∙ e)
-    | inr e ↦ let no_hex : is_hex x ≡ false = same_digit x ∙ e in no_octets (none_by (class x) x (leading class r) e) (rw no_hex refl)
+    | inr e ↦ let no_hex : is_hex x ≡ false = same_digit x ∙ e in no_octets (grind arith) (rw no_hex refl)
   ]
 
   abbrev Plain : List ℕ → Type 0
@@ -147,11 +142,7 @@ module _ (test class : ℕ → Bool) (start : Position) (same : (c : ℕ) → cl
     where
       by : (o : Option Lead) → and_then (lead_to start (past (past (past p))) t o) (λ s. uri_from test start b s)
           ≡ answer (37 ∷ x ∷ y ∷ b) p t (code_followed (led_by o (37 ∷ x ∷ y ∷ leading class b)) (λ n. decoded_after n (x ∷ y ∷ leading class b)))
-      by None = refl
-      by (Some l) =
-          trailing l.further l.bits l.least b (past (past (past p))) t plains
-          ∙ three_more x y b p t _ e f
-          ∙ ap (answer (37 ∷ x ∷ y ∷ b) p t) (sym (grind (arith, nat_tests, after_some)))
+      by o = grind (arith, trailing, three_more, after_some)
 
   at_percent : (a : List ℕ) (p : Position) (t : List ℕ) → ((k : ℕ) → Plain (drop k a)) → Octets lead a (past p) t → scan (37 ∷ a) p t ≡ answer (37 ∷ a) p t (decoded (37 ∷ leading class a))
   unfolding uri_character escaped_character

@@ -1,9 +1,9 @@
 -- The model over the elements of a body, up to its closing quote.
-use Rattle.proof_lexers.proofs.Common.{[], after_element, after_elements, after_gap, after_quote, ap, append-nil, At, at_marker, Bool, by_line, cases_Bool, closed_end, Context, double_quoted_element, drop, Element, element_of, elements, ends_before, Err, false, Fault, first, Folded, followed, gap, has_marker, inl, inr, inside, is_blank, is_break, is_document_marker, IsShallow, joined, List, Mode, nat_lt, None, not-true, nothing, Ok, Option, past, Position, put_before, quote_of, Read, read, refl, refused, Result, shallow, slice_index, Some, Spelled, suc, sym, true, zero, ℕ, ◌&&◌, ◌++◌, ◌+◌, ◌==◌, ◌||◌, ◌∙◌, ◌∷◌, ◌≡◌}
+use Rattle.proof_lexers.proofs.Common.{[], after_element, after_elements, after_gap, after_quote, ap, append-nil, At, at_marker, Bool, by_line, cases_Bool, closed_end, Context, double_quoted_element, drop, Element, element_of, elements, ends_before, Err, false, Fault, first, Folded, followed, gap, has_marker, inl, inr, inside, is_blank, is_break, is_document_marker, IsShallow, joined, List, Mode, nat_lt, None, nothing, Ok, Option, past, Position, put_before, quote_of, Read, read, refl, refused, Result, shallow, slice_index, Some, Spelled, suc, sym, true, zero, ℕ, ◌&&◌, ◌++◌, ◌+◌, ◌==◌, ◌||◌, ◌∙◌, ◌∷◌, ◌≡◌, arith}
 use Rattle.yaml_tokens.specs.declared.problem.Problem.TheVariants as problem
 use Rattle.defs_text.specs.Classes as classes
 use Rattle.proof_lexers.specs.QuotedScan.{IsRead}
-use Rattle.proof_lexers.proofs.Quoted.Turns.{no_marker, off_margin, Ready, in_gap, after_escaped, scan, Begun, begun, marked, begins, Step, steps, is_marked, is_shallow, StepOf, inside_is_gap, may_stand}
+use Rattle.proof_lexers.proofs.Quoted.Turns.{no_marker, off_margin, Ready, in_gap, after_escaped, scan, Begun, begun, marked, begins, Step, steps, is_marked, is_shallow, StepOf, may_stand}
 use Rattle.proof_lexers.proofs.Quoted.Turns as turns
 use Rattle.proof_lexers.proofs.Quoted.Elements.{step}
 
@@ -24,25 +24,15 @@ passed_on single ctx start x a b r col n t same (was_shallow s) = was_shallow s
 
 -- a quote begins neither a marker nor a line
 pub quote_still : (single : Bool) (r : List ℕ) → is_document_marker (quote_of single ∷ r) ≡ false
-quote_still true r = no_marker 39 r refl refl
-quote_still false r = no_marker 34 r refl refl
+quote_still single r = grind (arith, no_marker)
 
 pub quote_feed : (single : Bool) (r : List ℕ) → (slice_index (quote_of single ∷ r) 0 == 10) ≡ false
-quote_feed true r = refl
-quote_feed false r = refl
-
-quote_solid : (single : Bool) → (is_break (quote_of single) || is_blank (quote_of single)) ≡ false
-unfolding is_break is_blank
-quote_solid true = refl
-quote_solid false = refl
+quote_feed single r = grind arith
 
 -- in double quotes no element begins with the quote
 no_quote : (c : ℕ) (b : List ℕ) (s : Spelled) → double_quoted_element c b ≡ Some s → (c == 34) ≡ false
 unfolding double_quoted_element
-no_quote c b s h = elim (cases_Bool (c == 34)) [
-  | inr e ↦ e
-  | inl e ↦ elim (cases_Bool (classes.is_nul c)) [ inl f ↦ let x : None ≡ Some s = rw f at h in cc | inr f ↦ let x : None ≡ Some s = rw (f, e) at h in cc ]
-]
+no_quote c b s h = grind arith
 
 module _ (single : Bool) (ctx : Context) (start : Position) where
   -- an element may begin after an escaped break as in a gap
@@ -71,13 +61,9 @@ module _ (single : Bool) (ctx : Context) (start : Position) where
   by_element c b r None es m p t h e ready others z = cc
   by_element c b r (Some s) es m p t h e ready others z = by_elements c b r s (elements (element_of single) s.further b) es m p t h refl e ready (others s.further) z
 
-  none_marked : (x y : Bool) → y ≡ false → ((x && y) || false) ≡ false
-  none_marked true y h = rw h refl
-  none_marked false y h = refl
-
   no_elements : (r : List ℕ) (es : List Element) (m : Mode) (p : Position) (t : Folded) → is_document_marker r ≡ false → Some [] ≡ Some es → Ready single t m
       → Passed single ctx start (scan single ctx start r m p t) [] r p.col (after_elements es t)
-  no_elements r es m p t still h ready = let none : es ≡ [] = cc in rw none (passed m p ready (none_marked (p.col == 0) (is_document_marker r) still) refl)
+  no_elements r es m p t still h ready = let none : es ≡ [] = cc in rw none (passed m p ready (rw still (grind arith)) refl)
 
   -- what the scan does up to the text after a body's elements
   pub passes : (n : ℕ) (a r : List ℕ) → (slice_index r 0 == 10) ≡ false → is_document_marker r ≡ false → Passes n a r
@@ -128,13 +114,10 @@ module _ (single : Bool) (ctx : Context) (start : Position) where
 
 closes : (single : Bool) (ctx : Context) (start : Position) (r : List ℕ) (p : Position) (u : Folded) → ends_before single r ≡ true → scan single ctx start (quote_of single ∷ r) inside p u ≡ Ok (record { rest = r; position = past p; value = u.text })
 unfolding is_break is_blank
-closes true ctx start [] p u e = refl
-closes true ctx start (d ∷ r) p u e = let one : (d == 39) ≡ false = not-true (d == 39) e in rw one refl
-closes false ctx start r p u e = closed_end false ctx start r (past p) u
+closes single ctx start r p u h = grind (arith, closed_end)
 
 pub no_mark : (x y : Bool) → y ≡ false → (x && y) ≡ true → ⊥
-no_mark true y e f = cc
-no_mark false y e f = cc
+no_mark x y e f = grind arith
 
 module _ (single : Bool) (ctx : Context) (start : Position) (r : List ℕ) (ends : ends_before single r ≡ true) where
   in_line : (p : Position) (t : Folded) → Begun single ctx start (quote_of single ∷ r) p t → IsRead ctx start (joined t).text r (scan single ctx start (quote_of single ∷ r) gap p t)
@@ -143,6 +126,7 @@ module _ (single : Bool) (ctx : Context) (start : Position) (r : List ℕ) (ends
   in_line p t (turns.shallow e f) = shallow (by_line p e f)
 
   pub close : (m : Mode) (p : Position) (t : Folded) → Ready single t m → IsRead ctx start (joined t).text r (scan single ctx start (quote_of single ∷ r) m p t)
-  close m p t in_gap = in_line p t (begins single ctx start (quote_of single) r p t (quote_solid single))
+  unfolding is_break is_blank
+  close m p t in_gap = in_line p t (begins single ctx start (quote_of single) r p t (grind arith))
   close m p t (after_escaped double e f) =
       read (past p) (after_quote single ctx start (quote_of single) (quote_of single ∷ r) p t refl refl ∙ closes single ctx start r p t ends ∙ ap (λ text. Ok (record { rest = r; position = past p; value = text })) (elim (cases_Bool t.leading) [ inl g ↦ rw (g, f, e) (sym (append-nil t.text)) | inr g ↦ rw (g, e) (sym (append-nil t.text)) ]))

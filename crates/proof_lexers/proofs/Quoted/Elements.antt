@@ -1,5 +1,4 @@
 -- What the model does at each element of a body in single and in double quotes.
-use Rattle.std.specs.Char.{is_digit}
 use Rattle.proof_lexers.proofs.Common.{[], along, and_parts, arith, begins_with, Bool, break_further, by_line, cases_Bool, Char, Code, coded, content, Context, count_of, digit_turn, digit_value, digits_from, double_quoted_element, drop, element_of, eqb-true, Escape, escape, escape_by, escape_of, escaped_break, escapes, false, Fault, Folded, has_marker, hexadecimal, if◌then◌else◌, inl, inr, inside, is_blank, is_break, is_character_code, is_document_marker, joined, length, List, list_all, lookup, named_char, named_code, nat_tests, ne_eqb, None, numbered, numeric_escape, numeric_escapes, Option, past, past_break, Position, Read, refl, Result, single_quoted_element, slice_index, Some, subst, suc, sym, take, true, Unknown, with_char, with_escaped_break, zero, ℕ, ◌&&◌, ◌*◌, ◌++◌, ◌+◌, ◌==◌, ◌||◌, ◌∙◌, ◌∷◌, ◌≡◌, Err, coded_fails, At, digit_fails, length-take, take-append-le}
 use Rattle.std.proofs.lemmas.List.{drop-append-le}
 use Rattle.yaml_tokens.specs.declared.problem.Problem.TheVariants as problem
@@ -34,15 +33,9 @@ module _ (ctx : Context) (start : Position) where
 pub has_digits : (d n : ℕ) → lookup d numeric_escapes ≡ Some n → count_of (digits_of n) ≡ n
 has_digits d n h = grind arith
 
-pub too_short : (n : ℕ) → (zero == suc n) ≡ false
-too_short n = grind (arith, nat_tests)
-
 -- the number of so many digits after a value, if they are there
 abbrev pub number_after : ℕ → ℕ → List ℕ → Option ℕ
 number_after n value b = (if length (take n b) == n then hexadecimal value (take n b) else None)
-
-none_either : (b : Bool) → ◌≡◌ {A = Option ℕ} (if b then None else None) None
-none_either b = grind arith
 
 module _ (ctx : Context) (start : Position) where
   -- what a scan makes of a code's number
@@ -53,8 +46,8 @@ module _ (ctx : Context) (start : Position) where
   -- The digits of a code are taken, or refused.
   pub digits_read : (n value : ℕ) (b : List ℕ) (p : Position) (u : Folded) → digits_from false ctx start n value b p u ≡ coded_end (drop n b) (along (take n b) p) u (number_after n value b)
   digits_read zero value b p u = grind (arith, nat_tests, coded, same_code, coded_fails)
-  digits_read (suc n) value [] p u = rw (too_short n) refl
-  digits_read (suc n) value (c ∷ b) p u = grind (arith, nat_tests, digit_turn, same_digit, past, both, digit_fails, none_either, digits_read n (value * 16 + digit_value c) b (past p) u)
+  digits_read (suc n) value [] p u = grind (arith, nat_tests)
+  digits_read (suc n) value (c ∷ b) p u = grind (arith, nat_tests, digit_turn, same_digit, past, both, digit_fails, digits_read n (value * 16 + digit_value c) b (past p) u)
 
   counted : (n code : ℕ) (b r : List ℕ) (p : Position) (u : Folded) → (length (take n b) == n) ≡ true → hexadecimal 0 (take n b) ≡ Some code → is_character_code code ≡ true
       → digits_from false ctx start n 0 (b ++ r) p u ≡ scan false ctx start (drop n b ++ r) inside (along (take n b) p) (with_char code u)
@@ -64,10 +57,7 @@ module _ (ctx : Context) (start : Position) where
   unfolding classes.is_break
   over_digits zero value code b r h = (refl, refl)
   over_digits (suc n) value code [] r h = (refl, refl)
-  over_digits (suc n) value code (c ∷ b) r h = elim (cases_Bool (is_digit c 16)) [
-    | inl e ↦ let z = over_digits n (value * 16 + digit_value c) code b r (rw e at h) in let o : (classes.is_break c ≡ false) × ((c == 0) ≡ false) = (grind (arith, nat_tests), grind (arith, nat_tests)) in (rw o.0 z.0, rw o.1 z.1)
-    | inr e ↦ let no : None ≡ Some code = rw e at h in cc
-  ]
+  over_digits (suc n) value code (c ∷ b) r h = grind (arith, nat_tests, over_digits n (value * 16 + digit_value c) code b r)
 
   -- ---- an escape
 

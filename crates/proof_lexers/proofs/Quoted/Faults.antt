@@ -1,9 +1,9 @@
 -- Escapes that are none are refused.
-use Rattle.proof_lexers.proofs.Common.{[], ap, At, break_further, cases_Bool, content, Context, digits_from, Err, escape, escape_by, escaped_break, escapes, false, Folded, inl, inr, inside, is_blank, is_break, is_character_code, IsBadEscape, length, List, lookup, named_code, named_unknown, no_digit, None, number_at, numbered, numeric_escape, numeric_escapes, Option, past, Position, Problem, refl, Some, suc, sym, take, ℕ, ◌==◌, ◌∙◌, ◌∷◌, ◌≡◌}
+use Rattle.proof_lexers.proofs.Common.{At, cases_Bool, content, Context, digits_from, Err, escape, escape_by, escapes, false, Folded, inl, inr, inside, is_blank, is_break, is_character_code, IsBadEscape, length, List, lookup, named_code, named_unknown, no_digit, None, number_at, numbered, numeric_escape, numeric_escapes, Option, past, Position, Problem, refl, Some, suc, take, ℕ, ◌==◌, ◌∙◌, ◌∷◌, ◌≡◌, arith, nat_tests}
 use Rattle.yaml_tokens.specs.declared.problem.Problem.TheVariants as problem
 use Rattle.defs_text.specs.Classes as classes
 use Rattle.proof_lexers.specs.QuotedEnds.{ends, unknown, no_character}
-use Rattle.proof_lexers.proofs.Bridges.{digits_of, same_break, same_escape}
+use Rattle.proof_lexers.proofs.Bridges.{same_break, same_escape}
 use Rattle.proof_lexers.proofs.Quoted.Turns.{scan, spelled}
 use Rattle.proof_lexers.proofs.Quoted.Elements.{has_digits, digits_read}
 
@@ -15,8 +15,7 @@ module _ (ctx : Context) (start : Position) where
 
   to_digits : (d n : ℕ) (b : List ℕ) (p : Position) (u : Folded) → is_break d ≡ false → lookup d escapes ≡ None → lookup d numeric_escapes ≡ Some n → scan false ctx start (92 ∷ d ∷ b) inside p u ≡ digits_from false ctx start n 0 b (past (past p)) u
   unfolding is_break is_blank
-  to_digits d n b p u e f g =
-      (rw e refl) ∙ named_code false ctx start d (digits_of n) (d ∷ b) b (past p) u (same_escape d ∙ rw (f, g) refl) refl ∙ ap (λ m. digits_from false ctx start m 0 b (past (past p)) u) (has_digits d n g)
+  to_digits d n b p u e f g = grind (arith, nat_tests, named_code, same_escape, has_digits)
 
   code_fails_by : (d n : ℕ) (b : List ℕ) (p : Position) (u : Folded) (o : Option ℕ) → is_break d ≡ false → lookup d escapes ≡ None → lookup d numeric_escapes ≡ Some n → number_at n b ≡ o → numbered n o ≡ None → Fails (d ∷ b) p u
   code_fails_by d n b p u None e f g number h = record { why = problem.HexadecimalDigit; bad = no_digit d n b f g number; is = to_digits d n b p u e f g ∙ digits_read ctx start n 0 b (past (past p)) u ∙ rw number refl }
@@ -37,8 +36,4 @@ module _ (ctx : Context) (start : Position) where
 
   pub escape_fails : (b : List ℕ) (p : Position) (u : Folded) → escape b ≡ None → Fails b p u
   unfolding escape is_break is_blank
-  escape_fails [] p u h = record { why = problem.UnknownEscape; bad = ends; is = refl }
-  escape_fails (d ∷ b) p u h = elim (cases_Bool (classes.is_break d)) [
-    | inl e ↦ let no : Some (spelled escaped_break (suc (break_further d b))) ≡ None = rw e at h in cc
-    | inr e ↦ rows_fail d b p u (lookup d escapes) (lookup d numeric_escapes) (sym (same_break d) ∙ e) refl refl (rw e at h)
-  ]
+  escape_fails b p u h = grind (arith, ends, rows_fail, same_break)

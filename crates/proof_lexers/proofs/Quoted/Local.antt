@@ -1,5 +1,5 @@
 -- What an element of a body is depends on its own characters alone, and on whether a CR ends a line alone.
-use Rattle.proof_lexers.proofs.Common.{[], and-false, ap, arith, begins_with, Bool, break_further, cases_Bool, content, double_quoted_element, drop, element_of, elements, eqb-true, escape, escape_by, escaped_break, escapes, false, hexadecimal, if◌then◌else◌, inl, inr, is_character_code, length, length-take, List, lookup, None, numbered, numeric_escape, numeric_escapes, Option, plain_element, refl, single_quoted_element, Some, Spelled, suc, take, take-append-le, take_at, true, zero, ℕ, ◌++◌, ◌==◌, ◌∷◌, ◌≡◌, nat_tests}
+use Rattle.proof_lexers.proofs.Common.{[], and-false, ap, arith, begins_with, Bool, break_further, cases_Bool, content, double_quoted_element, drop, element_of, elements, eqb-true, escape, escape_by, escaped_break, escapes, false, hexadecimal, inl, inr, is_character_code, length, length-take, List, lookup, None, numbered, numeric_escape, numeric_escapes, Option, plain_element, refl, single_quoted_element, Some, Spelled, suc, take, take-append-le, take_at, true, zero, ℕ, ◌++◌, ◌==◌, ◌∷◌, ◌≡◌, nat_tests}
 use Rattle.defs_text.specs.Classes as classes
 use Rattle.proof_lexers.proofs.Quoted.Turns.{spelled}
 
@@ -15,23 +15,6 @@ LocalOf at b (Some s) = Local at b s
 
 -- ---- a character that means itself
 
-plain_local : (c : ℕ) (b : List ℕ) → LocalOf (plain_element c) b (plain_element c b)
-unfolding plain_element
-plain_local c b = grind arith
-
--- of a function that is another one for this character
-as_local : (at to : List ℕ → Option Spelled) (b : List ℕ) (o : Option Spelled) → ((r : List ℕ) → at r ≡ to r) → LocalOf to b o → LocalOf at b o
-as_local a to b d e z = grind arith
-
--- ---- single quotes
-
-abbrev doubled_at : List ℕ → Option Spelled
-doubled_at r = (if begins_with 39 r then Some (spelled (content 39) 1) else None)
-
-single_local : (c : ℕ) (b : List ℕ) → LocalOf (single_quoted_element c) b (single_quoted_element c b)
-unfolding single_quoted_element
-single_local c b = grind (arith, as_local, plain_local)
-
 -- ---- double quotes
 
 escape_broken : (d : ℕ) (b : List ℕ) → classes.is_break d ≡ true → Local escape (d ∷ b) (spelled escaped_break (suc (break_further d b)))
@@ -42,10 +25,6 @@ coded_same : (n code : ℕ) (b x : List ℕ) → length (take n b) ≡ n → (le
 unfolding numeric_escape
 coded_same n code b x fits many digits valid = let front = take_at (take n b) x n fits in rw (front, many, digits, valid) refl
 
-coded_onward : (n code : ℕ) (b r : List ℕ) → length (take n b) ≡ n → (length (take n b) == n) ≡ true → hexadecimal 0 (take n b) ≡ Some code → is_character_code code ≡ true → numeric_escape n (b ++ r) ≡ Some (spelled (content code) (suc n))
-unfolding numeric_escape
-coded_onward n code b r fits many a valid = grind (arith, length-take, take-append-le)
-
 by_rows : (d : ℕ) (b : List ℕ) (o n : Option ℕ) → classes.is_break d ≡ false → lookup d escapes ≡ o → lookup d numeric_escapes ≡ n → LocalOf escape (d ∷ b) (escape_by o n b)
 unfolding numeric_escape escape
 by_rows d b (Some code) n e f g = record { fits = refl; same = λ x y h. rw (e, f) refl; onward = λ r h. rw (e, f) refl }
@@ -54,18 +33,17 @@ by_rows d b None (Some n) e f g = elim (cases_Bool (length (take n b) == n)) [ i
   where
     of_number : (o : Option ℕ) → (length (take n b) == n) ≡ true → hexadecimal 0 (take n b) ≡ o → LocalOf escape (d ∷ b) (numbered n o)
     of_number None many digits = tt
-    of_number (Some code) many digits = elim (cases_Bool (is_character_code code)) [ inl valid ↦ rw valid (grind (arith, nat_tests, eqb-true, coded_same, coded_onward)) | inr valid ↦ rw valid tt ]
+    of_number (Some code) many digits = elim (cases_Bool (is_character_code code)) [ inl valid ↦ rw valid (grind (arith, nat_tests, eqb-true, coded_same, length-take, take-append-le)) | inr valid ↦ rw valid tt ]
 
 escape_local : (b : List ℕ) → LocalOf escape b (escape b)
 unfolding escape
-escape_local [] = tt
-escape_local (d ∷ b) = elim (cases_Bool (classes.is_break d)) [ inl e ↦ rw e (escape_broken d b e) | inr e ↦ rw e (by_rows d b (lookup d escapes) (lookup d numeric_escapes) e refl refl) ]
+escape_local b = grind (arith, escape_broken, by_rows)
 
 -- ---- either
 
 pub local : (single : Bool) (c : ℕ) (b : List ℕ) → LocalOf (element_of single c) b (element_of single c b)
-unfolding double_quoted_element
-local a c b = grind (arith, nat_tests, single_local, as_local, escape_local, plain_local)
+unfolding double_quoted_element plain_element single_quoted_element
+local a c b = grind (arith, nat_tests, escape_local)
 
 -- elements after so many characters are those of the text after them
 pub after_some : (at : ℕ → List ℕ → Option Spelled) (n : ℕ) (b : List ℕ) → elements at n b ≡ elements at 0 (drop n b)

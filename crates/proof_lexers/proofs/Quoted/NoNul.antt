@@ -1,9 +1,9 @@
 -- A body that has elements has no NUL, and a line of it begins with a marker before the closing quote just where it does in the body.
-use Rattle.proof_lexers.proofs.Common.{[], and_parts, arith, begins_with_marker, Bool, Context, drop, Element, element_of, elements, false, followed, has_document_marker, has_marker, is_document_marker, le-ltb, List, list_all, nat_lt, nothing, Option, Position, put_before, quote_of, refl, Some, Spelled, suc, true, zero, ℕ, ◌++◌, ◌∷◌, ◌≡◌}
+use Rattle.proof_lexers.proofs.Common.{[], and_parts, arith, begins_with_marker, Bool, Context, drop, Element, element_of, elements, false, followed, has_document_marker, has_marker, is_document_marker, le-ltb, List, list_all, nat_lt, nothing, Option, Position, quote_of, refl, Some, Spelled, suc, true, zero, ℕ, ◌++◌, ◌∷◌, ◌≡◌}
 use Rattle.defs_text.specs.Classes as classes
 use Rattle.proof_lexers.proofs.Bridges.{and_false, or_false}
 use Rattle.proof_lexers.specs.QuotedScan.{is_some}
-use Rattle.proof_lexers.proofs.Quoted.Turns.{no_marker, Step, StepOf}
+use Rattle.proof_lexers.proofs.Quoted.Turns.{no_marker, StepOf}
 use Rattle.proof_lexers.proofs.Quoted.Elements.{step}
 
 pub no_less : (n : ℕ) → nat_lt n 0 ≡ false
@@ -20,13 +20,9 @@ module _ (single : Bool) where
   abbrev HasNone : ℕ → List ℕ → Type 0
   HasNone n a = (es : List Element) → elements (element_of single) n a ≡ Some es → list_all is_some (drop n a) ≡ true
 
-  by_elements : (c : ℕ) (b : List ℕ) (s : Spelled) (o : Option (List Element)) (es : List Element) → elements (element_of single) s.further b ≡ o → put_before s.element o ≡ Some es → HasNone s.further b
-      → Step single outside second c b [] second nothing s → list_all is_some (c ∷ b) ≡ true
-  by_elements c b s a es k e others z = grind (arith, no_less)
-
   by_element : (c : ℕ) (b : List ℕ) (o : Option Spelled) (es : List Element) → followed o (λ n. elements (element_of single) n b) ≡ Some es → ((n : ℕ) → HasNone n b) → StepOf single outside second c b [] second nothing o
       → list_all is_some (c ∷ b) ≡ true
-  by_element c b a es e others z = grind (arith, by_elements, elements, single)
+  by_element c b a es e others z = grind (arith, no_less, elements, single)
 
   pub has_none : (n : ℕ) (a : List ℕ) → HasNone n a
   has_none zero [] es h = refl

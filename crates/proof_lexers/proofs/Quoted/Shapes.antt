@@ -1,8 +1,7 @@
 -- Each text after an opening quote is a body and its closing quote, or has none, or an escape in it is none.
-use Rattle.proof_lexers.proofs.Common.{[], and_parts, ap, append_assoc, begins_with, blank, Bool, break_further, cases_Bool, content, double_quoted_element, drop, element_of, elements, ends_before, eqb-true, escape, false, HasElements, inl, inr, line_break, List, list_all, None, not-true, Option, plain_element, quote_of, refl, single_quoted_element, Some, Spelled, suc, sym, take, take-append-drop, true, zero, ℕ, ◌++◌, ◌==◌, ◌∙◌, ◌∷◌, ◌≡◌}
+use Rattle.proof_lexers.proofs.Common.{[], and_parts, ap, append_assoc, Bool, double_quoted_element, drop, element_of, elements, ends_before, eqb-true, escape, false, HasElements, List, list_all, None, not-true, Option, plain_element, quote_of, refl, single_quoted_element, Some, Spelled, suc, sym, take, take-append-drop, true, zero, ℕ, ◌++◌, ◌==◌, ◌∙◌, ◌∷◌, ◌≡◌, arith}
 use Rattle.defs_text.specs.Classes as classes
 use Rattle.proof_lexers.specs.QuotedScan.{is_some}
-use Rattle.proof_lexers.proofs.Quoted.Turns.{spelled}
 use Rattle.proof_lexers.proofs.Quoted.Local.{Local, LocalOf, local, after_some, after_own}
 
 -- a text after an opening quote
@@ -38,23 +37,9 @@ pub data NoElement (single : Bool) (c : ℕ) (b : List ℕ) : Type 0 where
   closing : c ≡ quote_of single → ends_before single b ≡ true → NoElement single c b
   slash : single ≡ false → c ≡ 92 → escape b ≡ None → NoElement single c b
 
-plain_some : (c : ℕ) (b : List ℕ) → plain_element c b ≡ None → ⊥
-unfolding plain_element
-plain_some c b h = elim (cases_Bool (classes.is_break c)) [
-  | inl e ↦ let no : Some (spelled line_break (break_further c b)) ≡ None = rw e at h in cc
-  | inr e ↦ elim (cases_Bool (classes.is_blank c)) [ inl f ↦ let no : Some (spelled (blank c) 0) ≡ None = rw (e, f) at h in cc | inr f ↦ let no : Some (spelled (content c) 0) ≡ None = rw (e, f) at h in cc ]
-]
-
 pub no_element : (single : Bool) (c : ℕ) (b : List ℕ) → (c == 0) ≡ false → element_of single c b ≡ None → NoElement single c b
-unfolding single_quoted_element double_quoted_element classes.is_nul
-no_element true c b nul h = elim (cases_Bool (c == 39)) [
-  | inl e ↦ elim (cases_Bool (begins_with 39 b)) [ inl f ↦ let no : Some (spelled (content 39) 1) ≡ None = rw (nul, e, f) at h in cc | inr f ↦ closing (eqb-true c 39 e) (rw f refl) ]
-  | inr e ↦ absurd (plain_some c b (rw (nul, e) at h))
-]
-no_element false c b nul h = elim (cases_Bool (c == 34)) [
-  | inl e ↦ closing (eqb-true c 34 e) refl
-  | inr e ↦ elim (cases_Bool (c == 92)) [ inl f ↦ slash refl (eqb-true c 92 f) (rw (nul, e, f) at h) | inr f ↦ absurd (plain_some c b (rw (nul, e, f) at h)) ]
-]
+unfolding single_quoted_element double_quoted_element classes.is_nul plain_element
+no_element single c b nul h = grind (arith, closing, slash, eqb-true)
 
 none_shape : (single : Bool) (c : ℕ) (b : List ℕ) → NoElement single c b → Shape single (c ∷ b)
 none_shape single c b (closing q ends) = closed [] b (ap (λ x. x ∷ b) q) ([], refl) ends

@@ -18,10 +18,6 @@ no_marker c b e f = grind arith
 pub feed_is_no_marker : (a : List ℕ) → is_document_marker (10 ∷ a) ≡ false
 feed_is_no_marker a = no_marker 10 a refl refl
 
-white : (c : ℕ) → (is_break c || is_blank c) ≡ true → ((c == 45) ≡ false) × ((c == 46) ≡ false)
-unfolding is_break is_blank
-white c h = (grind (arith, nat_tests), grind (arith, nat_tests))
-
 -- within a line, no gap before the next character
 abbrev pub plain : List ℕ → Folded
 plain text = record { text = text; gap = []; leading = false; escaped = false }
@@ -101,7 +97,8 @@ module _ (single : Bool) (ctx : Context) (start : Position) where
   content_step c b r k code p t g z same full = content_by c b r k code p t z same full (begins c (b ++ r) p t g)
 
   pub white_stands : (c : ℕ) (a : List ℕ) (col : ℕ) → (is_break c || is_blank c) ≡ true → ((col == 0) && is_document_marker (c ∷ a)) ≡ false
-  white_stands c a col g = let w = white c g in rw (no_marker c a w.0 w.1) (and_false (col == 0))
+  unfolding is_break is_blank
+  white_stands c a col g = rw (no_marker c a (grind (arith, nat_tests)) (grind (arith, nat_tests))) (and_false (col == 0))
 
   blank_by : (c : ℕ) (b r : List ℕ) (p : Position) (t : Folded) → is_break c ≡ false → is_blank c ≡ true → (c == 0) ≡ false → Step c b r p t (spelled (blank c) 0)
   blank_by c b r p t f g nul = elim (cases_Bool (t.leading && (c == 9) && nat_lt (p.col + 1) ctx.indent)) [

@@ -1,5 +1,5 @@
 -- Bodies with a value are read as it.
-use Rattle.proof_lexers.proofs.Common.{after_elements, Bool, double_quoted_value, Element, element_of, elements, false, folded_elements, has_document_marker, if◌then◌else◌, joined, lines_of, List, None, nothing, Option, quote_of, quoted, QuotedBodiesAreRead, refl, shallow, single_quoted_value, Some, trimmed, true, value_of, ℕ, ◌∙◌, ◌∷◌, ◌≡◌}
+use Rattle.proof_lexers.proofs.Common.{after_elements, Bool, double_quoted_value, Element, element_of, elements, false, has_document_marker, joined, lines_of, List, nothing, quote_of, quoted, QuotedBodiesAreRead, shallow, single_quoted_value, Some, trimmed, value_of, ℕ, ◌∙◌, ◌∷◌, ◌≡◌, arith}
 use Rattle.defs_text.specs.FlowScalar.{folded}
 use Rattle.proof_lexers.specs.QuotedScan.{IsRead}
 use Rattle.proof_lexers.proofs.Fold.{buffers_join}
@@ -13,21 +13,14 @@ pub record HasElements (single : Bool) (body value : List ℕ) : Type 0 where
   pub unmarked : has_document_marker body ≡ false
   pub value_is : folded (trimmed (lines_of all)) ≡ value
 
-parts_by : (single marked : Bool) (o : Option (List Element)) (body value : List ℕ) → has_document_marker body ≡ marked → elements (element_of single) 0 body ≡ o → (if marked then None else folded_elements o) ≡ Some value → HasElements single body value
-parts_by single true o body value e f h = cc
-parts_by single false None body value e f h = cc
-parts_by single false (Some es) body value e f h = record { all = es; are = f; unmarked = e; value_is = cc }
-
 pub parts : (single : Bool) (body value : List ℕ) → value_of single body ≡ Some value → HasElements single body value
 unfolding single_quoted_value double_quoted_value
-parts true body value h = parts_by true (has_document_marker body) (elements (element_of true) 0 body) body value refl refl h
-parts false body value h = parts_by false (has_document_marker body) (elements (element_of false) 0 body) body value refl refl h
+parts single body value h = grind arith
 
 -- the value of a body of elements, of which no line begins with a marker
 pub value_is : (single : Bool) (body : List ℕ) (es : List Element) → elements (element_of single) 0 body ≡ Some es → has_document_marker body ≡ false → value_of single body ≡ Some (folded (trimmed (lines_of es)))
 unfolding single_quoted_value double_quoted_value
-value_is true body es e f = rw (e, f) refl
-value_is false body es e f = rw (e, f) refl
+value_is single body es e f = grind arith
 
 pub bodies_are_read : QuotedBodiesAreRead
 unfolding quoted

@@ -1,21 +1,14 @@
 -- Each separation is passed whole.
-use Rattle.proof_lexers.proofs.Common.{[], after_separation, and_parts, ap, begins_separation, EachSeparationIsPassed, false, has_no_nul, HasPassed, is_blank_or_end, is_nul, IsAfter, List, not, not-true, or_parts, refl, ScannerState, sym, true, ℕ, ◌++◌, ◌==◌, ◌||◌, ◌∙◌, ◌∷◌, ◌≡◌}
-use Rattle.defs_text.specs.Classes.{is_blank, is_break}
+use Rattle.proof_lexers.proofs.Common.{after_separation, ap, begins_separation, EachSeparationIsPassed, false, has_no_nul, HasPassed, is_blank_or_end, IsAfter, List, ScannerState, sym, true, ℕ, ◌++◌, ◌∙◌, ◌≡◌, arith}
 use Rattle.proof_lexers.proofs.Ends.{ends_also}
 use Rattle.proof_lexers.proofs.Separation.Separations.{separations_are_passed}
 use Rattle.proof_row.specs.Ends.{ends_separation}
+pub use Rattle.proof_row.proofs.Texts.{no_nul_after}
 use Rattle.proof_row.proofs.Separations.{separations}
 
 ends_here : (r : List ℕ) → has_no_nul r ≡ true → begins_separation r ≡ false → ends_separation r ≡ true
 unfolding is_blank_or_end
-ends_here [] n h = refl
-ends_here (c ∷ r) n h =
-    let white = or_parts (is_blank c || is_break c) (c == 35) h in
-    rw (white.0, not-true (is_nul c) (and_parts (not (is_nul c)) (has_no_nul r) n).0, white.1) refl
-
-pub no_nul_after : (a b : List ℕ) → has_no_nul (a ++ b) ≡ true → has_no_nul b ≡ true
-no_nul_after [] b h = h
-no_nul_after (c ∷ a) b h = no_nul_after a b (and_parts (not (is_nul c)) (has_no_nul (a ++ b)) h).1
+ends_here r h e = grind arith
 
 pub each_separation_is_passed : EachSeparationIsPassed
 each_separation_is_passed s separation rest nul is ends = ends_also passed (λ f why. why) (separations_are_passed s (separation ++ rest))

@@ -36,11 +36,8 @@ stayed s rest = same_after s rest s.leading s.position s.position s.key_allowed 
 
 -- ---- what a character adds
 
-pub same_allowed : (s : Held) (c : ℕ) (a : List ℕ) → classes.is_break c ≡ false → Allows s c s.key_allowed a
-same_allowed s c a e separation rest cut ends = rw e refl
-
 pub line_allowed : (s : Held) (c : ℕ) (a : List ℕ) → classes.is_break c ≡ true → Allows s c (not (in_flow s) || s.key_allowed) a
-line_allowed s c a e separation rest cut ends = rw e (elim (cases_Bool (in_flow s)) [ inl f ↦ rw f refl | inr f ↦ rw (f, or-true (has_break separation)) refl ])
+line_allowed s c a e separation rest cut ends = grind (arith, or-true)
 
 -- of CR LF the LF is a break
 pub feed_allowed : (s : Held) (c : ℕ) (a : List ℕ) → classes.is_break c ≡ true → is_before_line_feed c a ≡ true → Allows s c s.key_allowed a
@@ -99,7 +96,7 @@ module _ {M : Type 0} (in_comment : M → Bool) (begins : List ℕ → Bool) (no
   pub on_line : (m n : M) (s : Held) (c : ℕ) (a : List ℕ) (b : Bool) → is_break c ≡ false → Fills m n c → Keeps m n s c a b s.key_allowed → WalksOn a → Walks m s (c ∷ a) (go n a (at s (past s.position) b s.key_allowed))
   on_line m n s c a b e fills keeps ih =
       let still : classes.is_break c ≡ false = same_break c ∙ e in
-      one_more m n s c a b s.key_allowed (past s.position) (in_line_position c a s.position (rw still refl)) fills (same_allowed s c a still) keeps ih
+      one_more m n s c a b s.key_allowed (past s.position) (in_line_position c a s.position (rw still refl)) fills (λ separation rest cut ends. rw still refl) keeps ih
 
   -- a break, from anywhere
   pub broken : (m n : M) (s : Held) (c : ℕ) (a : List ℕ) → is_break c ≡ true → in_comment n ≡ false → ((b k : Bool) → Keeps m n s c a b k) → WalksOn a → Walks m s (c ∷ a) (go n a (at_break c a s))
@@ -149,7 +146,7 @@ data Kind (c : ℕ) : Type 0 where
   token : is_blank c ≡ false → (c == 35) ≡ false → Kind c
 
 kind : (c : ℕ) → Kind c
-kind c = elim (cases_Bool (is_blank c)) [ inl e ↦ blank e | inr e ↦ elim (cases_Bool (c == 35)) [ inl f ↦ hash e f | inr f ↦ token e f ] ]
+kind c = grind (arith, blank, hash, token)
 
 no_separation : (c : ℕ) → is_break c ≡ false → is_blank c ≡ false → (c == 35) ≡ false → (is_white c || (c == 35)) ≡ false
 no_separation c e f g = rw (same_blank c, same_break c, e, f, g) refl

@@ -1,5 +1,5 @@
 -- What the model passes after a `?` is a separation.
-use Rattle.proof_lexers.proofs.Common.{[], after_separation, ap, At, begins_white_space, begins_with, Bool, cases_Bool, false, Fault, has_break, Held, inl, inr, is_blank, is_break, is_separation, List, misses, moved, not, not-true, or_parts, position_after, position_past, reads, refl, refuses, Result, ScannerState, sym, true, white, white_end, WhiteSpaceIsPassed, ℕ, ◌++◌, ◌==◌, ◌||◌, ◌∙◌, ◌∷◌, ◌≡◌, subst}
+use Rattle.proof_lexers.proofs.Common.{[], after_separation, ap, At, begins_white_space, begins_with, Bool, cases_Bool, false, Fault, has_break, Held, inl, inr, is_blank, is_break, is_separation, List, misses, moved, not, not-true, position_after, position_past, reads, refl, refuses, Result, ScannerState, sym, true, white, white_end, WhiteSpaceIsPassed, ℕ, ◌++◌, ◌==◌, ◌||◌, ◌∙◌, ◌∷◌, ◌≡◌, subst, arith}
 use Rattle.yaml_tokens.specs.declared.problem.Problem.TheVariants as problem
 use Rattle.defs_text.specs.Classes as classes
 use Rattle.proof_lexers.proofs.Bridges.{same_break}
@@ -8,8 +8,7 @@ use Rattle.proof_lexers.proofs.Plain.Turns.{or_true}
 use Rattle.proof_lexers.proofs.Separation.Separations.{stayed, Walks, gone, failed, WalksOn, Fills, Keeps, on_line, broken, fills_break, fills_comment, fills_hash, fills_blank}
 
 no_break_at : (rest : List ℕ) → begins_white_space rest ≡ false → begins_break rest ≡ false
-no_break_at [] h = refl
-no_break_at (c ∷ r) h = (or_parts (c == 32) (classes.is_break c) (or_parts ((c == 32) || classes.is_break c) (c == 35) h).0).1
+no_break_at r h = grind arith
 
 -- Neither a space nor a break stands there, nor after a comment. A mode says whether it is in a comment, and whether it is after a space or a break.
 data Misses (m : Bool × Bool) (s : Held) (a : List ℕ) : Fault → Type 0 where

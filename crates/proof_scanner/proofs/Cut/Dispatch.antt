@@ -1,15 +1,11 @@
 -- The next token by its first characters.
-use Rattle.proof_scanner.proofs.Common.{row, and_false, ap, are_single, arith, At, begins_flow, begins_separation, Bool, class_of, comes_marker, comes_plain, eqb-true, Err, false, Fault, fetch_anchor, fetch_block_entry, fetch_block_scalar, fetch_content, fetch_directive, fetch_document_end, fetch_document_marker, fetch_first_column, fetch_flow_collection_end, fetch_flow_collection_start, fetch_flow_entry, fetch_flow_scalar, fetch_indented, fetch_key, fetch_plain_scalar, fetch_tag, fetch_token, fetch_value, has_no_nul, if◌then◌else◌, in_flow, is_at_gap, is_blank_or_breakz, is_document_marker, is_empty, is_literal, is_value, is_value_indicator, is_white, List, mark_of, may_begin, NameKind, nat_lt, not, peek, quote_of, Quotes, refl, Result, same_gap, ScannerState, slice_index, sym, Tok, token_by, true, ℕ, ◌&&◌, ◌+◌, ◌==◌, ◌||◌, ◌∙◌, ◌∷◌, ◌≡◌, nat_tests}
+use Rattle.proof_scanner.proofs.Common.{row, [], codes, and_false, ap, are_single, arith, At, begins_separation, Bool, class_of, comes_marker, comes_plain, eqb-true, Err, false, Fault, fetch_anchor, fetch_block_entry, fetch_block_scalar, fetch_content, fetch_directive, fetch_document_end, fetch_document_marker, fetch_first_column, fetch_flow_collection_end, fetch_flow_collection_start, fetch_flow_entry, fetch_flow_scalar, fetch_indented, fetch_key, fetch_plain_scalar, fetch_tag, fetch_token, fetch_value, has_no_nul, if◌then◌else◌, in_flow, is_at_gap, is_blank_or_breakz, is_document_marker, is_empty, is_literal, is_value, is_value_indicator, is_white, List, mark_of, may_begin, NameKind, nat_lt, not, peek, quote_of, Quotes, refl, Result, same_gap, ScannerState, slice_index, sym, Tok, token_by, true, ℕ, ◌&&◌, ◌+◌, ◌==◌, ◌||◌, ◌∙◌, ◌∷◌, ◌≡◌, nat_tests, InvalidIndentation, UnexpectedAt, UnexpectedBacktick, UnexpectedPercent, Alias, Anchor}
 use Rattle.yaml_chars.specs.Class.{is_blank, is_break, is_flow}
 use Rattle.defs_text.specs.Classes as classes
-use Rattle.yaml_tokens.specs.declared.problem.Problem.TheVariants as problem
 use Rattle.model_scanner.specs.declared.kind.BlockStyle.{BlockStyle}
-use Rattle.model_scanner.specs.declared.kind.BlockStyle.TheVariants.{Literal, Folded}
 use Rattle.model_scanner.specs.declared.kind.Collection.TheVariants.{Sequence, Mapping}
-use Rattle.model_scanner.specs.declared.kind.NameKind.TheVariants.{Alias, Anchor}
 use Rattle.model_scanner.specs.declared.kind.Quotes.TheVariants.{Single, Double}
 use Rattle.proof_lexers.proofs.Bridges.{same_flow}
-use Rattle.proof_scanner.proofs.Cut.Characters.{Ordinary}
 use Rattle.proof_scanner.proofs.Cut.Nodes.{IsDeep}
 use Rattle.model_scanner.specs.State.{after}
 use Rattle.proof_scanner.proofs.Cut.Fetched.{Marked, marked, no_marker}
@@ -20,14 +16,25 @@ pub gap_here : (m : List ℕ) → is_blank_or_breakz (slice_index m 0) ≡ is_at
 unfolding is_blank is_break
 gap_here a = grind (arith, same_gap)
 
-flow_here : (m : List ℕ) → is_flow (slice_index m 0) ≡ begins_flow m
-unfolding is_flow
-flow_here a = grind (arith, same_flow)
+-- the characters that have a case of their own: NUL, blanks, breaks and indicators
+abbrev told : List ℕ
+told = 0 ∷ codes " \t\n\r#-?:,[]{}*&!|>'\"%@`"
 
--- every other character begins a plain scalar
-other_begins : (fl adjacent : Bool) (c : ℕ) (more : List ℕ) → Ordinary c → (if c == 45 then not (is_at_gap more) else may_begin fl adjacent c more) ≡ true
-unfolding classes.is_blank_or_end classes.is_blank classes.is_break classes.is_nul classes.is_flow
-other_begins fl adjacent c more o = grind arith
+abbrev AllOf : (P : ℕ → Type 0) → List ℕ → Type 0
+AllOf P [] = Unit {0}
+AllOf P (d ∷ ds) = P d × AllOf P ds
+
+also : {A B : Type 0} → A → B → A × B
+also a b = (a, b)
+
+-- a character is none of some
+abbrev IsNone : List ℕ → ℕ → Type 0
+IsNone ds c = AllOf (λ d. (c == d) ≡ false) ds
+
+-- what is so of each of some characters, and of every other one, is so of each character
+each_of : (P : ℕ → Type 0) (c : ℕ) (ds : List ℕ) → AllOf P ds → (IsNone ds c → P c) → P c
+each_of P c [] all other = other tt
+each_of P c (d ∷ ds) all other = row c d P all.0 (λ e. each_of P c ds all.1 (λ f. other (e, f)))
 
 -- What is so of what the function of each token gives, where it is called, and of the three refusals; whether a colon may stand next to what stands before is known.
 pub record TokensHold (Q : Result ScannerState Fault → Type 0) (t : ScannerState) (adjacent : Bool) : Type 0 where
@@ -44,17 +51,17 @@ pub record TokensHold (Q : Result ScannerState Fault → Type 0) (t : ScannerSta
   pub close_bracket : (more : List ℕ) → t.rest ≡ 93 ∷ more → Q (fetch_flow_collection_end Sequence t)
   pub close_brace : (more : List ℕ) → t.rest ≡ 125 ∷ more → Q (fetch_flow_collection_end Mapping t)
   pub comma : (more : List ℕ) → t.rest ≡ 44 ∷ more → Q (fetch_flow_entry t)
-  pub percent : (more : List ℕ) → t.rest ≡ 37 ∷ more → Q (Err (At problem.UnexpectedPercent t.held.position))
-  pub at_sign : (more : List ℕ) → t.rest ≡ 64 ∷ more → Q (Err (At problem.UnexpectedAt t.held.position))
-  pub backtick : (more : List ℕ) → t.rest ≡ 96 ∷ more → Q (Err (At problem.UnexpectedBacktick t.held.position))
+  pub percent : (more : List ℕ) → t.rest ≡ 37 ∷ more → Q (Err (At UnexpectedPercent t.held.position))
+  pub at_sign : (more : List ℕ) → t.rest ≡ 64 ∷ more → Q (Err (At UnexpectedAt t.held.position))
+  pub backtick : (more : List ℕ) → t.rest ≡ 96 ∷ more → Q (Err (At UnexpectedBacktick t.held.position))
 
 gap_after : (t : ScannerState) (c : ℕ) (more : List ℕ) (gap : Bool) → t.rest ≡ c ∷ more → is_at_gap more ≡ gap → is_blank_or_breakz (slice_index t.rest 1) ≡ gap
 gap_after t c more gap e g = ap (λ l. is_blank_or_breakz (slice_index l 1)) e ∙ gap_here more ∙ g
 
 -- whether a colon is the indicator of a value, the model and the definition say alike
 pub value_is : (t : ScannerState) (adjacent : Bool) (more : List ℕ) → t.rest ≡ 58 ∷ more → (is_empty t.held.flow ≡ false → (t.held.position.index == t.held.adjacent_value_at) ≡ adjacent) → is_value t ≡ is_value_indicator (not (is_empty t.held.flow)) adjacent more
-unfolding is_value
-value_is t adjacent more e now = grind (arith, nat_tests, eqb-true, gap_after, flow_here)
+unfolding is_value is_flow
+value_is t adjacent more e now = grind (arith, nat_tests, eqb-true, gap_after, same_flow)
 
 -- ---- the token by its first character
 
@@ -67,16 +74,12 @@ module _ (Q : Result ScannerState Fault → Type 0) (t : ScannerState) (adjacent
   plain_here : (c : ℕ) (more : List ℕ) → t.rest ≡ c ∷ more → (if c == 45 then not (is_at_gap more) else may_begin (in_flow t.held) adjacent c more) ≡ true → Q (fetch_plain_scalar t)
   plain_here c more e g = grind (arith, nat_tests, eqb-true)
 
-  -- ---- characters that begin no token
-
   no_separation : (c : ℕ) → (is_white c || (c == 35)) ≡ true → Reads c
   no_separation c h more e = absurd (cc (h, ap begins_separation (sym e) ∙ solid))
 
   no_nul : Reads 0
   unfolding classes.is_nul
   no_nul more e = let none : has_no_nul (0 ∷ more) ≡ true = ap has_no_nul (sym e) ∙ clean in absurd (cc none)
-
-  -- ---- indicators
 
   dash : Reads 45
   unfolding class_of
@@ -91,81 +94,29 @@ module _ (Q : Result ScannerState Fault → Type 0) (t : ScannerState) (adjacent
   colon more e = grind (arith, nat_tests, eqb-true, plain_here, value_is)
 
   -- an indicator outside flow, which in flow begins a plain scalar
-  block_or_plain : (style : BlockStyle) (c : ℕ) (more : List ℕ) → t.rest ≡ c ∷ more → c ≡ (if is_literal style then 124 else 62)
-      → (in_flow t.held ≡ true → (if c == 45 then not (is_at_gap more) else may_begin (in_flow t.held) adjacent c more) ≡ true)
-      → Q (if in_flow t.held then fetch_plain_scalar t else fetch_block_scalar style t)
-  block_or_plain style c more e is may = by (is_empty t.held.flow) refl
-    where
-      by : (out : Bool) → is_empty t.held.flow ≡ out → Q (if not out then fetch_plain_scalar t else fetch_block_scalar style t)
-      by a o = grind (arith, plain_here)
-
   bar : Reads 124
   unfolding class_of
-  bar more e = block_or_plain Literal 124 more e refl (λ f. f)
+  bar more e = grind (arith, plain_here)
 
   greater : Reads 62
   unfolding class_of
-  greater more e = block_or_plain Folded 62 more e refl (λ f. f)
+  greater more e = grind (arith, plain_here)
 
-  -- ---- all characters
-
-  white : (c : ℕ) → is_white c ≡ true → Reads c
-  white c h = no_separation c (rw h refl)
-
-  space : Reads 32
-  unfolding classes.is_blank
-  space = white 32 refl
-
-  tab : Reads 9
-  unfolding classes.is_blank
-  tab = white 9 refl
-
-  feed : Reads 10
-  unfolding classes.is_break classes.is_blank
-  feed = white 10 refl
-
-  carriage : Reads 13
-  unfolding classes.is_break classes.is_blank
-  carriage = white 13 refl
-
-  hash : Reads 35
-  unfolding classes.is_break classes.is_blank
-  hash = no_separation 35 refl
-
-  other : (c : ℕ) → Ordinary c → Reads c
+  is_plain : (c : ℕ) → IsNone told c → token_by (class_of c) t ≡ fetch_plain_scalar t
   unfolding class_of
-  other c o more e =
-      rw (o.e0, o.e32, o.e9, o.e10, o.e13, o.e35, o.e45, o.e63, o.e58, o.e44, o.e91, o.e93, o.e123, o.e125, o.e42, o.e38, o.e33, o.e124, o.e62, o.e39, o.e34, o.e37, o.e64, o.e96)
-      (plain_here c more e (other_begins (in_flow t.held) adjacent c more o))
+  is_plain c o = grind arith
+
+  other : (c : ℕ) → IsNone told c → Reads c
+  unfolding classes.is_blank_or_end classes.is_blank classes.is_break classes.is_nul classes.is_flow
+  other c o more e = rw (is_plain c o) (plain_here c more e (grind arith))
 
   each : (c : ℕ) → Reads c
-  unfolding class_of
+  unfolding class_of classes.is_blank classes.is_break
   each c =
-      row c 0 Reads no_nul (λ e0.
-      row c 32 Reads space (λ e32.
-      row c 9 Reads tab (λ e9.
-      row c 10 Reads feed (λ e10.
-      row c 13 Reads carriage (λ e13.
-      row c 35 Reads hash (λ e35.
-      row c 45 Reads dash (λ e45.
-      row c 63 Reads question (λ e63.
-      row c 58 Reads colon (λ e58.
-      row c 44 Reads h.comma (λ e44.
-      row c 91 Reads h.open_bracket (λ e91.
-      row c 93 Reads h.close_bracket (λ e93.
-      row c 123 Reads h.open_brace (λ e123.
-      row c 125 Reads h.close_brace (λ e125.
-      row c 42 Reads (h.anchor Alias) (λ e42.
-      row c 38 Reads (h.anchor Anchor) (λ e38.
-      row c 33 Reads h.tag (λ e33.
-      row c 124 Reads bar (λ e124.
-      row c 62 Reads greater (λ e62.
-      row c 39 Reads (h.quoted Single) (λ e39.
-      row c 34 Reads (h.quoted Double) (λ e34.
-      row c 37 Reads h.percent (λ e37.
-      row c 64 Reads h.at_sign (λ e64.
-      row c 96 Reads h.backtick (λ e96.
-      other c (record { e0 = e0; e32 = e32; e9 = e9; e10 = e10; e13 = e13; e35 = e35; e45 = e45; e63 = e63; e58 = e58; e44 = e44; e91 = e91; e93 = e93; e123 = e123; e125 = e125; e42 = e42; e38 = e38; e33 = e33; e124 = e124; e62 = e62; e39 = e39; e34 = e34; e37 = e37; e64 = e64; e96 = e96 })))))))))))))))))))))))))
+      each_of Reads c told (also no_nul (also (no_separation 32 refl) (also (no_separation 9 refl) (also (no_separation 10 refl)
+      (also (no_separation 13 refl) (also (no_separation 35 refl) (also dash (also question (also colon (also h.comma (also h.open_bracket
+      (also h.close_bracket (also h.open_brace (also h.close_brace (also (h.anchor Alias) (also (h.anchor Anchor) (also h.tag (also bar
+      (also greater (also (h.quoted Single) (also (h.quoted Double) (also h.percent (also h.at_sign (also h.backtick tt)))))))))))))))))))))))) (other c)
 
   pub token_holds : is_empty t.rest ≡ false → Q (fetch_token t)
   unfolding fetch_token
@@ -182,7 +133,7 @@ pub record ContentHolds (Q : Result ScannerState Fault → Type 0) (t : ScannerS
   pub directive : t.rest ≡ 37 ∷ after t.rest → t.held.position.col ≡ 0 → Q (fetch_directive t)
   pub document_start : (more : List ℕ) → t.rest ≡ 45 ∷ 45 ∷ 45 ∷ more → is_at_gap more ≡ true → t.held.position.col ≡ 0 → Q (fetch_document_marker Tok.document_start t)
   pub document_end : (more : List ℕ) → t.rest ≡ 46 ∷ 46 ∷ 46 ∷ more → is_at_gap more ≡ true → t.held.position.col ≡ 0 → Q (fetch_document_end t)
-  pub shallow : IsNoLine t → nat_lt (t.held.position.col + 1) t.held.indent ≡ true → Q (Err (At problem.InvalidIndentation t.held.position))
+  pub shallow : IsNoLine t → nat_lt (t.held.position.col + 1) t.held.indent ≡ true → Q (Err (At InvalidIndentation t.held.position))
   pub token : IsNoLine t → IsDeep t.held → Q (fetch_token t)
 
 pub content_holds : (Q : Result ScannerState Fault → Type 0) (t : ScannerState) → is_empty t.rest ≡ false → ContentHolds Q t → Q (fetch_content t)

@@ -1,3 +1,2 @@
 pub mod Fetches
-pub mod Reasons
 pub mod Shown

@@ -1,5 +1,5 @@
 -- What the first characters of a text say: the text goes on, or a document marker stands there.
-use Rattle.proof_scanner.proofs.Common.{[], are_marks, arith, begins_with, comes_marker, false, has_no_nul, is_at_gap, is_blank_or_breakz, is_document_marker, is_empty, is_nul, List, nat_tests, peek, same_gap, slice_index, true, ℕ, ◌==◌, ◌∷◌, ◌≡◌}
+use Rattle.proof_scanner.proofs.Common.{[], are_marks, arith, begins_with, comes_marker, false, has_no_nul, is_at_gap, is_document_marker, is_empty, is_nul, List, nat_tests, peek, same_gap, true, ℕ, ◌==◌, ◌∷◌, ◌≡◌}
 use Rattle.yaml_chars.specs.Class.{is_blank, is_break}
 
 -- ---- keys that are too far back
@@ -8,10 +8,6 @@ use Rattle.yaml_chars.specs.Class.{is_blank, is_break}
 pub begins_here : (c : ℕ) (r : List ℕ) → (0 == c) ≡ false → (peek r == c) ≡ begins_with c r
 begins_here c a b = grind arith
 
-is_gap_after : (more : List ℕ) → is_at_gap more ≡ is_blank_or_breakz (slice_index more 0)
-unfolding is_blank is_break
-is_gap_after a = grind (arith, same_gap)
-
 -- the text after a document marker of a character
 pub record Marked (c : ℕ) (a : List ℕ) : Type 0 where
   pub more : List ℕ
@@ -19,15 +15,15 @@ pub record Marked (c : ℕ) (a : List ℕ) : Type 0 where
   pub gap : is_at_gap more ≡ true
 
 pub marked : (c : ℕ) (a : List ℕ) → (0 == c) ≡ false → comes_marker c a ≡ true → Marked c a
-unfolding comes_marker
+unfolding comes_marker is_blank is_break
 marked c [] z h = grind arith
 marked c (x ∷ []) z h = grind arith
 marked c (x ∷ y ∷ []) z h = grind arith
-marked c (x ∷ y ∷ z ∷ more) n h = grind (arith, nat_tests, is_gap_after)
+marked c (x ∷ y ∷ z ∷ more) n h = grind (arith, nat_tests, same_gap)
 
 pub no_marker : (a : List ℕ) → comes_marker 45 a ≡ false → comes_marker 46 a ≡ false → is_document_marker a ≡ false
-unfolding comes_marker are_marks
-no_marker b h k = grind (arith, is_gap_after)
+unfolding comes_marker are_marks is_blank is_break
+no_marker b h k = grind (arith, same_gap)
 
 -- ---- the next token
 

@@ -1,7 +1,6 @@
 -- What the model passes between tokens.
-use Rattle.proof_scanner.proofs.Common.{are_spaces, begins_white_space, ends_spaces, false, Fault, go_on, HasPassed, HasSpaces, Holds, is_separation, lexed, List, position_after, Read, read, read_as, refl, refused, Result, ScannerState, skip_spaces, skip_yaml_whitespace, SkipTabs, space, spaces, spaces_are_passed, true, went, white_space_is_passed, Whitespace, ℕ, ◌++◌, ◌≡◌, nat_tests, eqb-true, arith}
+use Rattle.proof_scanner.proofs.Common.{are_spaces, begins_white_space, ends_spaces, false, Fault, go_on, HasPassed, HasSpaces, Holds, is_separation, lexed, List, position_after, Read, read, read_as, refl, refused, Result, ScannerState, skip_spaces, skip_yaml_whitespace, SkipTabs, space, spaces, spaces_are_passed, true, went, white_space_is_passed, Whitespace, ℕ, ◌++◌, ◌≡◌, nat_tests, eqb-true, arith, EndsAs}
 use Rattle.proof_lexers.specs.PlainEnds.{has_break}
-use Rattle.proof_lexers.specs.Ends.{EndsAs}
 
 -- of a scan that ends as its text says, what was read
 pub read_holds : {A : Type 0} {Reads : A → Type 0} {Why : Fault → Type 0} {x : Result A Fault} → EndsAs Reads Why x → Holds Reads x

@@ -1,29 +1,13 @@
 -- Of two reasons why a quoted scalar is refused at a place that both come first, kind and position are the same.
-use Rattle.proof_scanner.proofs.Common.{[], ap, append-nil, are_indented, AreNotIndented, begins_separation, begins_solid, begins_with, Bool, closed_first, content, Element, false, GoesOn, has_break, has_marker, has_no_nul, HasNoQuoted, is_empty, is_indented_by_spaces, is_separation, IsNotQuoted, IsQuoted, IsQuotedFault, lines_first, List, nat_lt, no_nul_after, off_margin, past, Position, position_after, Problem, quoted_first, quoted_may_end, quoted_scalar, refl, separations, subst, sym, tab, true, within, ℕ, ◌++◌, ◌∙◌, ◌∷◌, ◌≡◌, arith, nat_tests, eqb-true, elements, element_of, LineStand, past_elements, Some}
+use Rattle.proof_scanner.proofs.Common.{[], inl, inr, ◌⊎◌, arith, if◌then◌else◌, ap, append-nil, are_indented, AreNotIndented, begins_separation, begins_with, Bool, closed_first, content, Element, false, GoesOn, has_break, has_marker, has_no_nul, HasNoQuoted, is_indented_by_spaces, is_separation, IsNotQuoted, IsQuoted, IsQuotedFault, lines_first, List, nat_lt, no_nul_after, off_margin, past, Position, position_after, Problem, quoted_first, quoted_scalar, refl, separations, subst, sym, tab, true, within, ℕ, ◌++◌, ◌∙◌, ◌∷◌, ◌≡◌, arith, nat_tests, eqb-true, elements, element_of, LineStand, past_elements, Some, CommentNotSeparated, ContentAfterQuoted, TabAsIndentation, TabInBlockIndentation, further_is_no_break}
 use Rattle.defs_text.specs.Classes as classes
-use Rattle.yaml_tokens.specs.declared.problem.Problem.TheVariants as problem
 use Rattle.proof_row.proofs.Quotes.{singles, doubles}
 use Rattle.proof_scanner.specs.NoPiece as none
 use Rattle.proof_scanner.specs.NoPiece.{quote_of}
 use Rattle.proof_scanner.specs.QuotedLines as lines
 use Rattle.proof_scanner.proofs.Known.Places.{ends_before}
 use Rattle.proof_scanner.proofs.Sound.Passed.{same_has_break}
-use Rattle.proof_scanner.proofs.Refusals.QuotedCuts.{one_reason, walk_of}
-use Rattle.proof_scanner.proofs.Refusals.QuotedElements.{after_quote_at}
-use Rattle.proof_scanner.proofs.Refusals.QuotedReasons.{all_stand, indented_are, is_marked, by_end, by_escape, by_column, by_tab, by_marker, placed, Place, Wrong, Reason}
-use Rattle.proof_row.proofs.Columns.{further_is_no_break}
-
--- A reason why a quoted scalar is refused that begins with a text at a position, or what follows it; and what is so before.
-pub data QuotedReason (in_flow : Bool) (least : ℕ) (blocks : List ℕ) (awaits : Bool) (here : Position) (rest : List ℕ) : Problem → Position → Type 0 where
-  unquoted : (single : Bool) (more : List ℕ) (why : Problem) → rest ≡ quote_of single ∷ more → HasNoQuoted single rest → (n : IsNotQuoted single more why) → quoted_first single least more why n → QuotedReason in_flow least blocks awaits here rest why here
-  no_quoted : (single : Bool) (why : Problem) (at : Position) → AreNotIndented single least rest → (n : IsQuotedFault single least here rest why at) → lines_first single least here rest why at n → QuotedReason in_flow least blocks awaits here rest why at
-  glued_to_quoted : (single : Bool) (piece more : List ℕ) → rest ≡ piece ++ more → IsQuoted single piece more → begins_with 35 more ≡ true → closed_first single least piece
-      → QuotedReason in_flow least blocks awaits here rest problem.CommentNotSeparated (position_after here piece more)
-  after_quoted : (single : Bool) (piece more passed content : List ℕ) → rest ≡ piece ++ more → IsQuoted single piece more → quoted_may_end in_flow piece more ≡ false → GoesOn more passed content → begins_separation content ≡ false
-      → closed_first single least piece × (begins_with 35 more ≡ false) → QuotedReason in_flow least blocks awaits here rest problem.ContentAfterQuoted (position_after (position_after here piece more) passed content)
-  tab_after_quoted : (single : Bool) (piece gap content : List ℕ) → rest ≡ piece ++ (gap ++ content) → IsQuoted single piece (gap ++ content) → is_separation false gap content ≡ true → is_empty content ≡ false → begins_separation content ≡ false
-      → is_indented_by_spaces quoted_scalar blocks awaits gap ≡ false → closed_first single least piece × (begins_with 35 (gap ++ content) ≡ false)
-      → QuotedReason in_flow least blocks awaits here rest problem.TabInBlockIndentation (position_after (position_after here piece (gap ++ content)) gap content)
+use Rattle.proof_scanner.proofs.Refusals.QuotedReasons.{one_reason, walk_of, after_quote_at, all_stand, indented_are, is_marked, by_end, by_escape, by_column, by_tab, by_marker, placed, Place, Wrong, Reason}
 
 -- ---- the quote
 
@@ -36,21 +20,25 @@ begins_quoted false rest piece next e is = ((is.1.0 ++ 34 ∷ []) ++ next, e ∙
 one_end : (single : Bool) (p q x y : List ℕ) → IsQuoted single p x → IsQuoted single q y → p ++ x ≡ q ++ y → (p ≡ q) × (x ≡ y)
 one_end a p q x y h k e = grind (arith, nat_tests, eqb-true, singles, doubles)
 
-solid_no_feed : (r : List ℕ) → begins_solid r ≡ true → begins_with 10 r ≡ false
-unfolding classes.is_break classes.is_blank
-solid_no_feed r h = grind arith
+module _ (least : ℕ) (here : Position) (rest : List ℕ) where
+  -- ---- the reasons
 
-module _ (in_flow : Bool) (least : ℕ) (blocks : List ℕ) (awaits : Bool) (here : Position) (rest : List ℕ) where
-  -- ---- what follows a quoted scalar
+  -- What is wrong after a quoted scalar: a comment right after it; or after a separation text on the line, or a TAB on a later one.
+  abbrev After : (piece next : List ℕ) → Problem → Position → Type 0
+  After piece next why at =
+      ((begins_with 35 next ≡ true) × (why ≡ CommentNotSeparated) × (at ≡ position_after here piece next)) ⊎
+      ((begins_with 35 next ≡ false) × (p : List ℕ) × (x : List ℕ) × (next ≡ p ++ x) × (is_separation false p x ≡ true) × (begins_separation x ≡ false) ×
+      (why ≡ (if has_break p then TabInBlockIndentation else ContentAfterQuoted)) × (at ≡ position_after (position_after here piece next) p x))
 
-  -- text on the line, or a TAB on a later one
-  abbrev gap_problem : (broken : Bool) → Problem
-  gap_problem true = problem.TabInBlockIndentation
-  gap_problem false = problem.ContentAfterQuoted
+  -- A quoted scalar does not come to its end, or it does and what follows it is wrong.
+  abbrev Sorted : (single : Bool) (more : List ℕ) → Problem → Position → Type 0
+  Sorted single more why at =
+      (Reason single least here within (past here) more why at × ((piece next : List ℕ) → rest ≡ piece ++ next → IsQuoted single piece next → closed_first single least piece → ⊥)) ⊎
+      ((piece : List ℕ) × (next : List ℕ) × (rest ≡ piece ++ next) × IsQuoted single piece next × closed_first single least piece × After piece next why at)
 
-  data After (piece next : List ℕ) : Problem → Position → Type 0 where
-    glued : begins_with 35 next ≡ true → After piece next problem.CommentNotSeparated (position_after here piece next)
-    beyond : (p x : List ℕ) → next ≡ p ++ x → is_separation false p x ≡ true → begins_separation x ≡ false → begins_with 35 next ≡ false → After piece next (gap_problem (has_break p)) (position_after (position_after here piece next) p x)
+  -- Why a quoted scalar is refused that begins with a text at a position, or what follows it; and what is so before.
+  abbrev pub QuotedReason : Problem → Position → Type 0
+  QuotedReason why at = (single : Bool) × (more : List ℕ) × (rest ≡ quote_of single ∷ more) × Sorted single more why at
 
   module _ (piece next : List ℕ) (clean : has_no_nul next ≡ true) where
     -- a separation has one end
@@ -58,19 +46,7 @@ module _ (in_flow : Bool) (least : ℕ) (blocks : List ℕ) (awaits : Bool) (her
     one_gap p q x y e f h k m n = separations p q x y (h, ends_before x m (no_nul_after p x (ap has_no_nul (sym e) ∙ clean))) (k, ends_before y n (no_nul_after q y (ap has_no_nul (sym f) ∙ clean))) (sym e ∙ f)
 
     one_after : (why1 why2 : Problem) (at1 at2 : Position) → After piece next why1 at1 → After piece next why2 at2 → (why1 ≡ why2) × (at1 ≡ at2)
-    one_after why1 why2 at1 at2 (glued h) (glued k) = (refl, refl)
-    one_after why1 why2 at1 at2 (glued h) (beyond p x e g m k) = absurd (cc (h, k))
-    one_after why1 why2 at1 at2 (beyond p x e g m k) (glued h) = absurd (cc (h, k))
-    one_after why1 why2 at1 at2 (beyond p x e g m k) (beyond q y f h n l) =
-        let same = one_gap p q x y e f g h m n in
-        (ap (λ z. gap_problem (has_break z)) same.0, ap (λ z. position_after (position_after here piece next) z x) same.0 ∙ ap (λ z. position_after (position_after here piece next) q z) same.1)
-
-  -- ---- all
-
-  -- A quoted scalar does not come to its end, or it does and what follows it is wrong.
-  data Sorted (single : Bool) (more : List ℕ) : Problem → Position → Type 0 where
-    fails : (why : Problem) (at : Position) → Reason single least here within (past here) more why at → ((piece next : List ℕ) → rest ≡ piece ++ next → IsQuoted single piece next → closed_first single least piece → ⊥) → Sorted single more why at
-    closes : (piece next : List ℕ) (why : Problem) (at : Position) → rest ≡ piece ++ next → IsQuoted single piece next → closed_first single least piece → After piece next why at → Sorted single more why at
+    one_after why1 why2 at1 at2 x y = grind (arith, one_gap)
 
   module _ (single : Bool) (more : List ℕ) where
     indented : (es : List Element) → are_indented least es ≡ true → all_stand least within (past here).col (es ++ []) ≡ true
@@ -91,58 +67,57 @@ module _ (in_flow : Bool) (least : ℕ) (blocks : List ℕ) (awaits : Bool) (her
         walked why here false (content 92 ∷ []) has.0 body (92 ∷ r) e refl has.1 (sym (indented_are least (past here).col (has.0 ++ content 92 ∷ [])) ∙ first.1) first.0 (λ t q x h n. absurd (cc n)) (λ f n. by_escape r why double refl bad f)
 
     by_lines : rest ≡ quote_of single ∷ more → (why : Problem) (at : Position) (n : IsQuotedFault single least here rest why at) → lines_first single least here rest why at n → Reason single least here within (past here) more why at
+    unfolding classes.is_break classes.is_blank
     by_lines whole why at (lines.by_column body r es e are solid further low) first =
         let all : quote_of single ∷ more ≡ quote_of single ∷ (body ++ r) = sym whole ∙ e in
-        walked why at false [] es body r (cc all) (solid_no_feed r solid) are (indented es first.1) first.0 (λ t q x h n. absurd (cc n)) (λ f n. by_column solid further (ap (λ (q : Position). nat_lt q.col least) (sym (after_quote_at single here body r)) ∙ low))
+        walked why at false [] es body r (cc all) (grind arith) are (indented es first.1) first.0 (λ t q x h n. absurd (cc n)) (λ f n. by_column solid further (ap (λ (q : Position). nat_lt q.col least) (sym (after_quote_at single here body r)) ∙ low))
     by_lines whole why at (lines.by_tab body r es e are further low) first =
         let all : quote_of single ∷ more ≡ quote_of single ∷ (body ++ tab ∷ r) = sym whole ∙ e in
         let there = after_quote_at single here body (tab ∷ r) in
-        subst (λ q. Reason single least here within (past here) more problem.TabAsIndentation q) (sym there)
-        (walked problem.TabAsIndentation _ false [] es body (tab ∷ r) (cc all) refl are (indented es first.1) first.0 (λ t q x h n. absurd (cc n)) (λ f n. by_tab r refl further (ap (λ (q : Position). nat_lt q.col least) (sym there) ∙ low)))
+        subst (λ q. Reason single least here within (past here) more TabAsIndentation q) (sym there)
+        (walked TabAsIndentation _ false [] es body (tab ∷ r) (cc all) refl are (indented es first.1) first.0 (λ t q x h n. absurd (cc n)) (λ f n. by_tab r refl further (ap (λ (q : Position). nat_lt q.col least) (sym there) ∙ low)))
 
     one_sorted : has_no_nul rest ≡ true → (why1 why2 : Problem) (at1 at2 : Position) → Sorted single more why1 at1 → Sorted single more why2 at2 → (why1 ≡ why2) × (at1 ≡ at2)
-    one_sorted clean why1 why2 at1 at2 (fails _ _ r open_text) (fails _ _ s open_text2) = one_reason single least here within (past here) more why1 why2 at1 at2 r s
-    one_sorted clean why1 why2 at1 at2 (fails _ _ r open_text) (closes p x _ _ e is fit a) = absurd (open_text p x e is fit)
-    one_sorted clean why1 why2 at1 at2 (closes p x _ _ e is fit a) (fails _ _ r open_text) = absurd (open_text p x e is fit)
-    one_sorted clean why1 why2 at1 at2 (closes p x _ _ e is fit a) (closes q y _ _ f is2 fit2 b) = grind (arith, nat_tests, eqb-true, one_end, one_after, no_nul_after)
+    one_sorted clean why1 why2 at1 at2 (inl x) (inl y) = one_reason single least here within (past here) more why1 why2 at1 at2 x.0 y.0
+    one_sorted clean why1 why2 at1 at2 (inl x) (inr y) = absurd (x.1 y.0 y.1 y.2 y.3 y.4)
+    one_sorted clean why1 why2 at1 at2 (inr x) (inl y) = absurd (y.1 x.0 x.1 x.2 x.3 x.4)
+    one_sorted clean why1 why2 at1 at2 (inr x) (inr y) =
+        let same = one_end single y.0 x.0 y.1 x.1 y.3 x.3 (sym y.2 ∙ x.2) in
+        one_after x.0 x.1 (no_nul_after x.0 x.1 (sym (ap has_no_nul x.2) ∙ clean)) why1 why2 at1 at2 x.5 (subst (λ n. After x.0 n why2 at2) same.1 (subst (λ q. After q y.1 why2 at2) same.0 y.5))
 
-  record Read (why : Problem) (at : Position) : Type 0 where
-    single : Bool
-    more : List ℕ
-    whole : rest ≡ quote_of single ∷ more
-    sorted : Sorted single more why at
-
-  -- a TAB indents a line of its own
-  own_line : (gap : List ℕ) → is_indented_by_spaces quoted_scalar blocks awaits gap ≡ false → has_break gap ≡ true
-  own_line gap h = grind arith
-
-  closed : (single : Bool) (piece next : List ℕ) (why : Problem) (at : Position) → rest ≡ piece ++ next → IsQuoted single piece next → closed_first single least piece → After piece next why at → Read why at
-  closed single piece next why at e is fit a =
-      let z = begins_quoted single rest piece next e is in
-      record { single = single; more = z.0; whole = z.1; sorted = closes piece next why at e is fit a }
-
-  not_fit : (b : Bool) → b ≡ false → b ≡ true → ⊥
-  not_fit b e f = cc (e, f)
+  closed : (single : Bool) (piece next : List ℕ) (why : Problem) (at : Position) → rest ≡ piece ++ next → IsQuoted single piece next → closed_first single least piece → After piece next why at → QuotedReason why at
+  closed single piece next why at e is fit a = let z = begins_quoted single rest piece next e is in (single, z.0, z.1, inr (piece, next, e, is, fit, a))
 
   -- a quote begins a text that is refused for a line
   begins_lines : (single : Bool) (why : Problem) (at : Position) → IsQuotedFault single least here rest why at → (more : List ℕ) × (rest ≡ quote_of single ∷ more)
   begins_lines a why b d = grind (arith, nat_tests, tab, eqb-true)
 
-  read : (why : Problem) (at : Position) → QuotedReason in_flow least blocks awaits here rest why at → Read why at
-  read why at (unquoted single more _ e lacks n first) = record { single = single; more = more; whole = e; sorted = fails why here (by_text single more why n first) (λ piece next f is fit. lacks piece next f is) }
-  read why at (no_quoted single _ _ lacks n first) =
-      let z = begins_lines single why at n in
-      record { single = single; more = z.0; whole = z.1; sorted = fails why at (by_lines single z.0 z.1 why at n first) (λ piece next f is fit. not_fit _ (lacks piece next f is) fit) }
-  read why at (glued_to_quoted single piece more e is begins fit) = closed single piece more _ _ e is fit (glued begins)
-  read why at (after_quoted single piece more passed left e is ends on solid first) = closed single piece more _ _ e is first.0 (subst (λ b. After piece more (gap_problem b) (position_after (position_after here piece more) passed left)) (sym (same_has_break passed) ∙ on.is_on_line) (beyond passed left on.is_text on.is_filled solid first.1))
-  read why at (tab_after_quoted single piece gap left e is fills goes_on solid indents first) = closed single piece (gap ++ left) _ _ e is first.0 (subst (λ b. After piece (gap ++ left) (gap_problem b) (position_after (position_after here piece (gap ++ left)) gap left)) (own_line gap indents) (beyond gap left refl fills solid first.1))
+  pub unquoted : (single : Bool) (more : List ℕ) (why : Problem) → rest ≡ quote_of single ∷ more → HasNoQuoted single rest → (n : IsNotQuoted single more why) → quoted_first single least more why n → QuotedReason why here
+  unquoted single more why e lacks n first = (single, more, e, inl (by_text single more why n first, λ piece next f is fit. lacks piece next f is))
+
+  pub no_quoted : (single : Bool) (why : Problem) (at : Position) → AreNotIndented single least rest → (n : IsQuotedFault single least here rest why at) → lines_first single least here rest why at n → QuotedReason why at
+  no_quoted single why at h n e = grind (arith, nat_tests, eqb-true, begins_lines, by_lines)
+
+  pub glued_to_quoted : (single : Bool) (piece more : List ℕ) → rest ≡ piece ++ more → IsQuoted single piece more → begins_with 35 more ≡ true → closed_first single least piece → QuotedReason CommentNotSeparated (position_after here piece more)
+  glued_to_quoted single piece more e is begins fit = closed single piece more _ _ e is fit (inl (begins, refl, refl))
+
+  pub after_quoted : (single : Bool) (piece more passed content : List ℕ) → rest ≡ piece ++ more → IsQuoted single piece more → GoesOn more passed content → begins_separation content ≡ false → closed_first single least piece × (begins_with 35 more ≡ false)
+      → QuotedReason ContentAfterQuoted (position_after (position_after here piece more) passed content)
+  after_quoted single piece more passed left e is on solid first =
+      closed single piece more _ _ e is first.0 (inr (first.1, passed, left, on.is_text, on.is_filled, solid, rw (sym (same_has_break passed) ∙ on.is_on_line) refl, refl))
+
+  -- a TAB indents a line of its own
+  own_line : (blocks : List ℕ) (awaits : Bool) (gap : List ℕ) → is_indented_by_spaces quoted_scalar blocks awaits gap ≡ false → has_break gap ≡ true
+  own_line blocks awaits gap h = grind arith
+
+  pub tab_after_quoted : (single : Bool) (piece gap content : List ℕ) (blocks : List ℕ) (awaits : Bool) → rest ≡ piece ++ (gap ++ content) → IsQuoted single piece (gap ++ content) → is_separation false gap content ≡ true → begins_separation content ≡ false
+      → is_indented_by_spaces quoted_scalar blocks awaits gap ≡ false → closed_first single least piece → begins_with 35 (gap ++ content) ≡ false → QuotedReason TabInBlockIndentation (position_after (position_after here piece (gap ++ content)) gap content)
+  tab_after_quoted single piece gap left blocks awaits e is fills solid indents fit free =
+      closed single piece (gap ++ left) _ _ e is fit (inr (free, gap, left, refl, fills, solid, rw (own_line blocks awaits gap indents) refl, refl))
 
   -- What is wrong first with a quoted scalar is one thing at one position.
-  pub one_quoted : has_no_nul rest ≡ true → (why1 why2 : Problem) (at1 at2 : Position) → QuotedReason in_flow least blocks awaits here rest why1 at1 → QuotedReason in_flow least blocks awaits here rest why2 at2 → (why1 ≡ why2) × (at1 ≡ at2)
-  one_quoted clean why1 why2 at1 at2 r s =
-      let by : Read why1 at1 → Read why2 at2 → (why1 ≡ why2) × (at1 ≡ at2) = λ x y.
-      let both : quote_of y.single ∷ y.more ≡ quote_of x.single ∷ x.more = sym y.whole ∙ x.whole in
-      let single : y.single ≡ x.single = grind arith in
-      let more : y.more ≡ x.more = cc both in
-      one_sorted x.single x.more clean why1 why2 at1 at2 x.sorted (subst (λ m. Sorted x.single m why2 at2) more (subst (λ b. Sorted b y.more why2 at2) single y.sorted)) in
-      by (read why1 at1 r) (read why2 at2 s)
+  pub one_quoted : has_no_nul rest ≡ true → (why1 why2 : Problem) (at1 at2 : Position) → QuotedReason why1 at1 → QuotedReason why2 at2 → (why1 ≡ why2) × (at1 ≡ at2)
+  one_quoted clean why1 why2 at1 at2 x y =
+      let both : quote_of y.0 ∷ y.1 ≡ quote_of x.0 ∷ x.1 = sym y.2 ∙ x.2 in
+      let same : (b c : Bool) → quote_of b ≡ quote_of c → b ≡ c = λ b c e. grind arith in
+      one_sorted x.0 x.1 clean why1 why2 at1 at2 x.3 (subst (λ m. Sorted x.0 m why2 at2) (cc both) (subst (λ b. Sorted b y.1 why2 at2) (same y.0 x.0 (cc both)) y.3))

@@ -1,15 +1,118 @@
 -- A text is stuck at one place, with one kind.
-use Rattle.proof_scanner.proofs.Common.{Account, account_past, ap, Begins, Bool, colon_may_precede, fails, FailsFirst, false, first_account, HasNoKey, inl, inr, is_in_flow, is_taken, is_value_here, IsLike, IsLookedAt, IsPlace, IsStuck, IsWritten, key_waits, List, no_key, no_nul_after, Position, Problem, refl, Some, spelled, Step, subst, sym, true, up_to_nul, ℕ, ◌++◌, ◌∙◌, ◌∷◌, ◌≡◌, ◌⊎◌, arith, eqb-true, nat_tests}
-use Rattle.defs_text.specs.Classes as classes
-use Rattle.yaml_tokens.specs.declared.problem.Problem.TheVariants as problem
+use Rattle.proof_scanner.proofs.Common.{Account, account_past, ap, Begins, Bool, colon_may_precede, fails, FailsFirst, false, first_account, HasNoKey, inl, inr, is_in_flow, is_taken, is_value_here, IsLike, IsLookedAt, IsPlace, IsStuck, IsWritten, key_waits, List, no_key, no_nul_after, Position, Problem, refl, Some, spelled, Step, subst, sym, true, up_to_nul, ℕ, ◌++◌, ◌∙◌, ◌∷◌, ◌≡◌, ◌⊎◌, arith, eqb-true, nat_tests, ValueNotAllowed, [], act_of, begins_separation, clean_up_to_end, comes_first, Fails, follows_plain, gives_node, has_no_nul, is_empty, is_free_of_tabs, is_indented_by_spaces, is_separation, IsQuoted, None, Option, position_after, separations, Site, cases_Bool, TabInBlockIndentation}
 use Rattle.proof_scanner.proofs.Sound.Completed.{begins_at_start, begins_past}
-use Rattle.proof_scanner.proofs.Refusals.OtherRows.{StepAt}
-use Rattle.proof_scanner.proofs.Refusals.StandsRefused.{no_colon_here}
-use Rattle.proof_scanner.proofs.Refusals.NoRows.{keyless_step, no_step_stands}
+use Rattle.proof_scanner.proofs.Refusals.OtherRows.{StepAt, IsClearAfter, IsClearGapAfter, no_tab_before, step_from}
+use Rattle.proof_scanner.proofs.Refusals.PiecesRefused.{no_colon_here, node_site_past, node_token, quoted_value, same_quoted_value}
+use Rattle.proof_scanner.proofs.Refusals.NoRows.{keyless_step, no_step_stands, step_refuted}
 use Rattle.proof_scanner.proofs.Refusals.KeysThatWait.{Together, Apart, together_keeps, apart_keeps, first_together, not_below}
 use Rattle.proof_scanner.proofs.First.Reasons.{one_reason, colon_alone}
-use Rattle.proof_scanner.proofs.Known.Ways.{With, like_sym, GivesUp, gives_up_like, Same, Way, way_of, strict_way, way_but_for_key, Meet, same_place, second_on, first_on, KeepsOn, meet}
-use Rattle.proof_scanner.proofs.First.Places.{Stands, clean_way, clean_place, one_cut, gives_up_site, step_of, clear, fails_before}
+use Rattle.proof_scanner.proofs.Known.Ways.{With, like_sym, GivesUp, gives_up_like, Same, Way, way_of, strict_way, way_but_for_key, Meet, same_place, second_on, first_on, KeepsOn, meet, LeadsBy, GoesOn}
+use Rattle.defs_token.specs.Piece.{Holds}
+use Rattle.proof_scanner.proofs.Known.Places.{ends_before, step_here}
+use Rattle.proof_scanner.proofs.Cut.Pieces.Separations.{gap_is_separation}
+use Rattle.proof_scanner.proofs.Refusals.PlainsRefused.{no_tab}
+use Rattle.proof_scanner.proofs.Sound.PlainKeeps.{no_comment}
+use Rattle.proof_scanner.proofs.Known.Rows.{clean_after}
+use Rattle.defs_text.specs.Classes as classes
+use Rattle.proof_scanner.specs.Failing as failing
+
+-- ---- two places of a text where something fails first: they are one place, or one fails by a TAB that the other has told
+
+-- a place that a way leads to, where content begins
+pub record Stands (a : Account) (separation rest : List ℕ) (here : Position) : Type 0 where
+  pub is_filled : is_separation false separation rest ≡ true
+  pub is_solid : begins_separation rest ≡ false
+  pub goes_on : is_empty rest ≡ false
+  pub is_here : here ≡ position_after a.site.position separation rest
+
+-- a text's ways are clean
+pub clean_way : (text : List ℕ) (vs : List Step) (after : List ℕ) → spelled vs after ≡ up_to_nul text → Holds (has_no_nul (spelled vs after))
+clean_way text vs after e = subst (λ z. Holds (has_no_nul z)) (sym e) (clean_up_to_end text)
+
+-- what is left of it is clean
+pub clean_place : {J : Account → Account → Type 0} {text after : List ℕ} {a : Account} → Way J text after a → Holds (has_no_nul after)
+clean_place {text = text} {after = after} w = clean_after w.steps after (clean_way text w.steps after w.spells)
+
+-- one place of a text has one separation and one rest
+pub one_cut : (a b : Account) (s1 r1 s2 r2 : List ℕ) (h1 h2 : Position) → Stands a s1 r1 h1 → Stands b s2 r2 h2 → IsLike a b → Holds (has_no_nul (s1 ++ r1)) → s1 ++ r1 ≡ s2 ++ r2 → (s1 ≡ s2) × (r1 ≡ r2) × (h1 ≡ h2)
+one_cut a b s1 r1 s2 r2 h1 h2 p q i c e = grind (arith, nat_tests, eqb-true, separations, ends_before, no_nul_after)
+
+pub gives_up_site : (a x : Account) → GivesUp a x → a.site ≡ x.site
+gives_up_site a x b = grind (arith, nat_tests, eqb-true)
+
+module _ (J : Account → Account → Type 0) (R : Account → Account → List ℕ → Type 0) (a b : Account) (s1 r1 s2 r2 : List ℕ) (h1 : Position) (p : Stands a s1 r1 h1) (g : GoesOn J R a b (s1 ++ r1) (s2 ++ r2)) (clean : Holds (has_no_nul (s1 ++ r1))) where
+  abbrev pub next : List ℕ
+  next = spelled g.steps (s2 ++ r2)
+
+  -- the step by which a way goes on from a place
+  abbrev pub step_of : StepAt a s1 r1 h1
+  step_of = step_from a g.account g.past s1 r1 next h1 g.step g.is_like g.is_written g.is_past g.spells p.is_filled p.is_solid (no_nul_after s1 r1 clean) p.is_here
+
+-- No TAB indents what comes after a step, where a way leads on to a place where none does.
+clear_way : (J : Account → Account → Type 0) → ((x y : Account) → J x y → x.site ≡ y.site) → (o b : Account) (vs : List Step) (s2 r2 gap content : List ℕ) → LeadsBy J (Some o) vs (s2 ++ r2) b → is_separation false s2 r2 ≡ true → begins_separation r2 ≡ false → (vs ≡ [] → is_indented_by_spaces b.site.before b.site.blocks b.site.awaits s2 ≡ true)
+    → spelled vs (s2 ++ r2) ≡ gap ++ content → is_separation false gap content ≡ true → begins_separation content ≡ false → has_no_nul content ≡ true → has_no_nul r2 ≡ true → is_indented_by_spaces o.site.before o.site.blocks o.site.awaits gap ≡ true
+clear_way J same o b [] s2 r2 gap content row filled solid free e fills begins clean clean2 =
+    let ends = separations s2 gap r2 content (filled, ends_before r2 solid clean2) (fills, ends_before content begins clean) e in
+    ap (λ f. is_indented_by_spaces o.site.before o.site.blocks o.site.awaits f) (sym ends.0) ∙ (ap (λ (x : Site). is_indented_by_spaces x.before x.blocks x.awaits s2) (same o b row) ∙ free refl)
+clear_way J same o b (v ∷ vs) s2 r2 gap content row filled solid free e fills begins clean clean2 = by (account_past row.0 v (spelled vs (s2 ++ r2))) refl row.3
+  where
+    by : (z : Option Account) → account_past row.0 v (spelled vs (s2 ++ r2)) ≡ z → LeadsBy J z vs (s2 ++ r2) b → is_indented_by_spaces o.site.before o.site.blocks o.site.awaits gap ≡ true
+    by None i k = absurd k
+    by (Some c) i k =
+        ap (λ (x : Site). is_indented_by_spaces x.before x.blocks x.awaits gap) (same o row.0 row.1) ∙ subst (λ f. is_indented_by_spaces row.0.site.before row.0.site.blocks row.0.site.awaits f ≡ true) (step_here row.0 v (spelled vs (s2 ++ r2)) gap content row.2 e fills begins clean).0 (no_tab_before row.0 v (spelled vs (s2 ++ r2)) c i)
+
+-- a reason that comes first where a TAB indents what comes is just this
+pub tab_alone : (b : Account) (separation : List ℕ) (here : Position) (rest : List ℕ) (why : Problem) (at : Position) (f : Fails b separation here rest why at) → comes_first b separation here rest why at f → is_free_of_tabs b separation ≡ false
+    → (why ≡ TabInBlockIndentation) × (at ≡ here) × (follows_plain b.site.before separation ≡ false)
+tab_alone b separation here rest why at (failing.may_not_stand (failing.tab_indents own)) first tab = (refl, refl, first)
+tab_alone b separation here rest why at (failing.may_not_stand n) first tab = absurd (cc tab)
+tab_alone b separation here rest why at f first tab = absurd (cc tab)
+
+module _ (J : Account → Account → Type 0) (same : (x y : Account) → J x y → x.site ≡ y.site) (R : Account → Account → List ℕ → Type 0) (a b : Account) (s1 r1 s2 r2 : List ℕ) (h1 h2 : Position) (p : Stands a s1 r1 h1) (q : Stands b s2 r2 h2)
+    (g : GoesOn J R a b (s1 ++ r1) (s2 ++ r2)) (clean : Holds (has_no_nul (s1 ++ r1))) where
+  abbrev step : StepAt a s1 r1 h1
+  step = step_of J R a b s1 r1 s2 r2 h1 p g clean
+
+  later_clean : Holds (has_no_nul (s2 ++ r2))
+  later_clean = clean_after (g.step ∷ g.steps) (s2 ++ r2) (subst (λ z. Holds (has_no_nul z)) (sym g.spells) clean)
+
+  pub clear : (g.steps ≡ [] → is_free_of_tabs b s2 ≡ true) → IsClearAfter step
+  clear free gap content cut fills solid some = grind (arith, nat_tests, eqb-true, clear_way, no_nul_after, later_clean)
+
+  -- what comes at once after the step, with a TAB in its indentation
+  module _ (last : g.steps ≡ []) (tab : is_free_of_tabs b s2 ≡ false) (no_plain : follows_plain b.site.before s2 ≡ false) where
+    site_is : g.past.site ≡ b.site
+    site_is = same g.past b (subst (λ ws. LeadsBy J (Some g.past) ws (s2 ++ r2) b) last g.leads)
+
+    one_gap : (gap content : List ℕ) → step.next ≡ gap ++ content → is_separation false gap content ≡ true → begins_separation content ≡ false → (gap ≡ s2) × (content ≡ r2)
+    one_gap gap content cut fills solid = grind (arith, nat_tests, eqb-true, (ap (λ ws. spelled ws (s2 ++ r2)) last), separations, ends_before, no_nul_after, later_clean)
+
+    clear_gap : IsClearGapAfter step
+    clear_gap before_is gap content cut white solid some = grind (arith, nat_tests, eqb-true, one_gap, gap_is_separation, site_is, no_comment)
+
+    at_quoted : (single : Bool) (piece gap content : List ℕ) → r1 ≡ piece ++ (gap ++ content) → IsQuoted single piece (gap ++ content) → is_separation false gap content ≡ true → begins_separation content ≡ false
+        → position_after (position_after h1 piece (gap ++ content)) gap content ≡ h2
+    at_quoted single piece gap content e is fills solid =
+        let v = same_quoted_value step single piece (gap ++ content) e is in
+        let cuts = one_gap gap content (sym v.2) fills solid in
+        let act : act_of step.step.shown ≡ gives_node = ap act_of (sym v.1) ∙ (node_token step single (quoted_value step single piece (gap ++ content) is)).0 in
+        let past_is = node_site_past step.account step.step step.next step.past act step.is_past in
+        let past : g.past.site.position ≡ position_after h1 piece (gap ++ content) =
+        ap (λ (x : Site). x.position) past_is ∙ (ap (λ p. position_after p step.step.piece step.next) step.position_is ∙ (ap (λ f. position_after h1 f step.next) (sym v.0) ∙ ap (λ r. position_after h1 piece r) (sym v.2))) in
+        ap (λ p. position_after p gap content) (sym past ∙ ap (λ (x : Site). x.position) site_is) ∙ (ap (λ f. position_after b.site.position f content) cuts.0 ∙ (ap (λ r. position_after b.site.position s2 r) cuts.1 ∙ sym q.is_here))
+
+  -- Where a way goes on past a place, what fails there first is a TAB after a quoted scalar, which so fails at the next place.
+  pub fails_before : (why1 why2 : Problem) (at1 at2 : Position) → FailsFirst a s1 h1 r1 why1 at1 → FailsFirst b s2 h2 r2 why2 at2 → (why1 ≡ why2) × (at1 ≡ at2)
+  fails_before why1 why2 at1 at2 f1 f2 = elim (cases_Bool (is_free_of_tabs b s2)) [ inl free ↦ absurd (no_step_stands step (clear (λ _. free)) why1 at1 f1.fails) | inr tab ↦ on g.steps refl tab ]
+    where
+      on : (ws : List Step) → g.steps ≡ ws → is_free_of_tabs b s2 ≡ false → (why1 ≡ why2) × (at1 ≡ at2)
+      on (v ∷ vs) last tab = absurd (no_step_stands step (clear (λ none. absurd (cc (none, last)))) why1 at1 f1.fails)
+      on [] last tab =
+          let own = tab_alone b s2 h2 r2 why2 at2 f2.fails f2.is_first tab in
+          let first = step_refuted step (λ why at. (why ≡ TabInBlockIndentation) × (at ≡ h2))
+          (λ comes before blanks more column cut over stands left are token. absurd (no_tab step comes before blanks more column cut over stands left are token (clear_gap last tab own.2)))
+          (λ single piece gap content e is fills some solid tabbed. (refl, at_quoted last tab own.2 single piece gap content e is fills solid)) why1 at1 f1.fails in
+          (first.0 ∙ sym own.0, first.1 ∙ sym own.1)
 
 -- ---- claims
 
@@ -37,15 +140,15 @@ record KeylessAt (text : List ℕ) (here : Position) : Type 0 where
   has_no_tab_after : colon_may_precede more ≡ true
 
 data Claim (text : List ℕ) : Problem → Position → Type 0 where
-  failing : {why : Problem} {at : Position} → FailsAt text why at → Claim text why at
-  keyless : {at : Position} → KeylessAt text at → Claim text problem.ValueNotAllowed at
+  fails_there : {why : Problem} {at : Position} → FailsAt text why at → Claim text why at
+  keyless : {at : Position} → KeylessAt text at → Claim text ValueNotAllowed at
 
 claim_of : (text : List ℕ) (why : Problem) (at : Position) → IsStuck text why at → Claim text why at
 claim_of text why at (fails a separation rest why2 here at2 place some solid f) =
-    failing (record { account = a; separation = separation; rest = rest; here = here; way = way_of text (separation ++ rest) a place.begins; stands = record { is_filled = place.is_filled; is_solid = solid; goes_on = some; is_here = place.is_here }; first = f })
+    fails_there (record { account = a; separation = separation; rest = rest; here = here; way = way_of text (separation ++ rest) a place.begins; stands = record { is_filled = place.is_filled; is_solid = solid; goes_on = some; is_here = place.is_here }; first = f })
 claim_of text why at (no_key a separation more here place is out line none looked apart) = keyless (record { account = a; separation = separation; more = more; place = place; is_value = is; is_outside = out; is_line_taken = line; has_none = none; looked = looked; has_no_tab_after = apart })
 claim_of text why at (key_waits a separation rest why2 begin here at2 g inside filled here_is late some solid f) =
-    failing (record { account = a; separation = separation; rest = rest; here = here; way = way_but_for_key text (separation ++ rest) begin a g; stands = record { is_filled = filled; is_solid = solid; goes_on = some; is_here = here_is }; first = f })
+    fails_there (record { account = a; separation = separation; rest = rest; here = here; way = way_but_for_key text (separation ++ rest) begin a g; stands = record { is_filled = filled; is_solid = solid; goes_on = some; is_here = here_is }; first = f })
 
 -- ---- what is kept along two ways
 
@@ -99,19 +202,18 @@ keeps_apart text = record {
 module _ (text : List ℕ) where
   failing_once : (why1 why2 : Problem) (at1 at2 : Position) → FailsAt text why1 at1 → FailsAt text why2 at2 → (why1 ≡ why2) × (at1 ≡ at2)
   failing_once why1 why2 at1 at2 f g =
-      by (meet GivesUp GivesUp Nothing (record { first_like = λ x y z g i. gives_up_like x z y g i; second_like = gives_up_second; first = λ x y z after i g r. tt; second = λ x y z after i g r. tt; both = λ x y a b v c next i r k l e f. tt })
+      elim (meet GivesUp GivesUp Nothing (record { first_like = λ x y z g i. gives_up_like x z y g i; second_like = gives_up_second; first = λ x y z after i g r. tt; second = λ x y z after i g r. tt; both = λ x y a b v c next i r k l e f. tt })
       f.way.steps g.way.steps (f.separation ++ f.rest) (g.separation ++ g.rest) first_account first_account f.account g.account itself tt
-      f.way.leads g.way.leads (f.way.spells ∙ sym g.way.spells) (clean_way text f.way.steps (f.separation ++ f.rest) f.way.spells))
-    where
-      by : Meet GivesUp GivesUp Nothing f.account g.account (f.separation ++ f.rest) (g.separation ++ g.rest) → (why1 ≡ why2) × (at1 ≡ at2)
-      by (same_place like r e) =
-          let cut = one_cut f.account g.account f.separation f.rest g.separation g.rest f.here g.here f.stands g.stands like (clean_place f.way) e in
-          one_reason f.account g.account like f.separation f.here f.rest (no_nul_after f.separation f.rest (clean_place f.way)) why1 why2 at1 at2 f.first
-          (subst (λ s. FailsFirst g.account s f.here f.rest why2 at2) (sym cut.0) (subst (λ r. FailsFirst g.account g.separation f.here r why2 at2) (sym cut.1) (subst (λ h. FailsFirst g.account g.separation h g.rest why2 at2) (sym cut.2) g.first)))
-      by (second_on n) = fails_before GivesUp gives_up_site Nothing f.account g.account f.separation f.rest g.separation g.rest f.here g.here f.stands g.stands n (clean_place f.way) why1 why2 at1 at2 f.first g.first
-      by (first_on n) =
-          let turned = fails_before GivesUp gives_up_site (λ x y. Nothing y x) g.account f.account g.separation g.rest f.separation f.rest g.here f.here g.stands f.stands n (clean_place g.way) why2 why1 at2 at1 g.first f.first in
-          (sym turned.0, sym turned.1)
+      f.way.leads g.way.leads (f.way.spells ∙ sym g.way.spells) (clean_way text f.way.steps (f.separation ++ f.rest) f.way.spells)) [
+        | same_place like r e ↦
+            let cut = one_cut f.account g.account f.separation f.rest g.separation g.rest f.here g.here f.stands g.stands like (clean_place f.way) e in
+            one_reason f.account g.account like f.separation f.here f.rest (no_nul_after f.separation f.rest (clean_place f.way)) why1 why2 at1 at2 f.first
+            (subst (λ s. FailsFirst g.account s f.here f.rest why2 at2) (sym cut.0) (subst (λ r. FailsFirst g.account g.separation f.here r why2 at2) (sym cut.1) (subst (λ h. FailsFirst g.account g.separation h g.rest why2 at2) (sym cut.2) g.first)))
+        | second_on n ↦ fails_before GivesUp gives_up_site Nothing f.account g.account f.separation f.rest g.separation g.rest f.here g.here f.stands g.stands n (clean_place f.way) why1 why2 at1 at2 f.first g.first
+        | first_on n ↦
+            let turned = fails_before GivesUp gives_up_site (λ x y. Nothing y x) g.account f.account g.separation g.rest f.separation f.rest g.here f.here g.stands f.stands n (clean_place g.way) why2 why1 at2 at1 g.first f.first in
+            (sym turned.0, sym turned.1)
+      ]
 
   stands_keyless : (here : Position) (k : KeylessAt text here) → Stands k.account k.separation (58 ∷ k.more) here
   unfolding classes.is_blank classes.is_break
@@ -120,62 +222,51 @@ module _ (text : List ℕ) where
   begins_first : (steps : List Step) (after : List ℕ) → spelled steps after ≡ up_to_nul text → Begins text (spelled steps after) first_account
   begins_first steps after e = subst (λ z. Begins text z first_account) (sym e) (begins_at_start text)
 
+  -- the text that is left before a colon for which no key waits, and the way there
+  abbrev ahead : {here : Position} → KeylessAt text here → List ℕ
+  ahead k = k.separation ++ 58 ∷ k.more
+
+  abbrev way_to : {here : Position} (k : KeylessAt text here) → Way Same text (ahead k) k.account
+  way_to k = strict_way text (ahead k) k.account k.place.begins
+
   keyless_once : (here1 here2 : Position) → KeylessAt text here1 → KeylessAt text here2 → here1 ≡ here2
-  keyless_once here1 here2 k l = by (meet Same Same (BothBegin text) (keeps_both text) v.steps w.steps after1 after2 first_account first_account k.account l.account itself (begins_first v.steps after1 v.spells, begins_first v.steps after1 v.spells) v.leads w.leads (v.spells ∙ sym w.spells) (clean_way text v.steps after1 v.spells))
+  keyless_once here1 here2 k l = by (meet Same Same (BothBegin text) (keeps_both text) (way_to k).steps (way_to l).steps (ahead k) (ahead l) first_account first_account k.account l.account itself (begins_first (way_to k).steps (ahead k) (way_to k).spells, begins_first (way_to k).steps (ahead k) (way_to k).spells) (way_to k).leads (way_to l).leads ((way_to k).spells ∙ sym (way_to l).spells) (clean_way text (way_to k).steps (ahead k) (way_to k).spells))
     where
-      after1 : List ℕ
-      after1 = k.separation ++ 58 ∷ k.more
-
-      after2 : List ℕ
-      after2 = l.separation ++ 58 ∷ l.more
-
-      v : Way Same text after1 k.account
-      v = strict_way text after1 k.account k.place.begins
-
-      w : Way Same text after2 l.account
-      w = strict_way text after2 l.account l.place.begins
-
-      by : Meet Same Same (BothBegin text) k.account l.account after1 after2 → here1 ≡ here2
-      by (same_place like r e) = (one_cut k.account l.account k.separation (58 ∷ k.more) l.separation (58 ∷ l.more) here1 here2 (stands_keyless here1 k) (stands_keyless here2 l) like (clean_place v) e).2
+      by : Meet Same Same (BothBegin text) k.account l.account (ahead k) (ahead l) → here1 ≡ here2
+      by (same_place like r e) = (one_cut k.account l.account k.separation (58 ∷ k.more) l.separation (58 ∷ l.more) here1 here2 (stands_keyless here1 k) (stands_keyless here2 l) like (clean_place (way_to k)) e).2
       by (second_on n) =
-          let s : StepAt k.account k.separation (58 ∷ k.more) here1 = step_of Same (BothBegin text) k.account l.account k.separation (58 ∷ k.more) l.separation (58 ∷ l.more) here1 (stands_keyless here1 k) n (clean_place v) in
+          let s : StepAt k.account k.separation (58 ∷ k.more) here1 = step_of Same (BothBegin text) k.account l.account k.separation (58 ∷ k.more) l.separation (58 ∷ l.more) here1 (stands_keyless here1 k) n (clean_place (way_to k)) in
           absurd (keyless_step text k.separation k.more k.account here1 s n.holds.1 k.place.is_filled k.is_value k.is_outside k.is_line_taken k.has_none)
       by (first_on n) =
-          let s : StepAt l.account l.separation (58 ∷ l.more) here2 = step_of Same (λ x y. BothBegin text y x) l.account k.account l.separation (58 ∷ l.more) k.separation (58 ∷ k.more) here2 (stands_keyless here2 l) n (clean_place w) in
+          let s : StepAt l.account l.separation (58 ∷ l.more) here2 = step_of Same (λ x y. BothBegin text y x) l.account k.account l.separation (58 ∷ l.more) k.separation (58 ∷ k.more) here2 (stands_keyless here2 l) n (clean_place (way_to l)) in
           absurd (keyless_step text l.separation l.more l.account here2 s n.holds.0 l.place.is_filled l.is_value l.is_outside l.is_line_taken l.has_none)
 
   keyless_alone : (why : Problem) (at here : Position) → FailsAt text why at → KeylessAt text here → ⊥
-  keyless_alone why at here f k = by (meet GivesUp Same (BeginsOrApart text) (keeps_apart text) f.way.steps w.steps after1 after2 first_account first_account f.account k.account itself (inl (first_together, begins_first f.way.steps after1 f.way.spells)) f.way.leads w.leads (f.way.spells ∙ sym w.spells) (clean_way text f.way.steps after1 f.way.spells))
+  keyless_alone why at here f k = by (meet GivesUp Same (BeginsOrApart text) (keeps_apart text) f.way.steps (way_to k).steps after1 (ahead k) first_account first_account f.account k.account itself (inl (first_together, begins_first f.way.steps after1 f.way.spells)) f.way.leads (way_to k).leads (f.way.spells ∙ sym (way_to k).spells) (clean_way text f.way.steps after1 f.way.spells))
     where
       after1 : List ℕ
       after1 = f.separation ++ f.rest
 
-      after2 : List ℕ
-      after2 = k.separation ++ 58 ∷ k.more
+      passed : (x : Account) (s : StepAt k.account k.separation (58 ∷ k.more) here) → s.account ≡ x → BeginsOrApart text x k.account (ahead k) → ⊥
+      passed x s e (inl r) = keyless_step text k.separation k.more k.account here s (subst (λ u. Begins text (ahead k) u) (sym e) r.1) k.place.is_filled k.is_value k.is_outside k.is_line_taken k.has_none
+      passed x s e (inr r) = no_colon_here s k.more refl k.is_value k.is_outside k.is_line_taken (λ q waiting unbroken near. cc (waiting, ap (λ (u : Account). u.line) e, r.1.none))
 
-      w : Way Same text after2 k.account
-      w = strict_way text after2 k.account k.place.begins
-
-      passed : (x : Account) (s : StepAt k.account k.separation (58 ∷ k.more) here) → s.account ≡ x → BeginsOrApart text x k.account after2 → ⊥
-      passed x s e (inl r) = keyless_step text k.separation k.more k.account here s (subst (λ u. Begins text after2 u) (sym e) r.1) k.place.is_filled k.is_value k.is_outside k.is_line_taken k.has_none
-      passed x s e (inr r) = no_colon_here k.account k.separation (58 ∷ k.more) here s k.more refl k.is_value k.is_outside k.is_line_taken (λ q waiting unbroken near. cc (waiting, ap (λ (u : Account). u.line) e, r.1.none))
-
-      by : Meet GivesUp Same (BeginsOrApart text) f.account k.account after1 after2 → ⊥
+      by : Meet GivesUp Same (BeginsOrApart text) f.account k.account after1 (ahead k) → ⊥
       by (same_place like r e) =
           let cut = one_cut f.account k.account f.separation f.rest k.separation (58 ∷ k.more) f.here here f.stands (stands_keyless here k) like (clean_place f.way) e in
           colon_alone k.account f.account (like_sym f.account k.account like) k.separation k.more here k.is_value k.is_outside k.looked k.has_no_tab_after why at
           (subst (λ s. FailsFirst f.account s here (58 ∷ k.more) why at) cut.0 (subst (λ r. FailsFirst f.account f.separation here r why at) cut.1 (subst (λ h. FailsFirst f.account f.separation h f.rest why at) cut.2 f.first)))
       by (second_on n) =
-          no_step_stands f.account f.separation f.rest f.here (step_of Same (BeginsOrApart text) f.account k.account f.separation f.rest k.separation (58 ∷ k.more) f.here f.stands n (clean_place f.way))
+          no_step_stands (step_of Same (BeginsOrApart text) f.account k.account f.separation f.rest k.separation (58 ∷ k.more) f.here f.stands n (clean_place f.way))
           (clear Same (λ x y e. ap (λ (u : Account). u.site) e) (BeginsOrApart text) f.account k.account f.separation f.rest k.separation (58 ∷ k.more) f.here here f.stands (stands_keyless here k) n (clean_place f.way) (λ _. k.looked.has_no_tab)) why at f.first.fails
       by (first_on n) =
-          passed n.account (step_of GivesUp (λ x y. BeginsOrApart text y x) k.account f.account k.separation (58 ∷ k.more) f.separation f.rest here (stands_keyless here k) n (clean_place w)) refl n.holds
+          passed n.account (step_of GivesUp (λ x y. BeginsOrApart text y x) k.account f.account k.separation (58 ∷ k.more) f.separation f.rest here (stands_keyless here k) n (clean_place (way_to k))) refl n.holds
 
   -- All claims of a text are one.
   claimed_once : (why1 why2 : Problem) (at1 at2 : Position) → Claim text why1 at1 → Claim text why2 at2 → (why1 ≡ why2) × (at1 ≡ at2)
-  claimed_once why1 why2 at1 at2 (failing f) (failing g) = failing_once why1 why2 at1 at2 f g
-  claimed_once why1 why2 at1 at2 (failing f) (keyless k) = absurd (keyless_alone why1 at1 at2 f k)
-  claimed_once why1 why2 at1 at2 (keyless k) (failing f) = absurd (keyless_alone why2 at2 at1 f k)
+  claimed_once why1 why2 at1 at2 (fails_there f) (fails_there g) = failing_once why1 why2 at1 at2 f g
+  claimed_once why1 why2 at1 at2 (fails_there f) (keyless k) = absurd (keyless_alone why1 at1 at2 f k)
+  claimed_once why1 why2 at1 at2 (keyless k) (fails_there f) = absurd (keyless_alone why2 at2 at1 f k)
   claimed_once why1 why2 at1 at2 (keyless k) (keyless l) = (refl, keyless_once at1 at2 k l)
 
   pub stuck_once : (why1 why2 : Problem) (at1 at2 : Position) → IsStuck text why1 at1 → IsStuck text why2 at2 → (why1 ≡ why2) × (at1 ≡ at2)

@@ -49,8 +49,6 @@ made s l [] w next b e = by (may_stand false s at w.separation w.piece w.shown n
 
     by : (c : Bool) (m : Option Line) → line_past_separation false (begins_free_line s.before w.separation) l ≡ m
         → (if c then on_one_line w.piece (past_piece at w.piece w.shown next (is_renewed s.before w.separation) w.key m []) else None) ≡ Some b → Made s l [] w next b
-    by false m f e = absurd (cc e)
-    by true None f e = absurd (cc e)
     by true (Some m) f e = to (line_past (is_in_column at.position.col at.blocks) at.position at.blocks (act_of w.shown) w.key m) refl e
       where
         to : (o : Option Outside) → line_past (is_in_column at.position.col at.blocks) at.position at.blocks (act_of w.shown) w.key m ≡ o → on_one_line w.piece (past_outside at w.piece w.shown next o) ≡ Some b → Made s l [] w next b
@@ -64,6 +62,7 @@ made s l [] w next b e = by (may_stand false s at w.separation w.piece w.shown n
             last true h e = absurd (cc e)
             last false h e = let same : past ≡ b = same_of past b e in
                 outside m o refl f g (ap (λ (a : Account). a.line) (sym same)) (ap (λ (a : Account). a.site) (sym same)) (ap (λ (a : Account). has_break w.piece && is_waiting a.line) (sym same) ∙ h)
+    by c m f e = grind arith
 made s l (d ∷ ds) w next b e = by (may_stand true s at w.separation w.piece w.shown next) (line_past_separation true (begins_free_line s.before w.separation) l) refl e
   where
     at : Site
@@ -71,9 +70,8 @@ made s l (d ∷ ds) w next b e = by (may_stand true s at w.separation w.piece w.
 
     by : (c : Bool) (m : Option Line) → line_past_separation true (begins_free_line s.before w.separation) l ≡ m
         → (if c then on_one_line w.piece (past_piece at w.piece w.shown next (is_renewed s.before w.separation) w.key m (d ∷ ds)) else None) ≡ Some b → Made s l (d ∷ ds) w next b
-    by false m f e = absurd (cc e)
-    by true None f e = absurd (cc e)
     by true (Some m) f e = to (entries_past at.position (is_renewed s.before w.separation) (act_of w.shown) (begun_by w.shown) w.key d ds) e
       where
         to : (o : Option (List Entry)) → on_one_line w.piece (past_inside at w.piece w.shown next m o) ≡ Some b → Made s l (d ∷ ds) w next b
         to o e = grind (arith, inside, f)
+    by c m f e = grind arith

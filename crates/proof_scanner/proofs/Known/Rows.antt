@@ -1,12 +1,106 @@
--- A row of a text goes through each place that a way leads to, at an account that is like the way's; and so through the place after a step that was read there.
-use Rattle.proof_scanner.proofs.Common.{[], Account, account_past, Begins, clean_up_to_end, false, first_account, GoesThrough, has_no_nul, HasRow, is_separation, IsLike, IsRowFrom, IsWritten, Leads, List, may_end, no_nul_after, None, Option, refl, Row, same_written, Some, spelled, Step, subst, sym, true, up_to_nul, ℕ, ◌++◌, ◌∙◌, ◌∷◌, ◌≡◌, nat_tests, eqb-true, arith}
+-- A beginning of a row that goes on past a place does so by the step that was read there, from a beginning up to there; and where a piece begins, a way leads.
+use Rattle.proof_scanner.proofs.Common.{[], Account, account_past, ap, arith, Begins, Bool, chosen, clean_up_to_end, Entry, false, first_account, FlowLevel, GoesThrough, has_no_nul, HasRow, is_empty, is_separation, IsLike, IsRowFrom, IsWritten, Key, Leads, length, length-append, line_by, List, may_end, MayChoose, no_nul_after, None, not, Option, outside_key, refl, Row, same_written, ScannerState, Some, spelled, Step, subst, sym, true, up_to_nul, ℕ, ◌++◌, ◌<◌, ◌∙◌, ◌∷◌, ◌≡◌, ◌≤◌}
 use Rattle.defs_token.specs.Piece.{Holds}
-use Rattle.proof_scanner.proofs.Known.CameBy.{SecondBegins, keeps}
+use Rattle.proof_scanner.proofs.Known.Ways.{first_on, gives_up_like, GivesUp, KeepsOn, LeadsBy, Meet, meet, moved, Same, same_place, second_on, strict_way, strictly, Way, way_but_for_key, way_of, With}
+use Rattle.proof_scanner.proofs.Sound.Common.{ArrivesBy, begins_at_start, begins_past, none_chosen, not_none, with_entries}
 use Rattle.proof_scanner.proofs.Known.Places.{at_end}
-use Rattle.proof_scanner.proofs.Known.Ways.{GivesUp, KeepsOn, LeadsBy, Meet, Same, Way, first_on, meet, same_place, second_on, strictly}
-use Rattle.proof_scanner.proofs.Sound.Completed.{begins_at_start, begins_past}
 
--- ---- rows as ways
+-- ---- lengths
+
+spelled_longer : (ws : List Step) (after : List ℕ) → length after ≤ length (spelled ws after)
+spelled_longer [] after = omega arith
+spelled_longer (w ∷ ws) after = grind (arith, length-append, spelled_longer ws after)
+
+longer : (w : Step) (next : List ℕ) → not (is_empty w.piece) ≡ true → length next < length (w.separation ++ (w.piece ++ next))
+longer w next some = grind (arith, length-append, not_none)
+
+-- no step leads to where a text begins
+pub begins_whole : (text after : List ℕ) (b : Account) → after ≡ up_to_nul text → Begins text after b → first_account ≡ b
+begins_whole text after b whole g = by g.steps g.leads (g.spells ∙ sym whole)
+  where
+    by : (ws : List Step) → Leads (Some first_account) ws after b → spelled ws after ≡ after → first_account ≡ b
+    by [] h e = h
+    by (w ∷ ws) h e =
+        let more = longer w (spelled ws after) h.0.1.0 in
+        let on = spelled_longer ws after in
+        let same = ap length e in
+        absurd (omega (arith, more, on, same))
+
+-- ---- past a step
+
+-- From where a beginning came by a step that was read, with some choice.
+pub record Came (text : List ℕ) (a : Account) (w : Step) (next : List ℕ) (b : Account) : Type 0 where
+  pub from : Account
+  pub key : Bool
+  pub is_like : IsLike a from
+  pub begins : Begins text (w.separation ++ (w.piece ++ next)) from
+  pub is_past : account_past from (With w key) next ≡ Some b
+
+abbrev pub SecondBegins : (text : List ℕ) → Account → Account → List ℕ → Type 0
+SecondBegins text x y after = Begins text after y × Holds (has_no_nul after)
+
+pub keeps : (text : List ℕ) → KeepsOn GivesUp Same (SecondBegins text)
+keeps text = record {
+  first_like = λ x y z g i. gives_up_like x z y g i;
+  second_like = λ x y z e i. subst (λ u. IsLike x u) e i;
+  first = λ x y z after i g r. r;
+  second = λ x y z after i e r. (subst (λ u. Begins text after u) e r.0, r.1);
+  both = λ x y a b v c next i r k l e f. (begins_past text _ y b (With v c) next refl l f r.0, no_nul_after v.piece next (no_nul_after v.separation (v.piece ++ next) r.1));
+}
+
+pub came_by : (text : List ℕ) (a : Account) (w : Step) (next : List ℕ) (b : Account) → Way GivesUp text (w.separation ++ (w.piece ++ next)) a → IsWritten a w next → Begins text next b → Came text a w next b
+came_by text a w next b way written g =
+    by (meet GivesUp Same (SecondBegins text) (keeps text) way.steps (strict_way text next b g).steps (w.separation ++ (w.piece ++ next)) next first_account first_account a b (refl, tt, tt) (subst (λ r. Begins text r first_account) (sym way.spells) (begins_at_start text), (subst (λ r. Holds (has_no_nul r)) (sym way.spells) (clean_up_to_end text))) way.leads
+    (strict_way text next b g).leads (way.spells ∙ sym (strict_way text next b g).spells) (subst (λ r. Holds (has_no_nul r)) (sym way.spells) (clean_up_to_end text)))
+  where
+    by : Meet GivesUp Same (SecondBegins text) a b (w.separation ++ (w.piece ++ next)) next → Came text a w next b
+    by (same_place i r e) = let more = longer w next written.1.0 in let same = ap length e in absurd (omega (arith, more, same))
+    by (first_on n) =
+        let more = longer w next written.1.0 in
+        let on = spelled_longer (n.step ∷ n.steps) (w.separation ++ (w.piece ++ next)) in
+        let same = ap length n.spells in
+        absurd (omega (arith, more, on, same))
+    by (second_on n) = to n.steps n.leads same.3 (subst (λ v. account_past n.account v (spelled n.steps next) ≡ Some n.past) (moved n.step w (sym same.0) (sym same.1) (sym same.2)) n.is_past)
+      where
+        same : (w.separation ≡ n.step.separation) × (w.piece ≡ n.step.piece) × (w.shown ≡ n.step.shown) × (next ≡ spelled n.steps next)
+        same = same_written a n.account w n.step next (spelled n.steps next) n.is_like written n.is_written (sym n.spells) n.holds.1
+
+        to : (ws : List Step) → LeadsBy Same (Some n.past) ws next b → next ≡ spelled ws next → account_past n.account (With w n.step.key) (spelled ws next) ≡ Some n.past → Came text a w next b
+        to [] h e past = record { from = n.account; key = n.step.key; is_like = n.is_like; begins = n.holds.0; is_past = past ∙ ap (λ x. Some x) h }
+        to (v ∷ ws) h e past =
+            let more = longer v (spelled ws next) h.2.1.0 in
+            let on = spelled_longer ws next in
+            let same = ap length e in
+            absurd (omega (arith, more, on, same))
+
+-- ---- ways to where a piece begins
+
+module _ (text : List ℕ) (t : ScannerState) (some : is_empty t.rest ≡ false) where
+  -- outside flow, with a choice for the open key
+  pub way_outside : (k : Option Key) (a : ArrivesBy text t [] (k ∷ []) []) → (c : Bool) × Way GivesUp text (a.separation ++ t.rest) (with_entries a.site (line_by c k a.line) [])
+  way_outside None a = (false, way_of text _ _ (a.completes true false [] tt).0)
+  way_outside (Some x) a = by x.required refl
+    where
+      by : (b : Bool) → x.required ≡ b → (c : Bool) × Way GivesUp text (a.separation ++ t.rest) (with_entries a.site (line_by c (Some x) a.line) [])
+      by true e = (true, way_of text _ _ (a.completes true true [] ((a.is_near refl).0, some)).0)
+      by false e = (false, way_of text _ _ (a.completes true false [] e).0)
+
+  -- in flow, where no open key is one
+  pub way_inside : (f : FlowLevel) (fs : List FlowLevel) (k : Option Key) (ks : List (Option Key)) (e : Entry) (es : List Entry) (a : ArrivesBy text t (f ∷ fs) (k ∷ ks) (e ∷ es)) → Way GivesUp text (a.separation ++ t.rest) (with_entries a.site a.line (e ∷ es))
+  way_inside f fs k ks e es a = subst (λ b. Way GivesUp text (a.separation ++ t.rest) b) (none_chosen (k ∷ ks) base) (by (outside_key es ks) refl)
+    where
+      base : Account
+      base = with_entries a.site a.line (e ∷ es)
+
+      by : (y : Option Key) → outside_key es ks ≡ y → Way GivesUp text (a.separation ++ t.rest) (chosen false [] (k ∷ ks) base)
+      by None i = way_of text _ _ (a.completes true false [] (subst (λ z. MayChoose true false z t.held.position t.rest) (sym i) tt)).0
+      by (Some x) i = of x.required refl
+        where
+          of : (b : Bool) → x.required ≡ b → Way GivesUp text (a.separation ++ t.rest) (chosen false [] (k ∷ ks) base)
+          of true m = way_but_for_key text (a.separation ++ t.rest) x.position (chosen false [] (k ∷ ks) base) (a.carries [] x i m refl some)
+          of false m = way_of text _ _ (a.completes true false [] (subst (λ z. MayChoose true false z t.held.position t.rest) (sym i) m)).0
+
+-- ---- a row of a text goes through each place that a way leads to, at an account that is like the way's; and so through the place after a step that was read there
 
 -- Where the steps of a row lead.
 record RowEnd (o : Option Account) (ws : List Step) (last : List ℕ) : Type 0 where
@@ -21,9 +115,8 @@ row_end [] last (Some a) row = record { account = a; leads = refl; is_filled = r
 row_end (w ∷ ws) last (Some a) row = let n = row_end ws last (account_past a w (spelled ws last)) row.1 in record { account = n.account; leads = (row.0, n.leads); is_filled = n.is_filled; may = n.may }
 
 leads_row : (ws : List Step) (last : List ℕ) (o : Option Account) (b : Account) → LeadsBy Same o ws last b → Holds (is_separation false last []) → Holds (may_end b) → IsRowFrom o ws last
-leads_row ws last None b h f m = absurd h
-leads_row [] last (Some a) b h f m = (f, subst (λ x. may_end x ≡ true) (sym h) m)
-leads_row (w ∷ ws) last (Some a) b h f m = grind (arith, nat_tests, eqb-true, leads_row ws last (account_past a w (spelled ws last)) b)
+leads_row (w ∷ ws) last (Some a) b h f m = grind (arith, leads_row ws last (account_past a w (spelled ws last)) b)
+leads_row ws last o b h f m = grind arith
 
 -- ---- through a place
 
@@ -59,10 +152,6 @@ row_walks J R keeps text after a r p way h =
 
 -- ---- past a step
 
--- where a text begins each row of it does
-pub goes_from_start : (text after : List ℕ) → after ≡ up_to_nul text → (r : Row) → HasRow text r → GoesThrough text after
-goes_from_start text after whole r h = record { account = first_account; begins = subst (λ x. Begins text x first_account) (sym whole) (begins_at_start text); steps = r.steps; last = r.last; is_row = h.1; spells = h.0 ∙ sym whole }
-
 -- Each row goes through the place after a step that was read.
 pub goes_past : (text : List ℕ) (a : Account) (w : Step) (next : List ℕ) → Way GivesUp text (w.separation ++ (w.piece ++ next)) a → IsWritten a w next → (r : Row) → HasRow text r → GoesThrough text next
 goes_past text a w next way written r h = by g.steps g.is_row g.spells
@@ -79,12 +168,7 @@ goes_past text a w next way written r h = by g.steps g.is_row g.spells
       where
         to : (o : Option Account) → account_past g.account u (spelled us g.last) ≡ o → IsRowFrom o us g.last → GoesThrough text next
         to None f k = absurd k
-        to (Some b) f k = record {
-          account = b;
-          begins = subst (λ x. Begins text x b) (sym ((same_written a g.account w u next (spelled us g.last) g.is_like written row.0 (sym e) g.holds.1).3)) (begins_past text before g.account b u (spelled us g.last) (sym e) row.0 f g.holds.0);
-          steps = us;
-          last = g.last;
-          is_row = k;
-          spells = sym
-              ((same_written a g.account w u next (spelled us g.last) g.is_like written row.0 (sym e) g.holds.1).3);
-        }
+        to (Some b) f k =
+            let same : spelled us g.last ≡ next = sym ((same_written a g.account w u next (spelled us g.last) g.is_like written row.0 (sym e) g.holds.1).3) in
+            let there : Begins text next b = subst (λ x. Begins text x b) same (begins_past text before g.account b u (spelled us g.last) (sym e) row.0 f g.holds.0) in
+            record { account = b; begins = there; steps = us; last = g.last; is_row = k; spells = same }

@@ -1,19 +1,17 @@
 -- What is known of keys that wait, after a step: from what was known before it.
-use Rattle.proof_scanner.proofs.Common.{[], Account, Act, act_of, ap, arith, Begins, begins_free_line, Bool, false, free, gives_block_scalar, gives_node, is_far, is_in_column, is_in_flow, IsLineHere, IsWritten, Key, KnowsKey, LikeLine, Line, line_by, line_past, line_past_separation, List, None, Option, Outside, Position, position_after, refl, same_flow, Site, site_here, Some, Step, subst, sym, taken, true, up_to_nul, waits, ℕ, ◌++◌, ◌+◌, ◌∙◌, ◌∷◌, ◌≡◌, ◌≤◌, eqb-true, nat_tests}
+use Rattle.proof_scanner.proofs.Common.{[], Account, Act, act_of, ap, arith, Begins, begins_free_line, Bool, Entry, eqb-true, false, FlowLevel, free, gives_block_scalar, gives_node, is_empty, is_far, is_in_column, is_in_flow, IsLineHere, IsWritten, Key, KnowsKey, LikeLine, Line, line_by, line_past, line_past_separation, List, must_be_key, nat_tests, None, not, not-true, Option, Outside, outside_key, Position, position_after, refl, same_flow, ScannerState, Site, site_here, Some, Step, subst, sym, taken, Tok, true, up_to_nul, waits, ℕ, ◌++◌, ◌+◌, ◌∙◌, ◌∷◌, ◌≡◌, ◌≤◌, first_account}
 use Rattle.proof_scanner.specs.KnownKeys.{IsAt}
-use Rattle.proof_scanner.proofs.Cut.Positions.{index_after, not_before_after}
-use Rattle.proof_scanner.proofs.Known.CameBy.{begins_whole, Came, came_by}
-use Rattle.proof_scanner.proofs.Known.Made.{same_of, waited, still_there, begun, kept, Waits, waits_past, Made, outside, inside, made}
-use Rattle.proof_scanner.proofs.Known.Rows.{goes_from_start, goes_past}
-use Rattle.proof_scanner.proofs.Known.Ways.{With, GivesUp, Way}
-use Rattle.proof_scanner.proofs.Sound.NodeSteps.{saved}
-use Rattle.proof_scanner.proofs.Sound.Sides.{with_entries}
+use Rattle.proof_scanner.proofs.Sound.Common.{ArrivesBy, index_after, IsDeep, not_before_after, not_before_same, saved, some_rest, with_entries, begins_at_start}
+use Rattle.proof_scanner.proofs.Known.Rows.{begins_whole, Came, came_by, goes_past, way_inside, way_outside}
+use Rattle.proof_scanner.proofs.Known.Made.{begun, inside, kept, Made, made, outside, same_of, still_there, waited, Waits, waits_past}
+use Rattle.proof_scanner.proofs.Known.Ways.{GivesUp, Way, With}
+use Rattle.proof_scanner.proofs.Sound.Outsides.{line_node, must_be_here, new_key}
 
 -- ---- without a step
 
 -- at a later position before the same text
 pub known_past : (text after : List ℕ) (p : Position) (k : Option Key) (f rest : List ℕ) → KnowsKey text after p k → KnowsKey text after (position_after p f rest) k
-known_past text after p k f rest n = grind (arith, nat_tests, eqb-true, not_before_after, index_after)
+known_past text after p k f rest n = grind (arith, not_before_after, index_after)
 
 -- where the open key is far, none is known
 pub known_far : (text after : List ℕ) (p : Position) (k : Key) → is_far k.position p ≡ true → KnowsKey text after p (Some k) → KnowsKey text after p None
@@ -22,11 +20,7 @@ known_far text after p k far n = grind arith
 
 -- where a text begins
 pub known_at_start : (text after : List ℕ) (p : Position) → after ≡ up_to_nul text → KnowsKey text after p None
-known_at_start text after p whole = record { waiting = λ b begin g e l i. absurd (cc (ap (λ (x : Account). x.line) (begins_whole text after b whole g) ∙ e)); required = λ b x g e m. absurd (cc e); rows = goes_from_start text after whole }
-
--- over a piece and a separation
-pub known_over : (text next : List ℕ) (p q : Position) (k : Option Key) (piece separation rest : List ℕ) → q ≡ position_after (position_after p piece next) separation rest → KnowsKey text next p k → KnowsKey text next q k
-known_over text next p q k piece separation rest e n = subst (λ x. KnowsKey text next x k) (sym e) (known_past text next (position_after p piece next) k separation rest (known_past text next p k piece next n))
+known_at_start text after p whole = record { waiting = λ b begin g e l i. absurd (cc (ap (λ (x : Account). x.line) (begins_whole text after b whole g) ∙ e)); required = λ b x g e m. absurd (cc e); rows = λ r h. record { account = first_account; begins = subst (λ x. Begins text x first_account) (sym whole) (begins_at_start text); steps = r.steps; last = r.last; is_row = h.1; spells = h.0 ∙ sym whole } }
 
 -- ---- lines
 
@@ -102,7 +96,7 @@ module _ (text : List ℕ) (s : Site) (l line_here : Line) (allowed : Bool) (k :
 
       by : Made s came.from.line came.from.entries (With w came.key) next b → Past b
       by (inside some sep site one) = absurd (cc (same_flow [] came.from.entries came.is_like.2, some))
-      by (outside m o none sep past line site one) = grind (arith, nat_tests, eqb-true, came)
+      by (outside m o none sep past line site one) = grind (arith, came)
 
   -- After a node or a block scalar outside flow the key that may begin with it is open, or the one that was.
   pub known_saved : (p : Position) → new.position ≡ here → new.required ≡ is_in_column here.col at.blocks → KnowsKey text (w.separation ++ (w.piece ++ next)) p k → KnowsKey text next p (saved allowed new k)
@@ -121,7 +115,7 @@ module _ (text : List ℕ) (s : Site) (l line_here : Line) (allowed : Bool) (k :
           old d y i j (subst (λ z. IsAt z begin) j (n.waiting x.from begin x.begins (waited false (begins_free_line s.before w.separation) x.from.line x.line begin x.sep f).0 near_line near_index))
         where
           old : (d : Bool) (y : Option Key) → allowed ≡ d → k ≡ y → IsAt y begin → IsAt (saved d new y) begin
-          old a y i j h = grind (arith, nat_tests, eqb-true)
+          old a y i j h = grind arith
 
       waited_on : (d : Bool) (y : Option Key) → allowed ≡ d → k ≡ y → (b : Account) (x : Key) (z : Past b) → saved d new y ≡ Some x → x.required ≡ true → z.after.line ≡ waits x.position
       waited_on true (Some y) i j b x z e m = absurd (grind (arith, line_is))
@@ -136,3 +130,38 @@ module _ (text : List ℕ) (s : Site) (l line_here : Line) (allowed : Bool) (k :
       waited_on false (Some y) i j b x z e m =
           let was : z.line ≡ waits x.position = (still_there false (begins_free_line s.before w.separation) z.from.line z.line x.position (n.required z.from x z.begins (j ∙ e) m) z.sep).1 in
           (grind arith)
+
+-- ---- what is known of keys that wait, where a piece begins, is known after the piece and a separation
+
+-- the step of a piece, with no key
+abbrev pub keyless : (separation piece : List ℕ) → Tok → Step
+keyless separation piece tok = record { separation = separation; piece = piece; shown = tok; key = false }
+
+module _ (text : List ℕ) (t : ScannerState) (piece next : List ℕ) (tok : Tok) (cut : t.rest ≡ piece ++ next) (q : Position) (gap rest : List ℕ) (place : q ≡ position_after (position_after t.held.position piece next) gap rest) (is_rest : next ≡ gap ++ rest) where
+  later : (k : Option Key) → KnowsKey text next t.held.position k → KnowsKey text (gap ++ rest) q k
+  later k n = subst (λ y. KnowsKey text y q k) is_rest (subst (λ x. KnowsKey text next x k) (sym place) (known_past text next (position_after t.held.position piece next) k gap rest (known_past text next t.held.position k piece next n)))
+
+  goes_on : not (is_empty piece) ≡ true → is_empty t.rest ≡ false
+  goes_on h = some_rest t.rest piece next cut (not-true (is_empty piece) h)
+
+  pub knows_inside : (f : FlowLevel) (fs : List FlowLevel) (k : Option Key) (ks : List (Option Key)) (e : Entry) (es : List Entry) (a : ArrivesBy text t (f ∷ fs) (k ∷ ks) (e ∷ es)) →
+      IsWritten (with_entries a.site a.line (e ∷ es)) (keyless a.separation piece tok) next → KnowsKey text (gap ++ rest) q (outside_key es ks)
+  knows_inside f fs k ks e es a written =
+      later (outside_key es ks) (known_inside text (with_entries a.site a.line (e ∷ es)) (keyless a.separation piece tok) next written t.held.position (outside_key es ks) refl
+      (subst (λ r. Way GivesUp text (a.separation ++ r) (with_entries a.site a.line (e ∷ es))) cut (way_inside text t (goes_on written.1.0) f fs k ks e es a))
+      (subst (λ r. KnowsKey text (a.separation ++ r) t.held.position (outside_key es ks)) cut (a.knows refl)))
+
+  module _ (k : Option Key) (a : ArrivesBy text t [] (k ∷ []) []) (written : IsWritten (with_entries a.site a.line []) (keyless a.separation piece tok) next) where
+    way : (c : Bool) × Way GivesUp text (a.separation ++ (piece ++ next)) (with_entries a.site (line_by c k a.line) [])
+    way = subst (λ r. (c : Bool) × Way GivesUp text (a.separation ++ r) (with_entries a.site (line_by c k a.line) [])) cut (way_outside text t (goes_on written.1.0) k a)
+
+    pub knows_none : begins_key (act_of tok) ≡ false → KnowsKey text (gap ++ rest) q None
+    knows_none idle = later None (none_known text (with_entries a.site (line_by way.0 k a.line) []) (keyless a.separation piece tok) next written t.held.position refl idle way.1)
+
+    pub knows_saved : t.held.flow ≡ [] → IsDeep t.held → is_of_node (act_of tok) ≡ true → KnowsKey text (a.separation ++ t.rest) t.held.position k → KnowsKey text (gap ++ rest) q (saved t.held.key_allowed (new_key t) k)
+    knows_saved out deep keyed n =
+        let here : t.held.position ≡ position_after a.site.position a.separation (piece ++ next) = a.position_is ∙ ap (λ r. position_after a.site.position a.separation r) cut in
+        later (saved t.held.key_allowed (new_key t) k) (known_saved text a.site a.line a.line_here t.held.key_allowed k (new_key t) (keyless a.separation piece tok) next written keyed
+        (line_node text t k a out deep (goes_on written.1.0) t.held.position t.rest (not_before_same t.held.position)) a.is_line way.0 way.1 t.held.position here
+        (subst (λ x. must_be_key t.held ≡ is_in_column x.col (site_here false x a.site).blocks) here (must_be_here text t k a out deep))
+        (subst (λ r. KnowsKey text (a.separation ++ r) t.held.position k) cut n))

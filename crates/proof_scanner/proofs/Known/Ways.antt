@@ -1,13 +1,12 @@
 -- Two ways through one text: each beginning of a row goes through the place of the other, or the other goes on past its own. A way may give up a key that waits.
-use Rattle.proof_scanner.proofs.Common.{[], Account, account_past, account_step, ap, Begins, BeginsButForKey, Bool, Entry, first_account, free, has_no_nul, is_in_column, IsLike, IsWritten, Leads, LikeEntries, List, no_nul_after, None, Option, Position, refl, same_written, Some, spelled, Step, Stepped, subst, sym, taken, true, up_to_nul, waits, ℕ, ◌++◌, ◌∙◌, ◌∷◌, ◌≡◌, arith, eqb-true, nat_tests}
+use Rattle.proof_scanner.proofs.Common.{[], Account, account_past, account_step, ap, Begins, BeginsButForKey, Bool, Entry, first_account, free, has_no_nul, is_in_column, IsLike, IsWritten, Leads, LikeEntries, List, no_nul_after, None, Option, Position, refl, same_written, Some, spelled, Step, Stepped, subst, sym, taken, true, up_to_nul, waits, ℕ, ◌++◌, ◌∙◌, ◌∷◌, ◌≡◌, arith}
 use Rattle.defs_token.specs.Piece.{Holds}
 
 -- ---- accounts that are alike
 
 entries_sym : (ds es : List Entry) → LikeEntries ds es → LikeEntries es ds
-entries_sym [] es i = grind arith
-entries_sym (d ∷ ds) [] i = absurd i
 entries_sym (d ∷ ds) (e ∷ es) i = ((sym i.0.0, sym i.0.1, grind arith), entries_sym ds es i.1)
+entries_sym ds es i = grind arith
 
 pub like_sym : (a b : Account) → IsLike a b → IsLike b a
 like_sym a b i = (sym i.0, grind arith, entries_sym a.entries b.entries i.2)
@@ -32,9 +31,8 @@ abbrev pub Same : Account → Account → Type 0
 Same a b = a ≡ b
 
 pub strictly : (ws : List Step) (after : List ℕ) (o : Option Account) (b : Account) → Leads o ws after b → LeadsBy Same o ws after b
-strictly ws after None b h = absurd h
-strictly [] after (Some a) b h = h
 strictly (w ∷ ws) after (Some a) b h = (a, refl, h.0, strictly ws after (account_past a w (spelled ws after)) b h.1)
+strictly ws after o b h = grind arith
 
 pub loosely : (ws : List Step) (after : List ℕ) (o : Option Account) (b : Account) → Leads o ws after b → LeadsBy GivesUp o ws after b
 loosely ws after None b h = absurd h
@@ -108,7 +106,7 @@ pub data Meet (J K : Account → Account → Type 0) (R : Account → Account �
   first_on : GoesOn J (λ x y. R y x) b a after2 after1 → Meet J K R a b after1 after2
 
 pub moved : (w v : Step) → w.separation ≡ v.separation → w.piece ≡ v.piece → w.shown ≡ v.shown → w ≡ With v w.key
-moved w v f p t = grind (arith, nat_tests, eqb-true)
+moved w v f p t = grind arith
 
 -- What is kept along two ways: where an account changes, and by each step that both make.
 pub record KeepsOn (J K : Account → Account → Type 0) (R : Account → Account → List ℕ → Type 0) : Type 0 where
@@ -160,7 +158,6 @@ module _ (J K : Account → Account → Type 0) (R : Account → Account → Lis
 
       to : (g f : Option Account) → account_past h.0 v n ≡ g → account_past k.0 w m ≡ f → LeadsBy J g vs after1 a → LeadsBy K f ws after2 b → Stepped IsLike ((h.0 ≡ k.0) × (v ≡ w)) g f
           → ((g f : Account) → IsLike g f → R g f n → LeadsBy J (Some g) vs after1 a → LeadsBy K (Some f) ws after2 b → Meet J K R a b after1 after2) → Meet J K R a b after1 after2
-      to None f ge fe l o s on = absurd l
-      to (Some g) None ge fe l o s on = absurd o
       to (Some g) (Some f) ge fe l o s on =
           on g f s.0 (keeps.both h.0 k.0 g f v w.key n like rest h.2 (subst (λ z. IsWritten k.0 (With v w.key) z) (sym same.3) (subst (λ z. IsWritten k.0 z m) (moved w v (sym same.0) (sym same.1) (sym same.2)) k.2)) ge (subst (λ z. account_past k.0 (With v w.key) z ≡ Some f) (sym same.3) (subst (λ z. account_past k.0 z m ≡ Some f) (moved w v (sym same.0) (sym same.1) (sym same.2)) fe))) l o
+      to g f ge fe l o s on = absurd (grind arith)

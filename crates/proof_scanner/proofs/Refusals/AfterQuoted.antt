@@ -1,9 +1,7 @@
 -- What may follow a scalar in quotes is not refused.
-use Rattle.proof_scanner.proofs.Common.{[], ap, append_assoc, arith, At, begins_with, Bool, check_after_quoted, ends_spaces, Err, false, Fault, glued, goes_on_quoted, has_break, HasSpaces, held_of, if◌then◌else◌, in_flow, is_blank, is_blanks, is_blanks_and_comment, is_break, is_on_line, is_rest_of_line, is_separation, IsGlued, leading, lexed, line_is_done, List, may_follow_quoted, nat_tests, Ok, or_left, peek, Position, position_after, quoted_may_end, Read, refl, Result, ScannerState, skip_spaces, space, spaces_are_passed, subst, sym, true, Whitespace, Yes, ℕ, ◌++◌, ◌==◌, ◌>>=◌, ◌∙◌, ◌∷◌, ◌≡◌, eqb-true}
-use Rattle.proof_lexers.specs.Ends.{EndsAs}
+use Rattle.proof_scanner.proofs.Common.{[], ap, append_assoc, arith, At, begins_with, Bool, check_after_quoted, ends_spaces, Err, false, Fault, glued, has_break, HasSpaces, held_of, if◌then◌else◌, in_flow, is_blank, is_blanks, is_blanks_and_comment, is_break, is_on_line, is_rest_of_line, is_separation, IsGlued, leading, lexed, line_is_done, List, may_follow_quoted, nat_tests, Ok, or_left, peek, Position, position_after, quoted_may_end, Read, refl, Result, ScannerState, skip_spaces, space, spaces_are_passed, subst, sym, true, Whitespace, Yes, ℕ, ◌++◌, ◌==◌, ◌>>=◌, ◌∙◌, ◌∷◌, ◌≡◌, eqb-true, ContentAfterQuoted, EndsAs}
 use Rattle.proof_lexers.specs.Ends as ends
 use Rattle.yaml_chars.specs.Class as model_classes
-use Rattle.yaml_tokens.specs.declared.problem.Problem.TheVariants as problem
 use Rattle.proof_lexers.specs.PlainEnds as plains
 use Rattle.proof_scanner.proofs.Cut.Passes.{Spaced, spaces_skipped}
 use Rattle.proof_scanner.proofs.Sound.Passed.{same_has_break}
@@ -52,14 +50,10 @@ not_done s d r b e f g = ap is_rest_of_line (on_line s b) ∙ (grind (arith, nat
     comment [] b = rw (g, f) refl
     comment (c ∷ s) b = grind (arith, nat_tests, comment s)
 
-follows_by : (flow : Bool) (piece : List ℕ) (same : Bool) (c : ℕ) (r : List ℕ) → (has_break piece ≡ false → same ≡ true) → goes_on_quoted flow piece (c ∷ r) ≡ true → may_follow_quoted flow same c ≡ true
-unfolding may_follow_quoted
-follows_by a piece same c r b h = grind arith
-
 -- what stands after the blanks and a comment may follow
 follows : (flow : Bool) (piece s rest : List ℕ) (same : Bool) → (has_break piece ≡ false → same ≡ true) → is_separation false s rest ≡ true → plains.has_break s ≡ false → ends_spaces Yes rest ≡ true → quoted_may_end flow piece (s ++ rest) ≡ true → may_follow_quoted flow same (peek rest) ≡ true
 unfolding may_follow_quoted is_blank is_break model_classes.is_break
-follows flow piece s rest same stays f h e may = grind (arith, nat_tests, blanks_alone, not_at_end, not_done, after_blanks, follows_by, eqb-true, or_left)
+follows flow piece s rest same stays f h e may = grind (arith, nat_tests, blanks_alone, not_at_end, not_done, after_blanks, eqb-true, or_left)
 
 -- ---- the check
 
@@ -67,6 +61,6 @@ follows flow piece s rest same stays f h e may = grind (arith, nat_tests, blanks
 pub check_passes : (p : Position) (piece : List ℕ) (t : ScannerState) → t.held.position ≡ position_after p piece t.rest → quoted_may_end (in_flow t.held) piece t.rest ≡ true → Left (λ u. Unit {0}) (check_after_quoted p.line t)
 unfolding check_after_quoted
 check_passes p piece t is may =
-    let checked : ScannerState → Result ScannerState Fault = λ u. (if may_follow_quoted (in_flow u.held) (p.line == u.held.position.line) (peek u.rest) then Ok u else Err (At problem.ContentAfterQuoted u.held.position)) in
+    let checked : ScannerState → Result ScannerState Fault = λ u. (if may_follow_quoted (in_flow u.held) (p.line == u.held.position.line) (peek u.rest) then Ok u else Err (At ContentAfterQuoted u.held.position)) in
     let u : Left (Spaced Yes t) (skip_spaces Yes t) = skipped t (unglued (in_flow t.held) piece t.rest may) in
     subst (λ y. Left (λ z. Unit {0}) (y >>= checked)) (sym u.is) (grind (arith, nat_tests, eqb-true, append_assoc, same_line, same_has_break, follows))

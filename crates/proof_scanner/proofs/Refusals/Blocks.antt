@@ -1,23 +1,77 @@
 -- Faults of block scalars: the line is no header, or what stands after the scalar may not.
-use Rattle.proof_scanner.proofs.Common.{[], after_chars, allow_key, and_parts, ap, append-nil, are_empty, AreLines, arith, Arrives, At, begins_with, block, block_first, block_may_end, block_read, BlockRead, BlockStyle, body, Bool, Break, collection_of, columns, Err, false, Fault, fetch_block_scalar, folded, further_text, has_no_nul, header_of, Held, if◌then◌else◌, indicator_of, innermost, is_at_end, is_break, is_empty, is_in_line, is_literal, is_literal_style, is_nul, is_shallow, is_tabbed, IsBlockFault, leading_spaces, least_column, linebreak, List, literal, nat_le, nat_lt, nat_tests, no_block, no_nul_after, None, not, Option, past, Position, position_after, Problem, read_body, read_lines, read_may_end, refl, refused_as, ScannerState, Some, spell, spell_more, split, split_spell, style_inner, subst, sym, tab, texts, true, unroll_non_block_indents, ℕ, ◌&&◌, ◌++◌, ◌||◌, ◌∙◌, ◌∷◌, ◌≡◌, eqb-true, cases_Bool, inl, inr}
-use Rattle.model_scanner.specs.declared.kind.BlockStyle as kind
+use Rattle.proof_scanner.proofs.Common.{[], after_chars, allow_key, and_parts, ap, append-nil, are_empty, AreLines, arith, Arrives, At, begins_with, block, block_first, block_may_end, block_read, BlockRead, BlockStyle, body, Bool, Break, collection_of, columns, Err, false, Fault, fetch_block_scalar, folded, further_text, has_no_nul, header_of, Held, if◌then◌else◌, indicator_of, innermost, is_at_end, is_break, is_empty, is_in_line, is_literal, is_literal_style, is_nul, is_shallow, is_tabbed, IsBlockFault, leading_spaces, least_column, List, literal, nat_le, nat_lt, nat_tests, no_block, no_nul_after, None, not, Option, past, Position, position_after, Problem, read_body, read_lines, read_may_end, refl, refused_as, ScannerState, Some, spell, spell_more, split, split_spell, style_inner, subst, sym, tab, texts, true, unroll_non_block_indents, ℕ, ◌&&◌, ◌++◌, ◌||◌, ◌∙◌, ◌∷◌, ◌≡◌, eqb-true, cases_Bool, inl, inr, after_line, first_content, first_empty, first_header, further_position, is_empty_line, is_spaces, length, lines_may_end, ◌+◌, ◌≤◌, BlockScalarHeader, BlockScalarIndentation, BlockScalarTab, BlockScalarZero, CommentNotSeparated}
 use Rattle.model_scanner.specs.declared.kind.BlockStyle.TheVariants.{Literal, Folded}
+use Rattle.proof_lexers.proofs.Blocks.Written.{Line, put}
+use Rattle.proof_scanner.proofs.Cut.Pieces.Quoted.{some_chars}
+use Rattle.proof_scanner.proofs.Cut.Saved.{saved_keys, saved_is}
+use Rattle.proof_scanner.proofs.Sound.BlockEnds.{IsLeast, Written, written, spaces_col, ends_at_margin}
+use Rattle.proof_scanner.proofs.Sound.WithoutOpen.{without_is}
+use Rattle.proof_scanner.proofs.Refusals.Places.{Faults, goes, read, Said, IsWhy, LiesDeep, looked_at, none_begins, none_here, stuck_by}
+use Rattle.proof_scanner.proofs.Refusals.TextsRefused.{header_alone}
+use Rattle.proof_scanner.proofs.Cut.Pieces.Blocks.{end_no_text}
+use Rattle.model_scanner.specs.declared.kind.BlockStyle as kind
 use Rattle.defs_text.specs.BlockScalar as defs
-use Rattle.yaml_tokens.specs.declared.problem.Problem.TheVariants as problem
 use Rattle.proof_lexers.specs.HeaderEnds as headers
 use Rattle.proof_lexers.specs.BlockEnds as block_ends
 use Rattle.proof_lexers.specs.BlockScan as scan
 use Rattle.proof_lexers.proofs.Blocks.Ends as blocks
-use Rattle.proof_lexers.proofs.Blocks.Written.{Line, put}
-use Rattle.proof_scanner.proofs.Cut.Pieces.Quoted.{some_chars}
-use Rattle.proof_scanner.proofs.Cut.Saved.{saved_keys, saved_is}
-use Rattle.proof_scanner.proofs.Sound.BlockEnds.{IsLeast, Written, written}
-use Rattle.proof_scanner.proofs.Sound.WithoutOpen.{without_is}
-use Rattle.proof_scanner.proofs.Refusals.AfterBlocks.{block_is_clear, lines_asked, lines_written}
 use Rattle.proof_scanner.specs.NoPiece as none
-use Rattle.proof_scanner.proofs.Refusals.Faults.{Faults, goes, read}
-use Rattle.proof_scanner.proofs.Refusals.TextsRefused.{header_alone}
-use Rattle.proof_scanner.proofs.Refusals.Places.{Said, IsWhy, LiesDeep, looked_at, none_begins, none_here, stuck_by}
+
+-- ---- a scalar without content
+
+-- A line in which no content begins is of spaces alone, and ends at the column or left of it.
+record Passed (column : ℕ) (w y : List ℕ) (p : Position) : Type 0 where
+  are_spaces : is_spaces w ≡ true
+  is_short : p.col + length w ≤ column
+
+passed : (column : ℕ) (w y : List ℕ) (p : Position) → is_in_line w ≡ true → p.col ≤ column → first_content column false p (w ++ y) ≡ None → Passed column w y p
+passed column [] y p inner low h = record { are_spaces = refl; is_short = omega (arith, low) }
+passed column (c ∷ w) y p inner low h = grind (arith, passed column w y (past p))
+
+none_is_empty : (column : ℕ) (ls : List Line) (p : Position) → AreLines ls [] → p.col ≡ 0 → first_content column false p (spell ls []) ≡ None → are_empty column (texts ls) ≡ true
+unfolding is_empty_line
+none_is_empty column [] p a z h = refl
+none_is_empty column (l ∷ ls) p a z h = grind (arith, nat_tests, eqb-true, passed, first_empty, none_is_empty column ls (after_line l p) a.2 refl)
+
+-- ---- what stands after it
+
+-- the lines of a scalar that was written so, and what is asked of them
+pub lines_written : (piece next : List ℕ) (w : Written piece next) → (split piece).complete ≡ w.header.text ∷ texts w.lines
+lines_written piece next w = ap (λ x. (split x).complete) w.is ∙ ap (λ x. x.complete) (split_spell (w.header ∷ w.lines) [] w.are refl)
+
+pub lines_asked : (indent : ℕ) (b : BlockRead) (piece next bs : List ℕ) → IsLeast indent bs → block_read (collection_of indent) piece next ≡ Some b → (w : Written piece next) → lines_may_end bs b.column (w.header.text ∷ texts w.lines) next ≡ read_may_end bs (block_read (innermost bs) piece next) piece next
+lines_asked indent b piece next bs least is w =
+    ap (λ x. lines_may_end bs b.column x next) (sym (lines_written piece next w)) ∙ ap (λ o. read_may_end bs o piece next) (sym (ap (λ c. block_read c piece next) (sym least.0) ∙ is))
+
+-- No TAB begins the line after a header, and what stands after a scalar without content is not both deeper than the block collection and left of the content column.
+pub record IsClear (indent : ℕ) (p : Position) (b : BlockRead) (piece next : List ℕ) : Type 0 where
+  pub untabbed : is_tabbed piece next ≡ false
+  pub deep : is_shallow indent p b piece next ≡ false
+
+module _ (indent : ℕ) (p : Position) (b : BlockRead) (piece next bs : List ℕ) (least : IsLeast indent bs) (is : block_read (collection_of indent) piece next ≡ Some b) where
+  abbrev Clear : Type 0
+  Clear = IsClear indent p b piece next
+
+  -- before further text
+  module _ (further : is_at_end next ≡ false) (may : read_may_end bs (block_read (innermost bs) piece next) piece next ≡ true) where
+    w : Written piece next
+    w = written (collection_of indent) piece next b is further
+
+    both : (not (is_empty (texts w.lines) && begins_with tab next) ≡ true) × ((not (are_empty b.column (texts w.lines)) || nat_lt (leading_spaces next) (least_column bs true) || nat_le b.column (leading_spaces next)) ≡ true)
+    both = and_parts _ _ (lines_asked indent b piece next bs least is w ∙ may)
+
+    column_is : (further_position p piece next).col ≡ leading_spaces next
+    column_is =
+        let margin = ends_at_margin (collection_of indent) piece next b p is further in
+        let spaces = spaces_col (position_after p piece next) next in
+        omega (arith, margin, spaces)
+
+    before_text : Clear
+    before_text = grind (arith, nat_tests, eqb-true, lines_written, w, both, column_is, none_is_empty, first_header)
+
+  -- What stands after a block scalar that may end is not refused.
+  pub block_is_clear : has_no_nul next ≡ true → block_may_end bs piece next ≡ true → Clear
+  block_is_clear clean may = grind (arith, nat_tests, eqb-true, end_no_text, before_text)
 
 -- ---- texts
 
@@ -31,29 +85,25 @@ record TabAfter (after : List ℕ) : Type 0 where
   more : List ℕ
   is : after ≡ put by (tab ∷ more)
 
-tab_after : (after : List ℕ) (p : Position) → headers.ends_line after ≡ true → begins_with tab (linebreak after p).rest ≡ true → TabAfter after
-unfolding is_break
-tab_after a p e h = grind arith
-
 -- a fault that comes first
 abbrev FirstFault : (collection : List ℕ) (here : Position) (text : List ℕ) (why : Problem) (at : Position) → Type 0
 FirstFault collection here text why at = (x : IsBlockFault collection here text why at) × block_first collection here text why at x
 
 -- ---- a TAB at the start of the line after a header
 
-tab_fault : (collection : List ℕ) (here : Position) (text header next : List ℕ) (k : Break) (h : defs.Header) → text ≡ header ++ put k (tab ∷ next) → is_in_line header ≡ true → header_of header ≡ Some h → FirstFault collection here text problem.BlockScalarTab here
+tab_fault : (collection : List ℕ) (here : Position) (text header next : List ℕ) (k : Break) (h : defs.Header) → text ≡ header ++ put k (tab ∷ next) → is_in_line header ≡ true → header_of header ≡ Some h → FirstFault collection here text BlockScalarTab here
 tab_fault collection here text header next k h e inner is =
     let ls : List Line = record { text = header; by = k } ∷ [] in
     (none.by_tab (spell ls []) header next h (e ∙ sym (spell_more ls [] (tab ∷ next))) (split_spell ls [] (inner, (grind arith), tt) refl) is, tt)
 
 -- the same by the piece that is the header
-piece_tab_fault : (collection : List ℕ) (o : Option ℕ) (here : Position) (text piece next : List ℕ) (b : BlockRead) → text ≡ piece ++ next → block_read o piece next ≡ Some b → is_tabbed piece next ≡ true → FirstFault collection here text problem.BlockScalarTab here
+piece_tab_fault : (collection : List ℕ) (o : Option ℕ) (here : Position) (text piece next : List ℕ) (b : BlockRead) → text ≡ piece ++ next → block_read o piece next ≡ Some b → is_tabbed piece next ≡ true → FirstFault collection here text BlockScalarTab here
 unfolding is_nul
 piece_tab_fault collection o here text piece next b e is tabbed =
     let q = and_parts (scan.is_single (split piece).complete) (begins_with tab next) tabbed in
     by (grind arith) q.0
   where
-    by : (m : List ℕ) × (next ≡ tab ∷ m) → scan.is_single (split piece).complete ≡ true → FirstFault collection here text problem.BlockScalarTab here
+    by : (m : List ℕ) × (next ≡ tab ∷ m) → scan.is_single (split piece).complete ≡ true → FirstFault collection here text BlockScalarTab here
     by m single =
         let w : Written piece next = written o piece next b is further in
         from w.header w.lines w.is w.are
@@ -61,7 +111,7 @@ piece_tab_fault collection o here text piece next b e is tabbed =
         further : is_at_end next ≡ false
         further = ap is_at_end m.1
 
-        from : (l : Line) (ls : List Line) → piece ≡ spell (l ∷ ls) [] → AreLines (l ∷ ls) [] → FirstFault collection here text problem.BlockScalarTab here
+        from : (l : Line) (ls : List Line) → piece ≡ spell (l ∷ ls) [] → AreLines (l ∷ ls) [] → FirstFault collection here text BlockScalarTab here
         from l (x ∷ ls) is_piece are =
             absurd (cc (single, ap (λ y. scan.is_single (split y).complete) is_piece, ap (λ y. scan.is_single y.complete) (split_spell (l ∷ x ∷ ls) [] are refl)))
         from l [] is_piece are = alone (header_of l.text) refl
@@ -69,27 +119,24 @@ piece_tab_fault collection o here text piece next b e is tabbed =
             lines_are : split piece ≡ record { complete = l.text ∷ []; last = [] }
             lines_are = ap split is_piece ∙ split_spell (l ∷ []) [] are refl
 
-            alone : (y : Option defs.Header) → header_of l.text ≡ y → FirstFault collection here text problem.BlockScalarTab here
+            alone : (y : Option defs.Header) → header_of l.text ≡ y → FirstFault collection here text BlockScalarTab here
             alone None i = absurd (cc ((ap (λ x. read_lines o (l.text ∷ []) [] next x) (sym further) ∙ (ap (λ s. read_lines o s.complete s.last next (is_at_end next)) (sym lines_are) ∙ is)), ap (λ y. read_body y o (body [] further_text) next) i))
             alone (Some h) i = (none.by_tab piece l.text m.0 h (e ∙ ap (λ r. piece ++ r) m.1) lines_are i, tt)
 
 -- ---- what stands after a scalar without content
 
-untabbed_by : (h : List ℕ) (ls : List (List ℕ)) (t : Bool) → (scan.is_single (h ∷ ls) && t) ≡ false → not (is_empty ls && t) ≡ true
-untabbed_by h ls t i = grind arith
-
 rest_fails : (t y l d : Bool) → t ≡ true → (t && (not y || l || d)) ≡ false → (y ≡ true) × (l ≡ false) × (d ≡ false)
 rest_fails t y l d e k = grind arith
 
 column_fault : (indent : ℕ) (bs : List ℕ) (here : Position) (text piece next : List ℕ) (b : BlockRead) → IsLeast indent bs → text ≡ piece ++ next → has_no_nul next ≡ true → block_read (collection_of indent) piece next ≡ Some b → is_tabbed piece next ≡ false → is_shallow indent here b piece next ≡ true
-    → FirstFault bs here text problem.BlockScalarIndentation (scan.further_position here piece next)
+    → FirstFault bs here text BlockScalarIndentation (scan.further_position here piece next)
 column_fault indent bs here text piece next b least e clean is untabbed low = by (is_at_end next) refl (elim (cases_Bool (block_may_end bs piece next)) [ inl i ↦ absurd (cc ((block_is_clear indent here b piece next bs least is clean i).deep, low)) | inr i ↦ i ])
   where
-    by : (x : Bool) → is_at_end next ≡ x → (x || read_may_end bs (block_read (innermost bs) piece next) piece next) ≡ false → FirstFault bs here text problem.BlockScalarIndentation (scan.further_position here piece next)
+    by : (x : Bool) → is_at_end next ≡ x → (x || read_may_end bs (block_read (innermost bs) piece next) piece next) ≡ false → FirstFault bs here text BlockScalarIndentation (scan.further_position here piece next)
     by true further k = absurd (cc k)
     by false further k =
         let w : Written piece next = written (collection_of indent) piece next b is further in
-        let no_tab : not (is_empty (texts w.lines) && begins_with tab next) ≡ true = untabbed_by w.header.text (texts w.lines) (begins_with tab next) (ap (λ x. scan.is_single x && begins_with tab next) (sym (lines_written piece next w)) ∙ untabbed) in
+        let no_tab : not (is_empty (texts w.lines) && begins_with tab next) ≡ true = grind (arith, (ap (λ x. scan.is_single x && begins_with tab next) (sym (lines_written piece next w)) ∙ untabbed)) in
         let q = rest_fails (not (is_empty (texts w.lines) && begins_with tab next)) (are_empty b.column (texts w.lines)) (nat_lt (leading_spaces next) (least_column bs true)) (nat_le b.column (leading_spaces next)) no_tab (lines_asked indent b piece next bs least is w ∙ k) in
         (none.by_column piece w.header.text next (texts w.lines) b e read_here further (lines_written piece next w) q.0 (grind (arith, nat_tests, q)) (grind (arith, nat_tests, q)), no_tab_fault)
       where
@@ -97,7 +144,7 @@ column_fault indent bs here text piece next b least e clean is untabbed low = by
         read_here = ap (λ c. block_read c piece next) (sym least.0) ∙ is
 
         -- no TAB stands after the header
-        no_tab_fault : (place : Position) → IsBlockFault bs here text problem.BlockScalarTab place → ⊥
+        no_tab_fault : (place : Position) → IsBlockFault bs here text BlockScalarTab place → ⊥
         no_tab_fault place (none.by_tab own header more h cut one has) =
             let alone = header_alone (innermost bs) header more own piece next b (sym e ∙ cut) one clean read_here in
             let tabbed : is_tabbed piece next ≡ true = rw (alone.0, alone.1, one) refl in
@@ -121,20 +168,21 @@ module _ (text : List ℕ) (t : ScannerState) (a : Arrives text t) (some : is_em
 
   -- `|` or `>`
   header_told : (style : BlockStyle) (line after : List ℕ) → t.rest ≡ indicator_of style ∷ (line ++ after) → is_in_line line ≡ true → headers.ends_line after ≡ true → (g : Fault) → headers.IsHeaderRefusal t.held.position style line after g → Said text g
+  unfolding is_break
   header_told style line after e inline ends g (headers.tabbed h is begins) =
-      let f : TabAfter after = tab_after after t.held.position ends begins in
-      λ _. block_stuck problem.BlockScalarTab t.held.position
+      let f : TabAfter after = grind arith in
+      λ _. block_stuck BlockScalarTab t.held.position
       (tab_fault collections t.held.position t.rest (indicator_of style ∷ line) f.more f.by h (e ∙ ap (λ r. indicator_of style ∷ (line ++ r)) f.is) (style_inner style line inline) is)
   header_told style line after e inline ends g (headers.zero_digit lacks zero) =
-      λ _. none_here text t a some lies problem.BlockScalarZero (none.headless style line after problem.BlockScalarZero t.held.position (ap not out) e inline ends lacks (none.by_zero zero)) tt
+      λ _. none_here text t a some lies BlockScalarZero (none.headless style line after BlockScalarZero t.held.position (ap not out) e inline ends lacks (none.by_zero zero)) tt
   header_told style line after e inline ends g (headers.comment h before more lacks is cut) =
       let place : headers.along before (past t.held.position) ≡ position_after t.held.position (indicator_of style ∷ before) (35 ∷ more) =
       (sym (after_chars (indicator_of style ∷ before) [] (35 ∷ more) t.held.position (style_inner style before (inner_first before (35 ∷ more) (ap is_in_line (sym cut) ∙ inline)))) ∙ ap (λ w. position_after t.held.position w (35 ∷ more)) (append-nil (indicator_of style ∷ before))) in
-      subst (λ p. Said text (At problem.CommentNotSeparated p)) (sym place)
-      (λ _. none_begins text t a some lies problem.CommentNotSeparated _
-      (none.headless style line after problem.CommentNotSeparated _ (ap not out) e inline ends lacks (none.by_comment h before more is cut)) tt)
+      subst (λ p. Said text (At CommentNotSeparated p)) (sym place)
+      (λ _. none_begins text t a some lies CommentNotSeparated _
+      (none.headless style line after CommentNotSeparated _ (ap not out) e inline ends lacks (none.by_comment h before more is cut)) tt)
   header_told style line after e inline ends g (headers.no_header lacks zero more begins) =
-      λ _. none_here text t a some lies problem.BlockScalarHeader (none.headless style line after problem.BlockScalarHeader t.held.position (ap not out) e inline ends lacks (none.by_text zero more begins)) tt
+      λ _. none_here text t a some lies BlockScalarHeader (none.headless style line after BlockScalarHeader t.held.position (ap not out) e inline ends lacks (none.by_text zero more begins)) tt
 
   block_refused : (style : BlockStyle) (indent : ℕ) (more : List ℕ) → t.rest ≡ indicator_of style ∷ more → IsLeast indent collections → (f : Fault) → block (is_literal_style style) indent t.rest t.held.position ≡ Err f → Said text f
   block_refused style indent more e deep f k =
@@ -143,10 +191,10 @@ module _ (text : List ℕ) (t : ScannerState) (a : Arrives text t) (some : is_em
       by : (g : Fault) → block_ends.IsBlockRefusal style indent t.held.position more g → Said text g
       by g (block_ends.bad_header line after cut inline ends why) = header_told style line after (e ∙ ap (λ r. indicator_of style ∷ r) cut) inline ends g why
       by g (block_ends.after_piece piece next b it (scan.shallow free low)) =
-          λ _. block_stuck problem.BlockScalarIndentation (scan.further_position t.held.position piece next)
+          λ _. block_stuck BlockScalarIndentation (scan.further_position t.held.position piece next)
           (column_fault indent collections t.held.position t.rest piece next b deep (e ∙ it.is_text) (no_nul_after piece next (subst (λ r. has_no_nul r ≡ true) (e ∙ it.is_text) a.is_clean)) it.is_read free low)
       by g (block_ends.after_piece piece next b it (scan.tabbed begins)) =
-          λ _. block_stuck problem.BlockScalarTab t.held.position (piece_tab_fault collections (collection_of indent) t.held.position t.rest piece next b (e ∙ it.is_text) it.is_read begins)
+          λ _. block_stuck BlockScalarTab t.held.position (piece_tab_fault collections (collection_of indent) t.held.position t.rest piece next b (e ∙ it.is_text) it.is_read begins)
 
   pub block_told : (style : kind.BlockStyle) (more : List ℕ) → t.rest ≡ (if is_literal style then 124 else 62) ∷ more → Faults (Said text) (fetch_block_scalar style t)
   unfolding fetch_block_scalar

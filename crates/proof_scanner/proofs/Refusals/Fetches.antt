@@ -1,21 +1,38 @@
 -- The faults of a fetch: each of a kind that is told is one by which the text is stuck.
-use Rattle.proof_scanner.proofs.Common.{ap, are_marks, arith, Arrives, At, before_by, before_past, begins_document_at, begins_with, columns, eqb-true, false, fetch_content, fetch_here, fetch_stream_end, fetch_token, has_open_level, has_required, inl, inr, is_adjacent, is_document_marker, is_empty, List, may_not_stand, nat_le, nat_lt, nat_tests, next_line, not, peek, refl, ScannerState, site_here, subst, sym, Tok, true, ℕ, ◌&&◌, ◌+◌, ◌==◌, ◌||◌, ◌∙◌, ◌≡◌, ◌≤◌, cases_Bool}
-use Rattle.yaml_tokens.specs.declared.problem.Problem.TheVariants as problem
+use Rattle.proof_scanner.proofs.Common.{ap, are_marks, arith, Arrives, At, before_by, before_past, begins_document_at, begins_with, columns, eqb-true, false, fetch_content, fetch_here, fetch_stream_end, fetch_token, has_open_level, has_required, inl, inr, is_adjacent, is_document_marker, is_empty, List, may_not_stand, nat_le, nat_lt, nat_tests, next_line, not, peek, refl, ScannerState, site_here, subst, sym, Tok, true, ℕ, ◌&&◌, ◌+◌, ◌==◌, ◌||◌, ◌∙◌, ◌≡◌, ◌≤◌, cases_Bool, [], and_parts, AreLevels, Bool, if◌then◌else◌, Indent, innermost, is_deeper, IsNotRight, IsTopLevel, not_ended, ◌-◌, ◌∷◌, InvalidIndentation, KeyExpected, UnexpectedAt, UnexpectedBacktick, UnexpectedPercent}
 use Rattle.model_scanner.specs.declared.kind.Collection.TheVariants.{Sequence, Mapping}
 use Rattle.model_scanner.specs.State.{after}
 use Rattle.proof_scanner.proofs.Cut.Nodes.{IsDeep}
 use Rattle.proof_scanner.proofs.Cut.Dispatch.{token_holds, content_holds}
 use Rattle.proof_scanner.proofs.Cut.Fetched.{no_end, goes_on_here}
-use Rattle.proof_scanner.proofs.Refusals.Levels.{levels_end}
-use Rattle.proof_scanner.specs.Failing as defs
-use Rattle.proof_scanner.proofs.Refusals.Faults.{Faults, fault, tried, either}
-use Rattle.proof_scanner.proofs.Refusals.Places.{IsRowless, Said, IsWhy, LiesDeep, rowless_told, none_here, stuck_by}
+use Rattle.proof_scanner.proofs.Refusals.Places.{Faults, fault, tried, either, IsRowless, Said, IsWhy, LiesDeep, rowless_told, none_here, stuck_by}
 use Rattle.proof_scanner.proofs.Refusals.Nodes.{name_told, tag_told, quoted_told}
-use Rattle.proof_scanner.proofs.Refusals.Blocks.{block_told}
 use Rattle.proof_scanner.proofs.Refusals.Plains.{plain_told}
+use Rattle.proof_scanner.proofs.Refusals.Blocks.{block_told}
 use Rattle.proof_scanner.proofs.Refusals.Indicators.{directive_told, marker_told, document_end_told, dash_told, question_told, colon_told, opening_told, closing_told, comma_told}
-use Rattle.proof_scanner.proofs.Refusals.RequiredKeys.{end_rowless}
+use Rattle.proof_scanner.proofs.Refusals.KeysThatWait.{end_rowless}
+use Rattle.proof_scanner.specs.Failing as defs
 use Rattle.proof_scanner.specs.NoPiece as none
+
+-- ---- outside flow
+
+-- collections that go on are not right of a column
+first_stays : (col : ℕ) (bs : List ℕ) → IsNotRight (innermost (not_ended col bs)) col
+first_stays col [] = tt
+first_stays col (n ∷ ns) = grind (arith, first_stays col ns)
+
+pub levels_end : (col : ℕ) (bs : List ℕ) (awaits : Bool) (i : ℕ) (ds : List Indent) → AreLevels i ds → not_ended col bs ≡ columns i ds → (awaits && is_deeper col bs) ≡ has_open_level ds → i ≤ col + 1
+levels_end col bs aw i [] a e o = omega (arith, a)
+levels_end col bs aw i (d ∷ ds) a e o = by d.needs_block_end a.0 e o
+  where
+    by : (b : Bool) → IsTopLevel b i d.indent ds → not_ended col bs ≡ (if b then (i - 1) ∷ columns d.indent ds else columns d.indent ds) → (aw && is_deeper col bs) ≡ not b → i ≤ col + 1
+    by true t f o =
+        let first : i - 1 ≤ col = subst (λ x. IsNotRight (innermost x) col) f (first_stays col bs) in
+        omega (arith, first)
+    by false t f o =
+        let deeper : is_deeper col bs ≡ true = (and_parts aw (is_deeper col bs) o).1 in
+        let outer : d.indent ≤ col = grind (arith, nat_tests, eqb-true) in
+        omega (arith, t.0, outer)
 
 module _ (text : List ℕ) (t : ScannerState) (a : Arrives text t) (some : is_empty t.rest ≡ false) where
   -- ---- the token by the first character
@@ -37,14 +54,14 @@ module _ (text : List ℕ) (t : ScannerState) (a : Arrives text t) (some : is_em
         close_bracket = λ more e. closing_told text t a some lies Sequence 93 more e (inl refl);
         close_brace = λ more e. closing_told text t a some lies Mapping 125 more e (inr refl);
         comma = λ more e. comma_told text t a some lies more e;
-        percent = λ more e. fault {f = At problem.UnexpectedPercent t.held.position} (λ _. none_here text t a some lies problem.UnexpectedPercent (none.percent more e (grind (arith, percent, eqb-true))) tt);
-        at_sign = λ more e. fault {f = At problem.UnexpectedAt t.held.position} (λ _. none_here text t a some lies problem.UnexpectedAt (none.at_sign more e) tt);
-        backtick = λ more e. fault {f = At problem.UnexpectedBacktick t.held.position} (λ _. none_here text t a some lies problem.UnexpectedBacktick (none.backtick more e) tt);
+        percent = λ more e. fault {f = At UnexpectedPercent t.held.position} (λ _. none_here text t a some lies UnexpectedPercent (none.percent more e (grind (arith, percent, eqb-true))) tt);
+        at_sign = λ more e. fault {f = At UnexpectedAt t.held.position} (λ _. none_here text t a some lies UnexpectedAt (none.at_sign more e) tt);
+        backtick = λ more e. fault {f = At UnexpectedBacktick t.held.position} (λ _. none_here text t a some lies UnexpectedBacktick (none.backtick more e) tt);
       }) some
 
   -- ---- columns
 
-  shallow : begins_document_at t.held.position t.rest ≡ false → nat_lt (t.held.position.col + 1) t.held.indent ≡ true → IsWhy text problem.InvalidIndentation t.held.position
+  shallow : begins_document_at t.held.position t.rest ≡ false → nat_lt (t.held.position.col + 1) t.held.indent ≡ true → IsWhy text InvalidIndentation t.held.position
   shallow none low = elim (cases_Bool (is_empty t.held.flow)) [
     | inl e ↦
         let deep : t.held.indent ≤ t.held.position.col + 1 = levels_end t.held.position.col a.base.site.blocks a.base.site.awaits t.held.indent t.held.indents a.are_levels
@@ -52,7 +69,7 @@ module _ (text : List ℕ) (t : ScannerState) (a : Arrives text t) (some : is_em
         (subst (λ b. (site_here (not b) t.held.position a.base.site).awaits ≡ has_open_level t.held.indents) e a.awaits_is) in
         absurd (grind (arith, nat_tests, deep, low))
     | inr e ↦
-        stuck_by text t a some problem.InvalidIndentation t.held.position (λ b bs k. (b ≡ true) × (nat_le k t.held.position.col ≡ false)) (ap not e, grind (arith, nat_tests, low))
+        stuck_by text t a some InvalidIndentation t.held.position (λ b bs k. (b ≡ true) × (nat_le k t.held.position.col ≡ false)) (ap not e, grind (arith, nat_tests, low))
         (λ c may m. record { is_first = a.is_indented some; fails = may_not_stand (defs.shallow m.0 none m.1) })
   ]
 
@@ -64,7 +81,7 @@ module _ (text : List ℕ) (t : ScannerState) (a : Arrives text t) (some : is_em
         directive = λ e col. directive_told text t a some (document_line col (ap (λ r. begins_with 37 r || is_document_marker r) e)) (after t.rest) e col;
         document_start = λ more e gap col. marker_told text t a some (document_line col (ap (λ r. begins_with 37 r || is_document_marker r) e ∙ rw gap refl)) Tok.document_start col;
         document_end = λ more e gap col. document_end_told text t a some (document_line col (ap (λ r. begins_with 37 r || is_document_marker r) e ∙ rw gap refl)) more e gap col;
-        shallow = λ n low. fault {f = At problem.InvalidIndentation t.held.position} (λ _. shallow (grind arith) low);
+        shallow = λ n low. fault {f = At InvalidIndentation t.held.position} (λ _. shallow (grind arith) low);
         token = λ n deep. token_told deep n.0 n.1;
       })
 
@@ -72,7 +89,7 @@ module _ (text : List ℕ) (t : ScannerState) (a : Arrives text t) (some : is_em
 
 end_told : (text : List ℕ) (t : ScannerState) → (has_required t.held.keys ≡ true → IsRowless text) → Faults (Said text) (fetch_stream_end t)
 unfolding fetch_stream_end
-end_told text t rowless = tried t (rowless_told text (has_required t.held.keys) problem.KeyExpected (next_line t.held.position) _ refl rowless)
+end_told text t rowless = tried t (rowless_told text (has_required t.held.keys) KeyExpected (next_line t.held.position) _ refl rowless)
 
 -- a token of a text that goes on, or the stream's end
 pub here_told : (text : List ℕ) (t : ScannerState) → Arrives text t → Faults (Said text) (fetch_here t)

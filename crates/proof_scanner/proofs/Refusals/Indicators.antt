@@ -1,44 +1,77 @@
 -- Faults of indicators, markers and directives.
-use Rattle.proof_scanner.proofs.Common.{[], allow_key, and_false, and_parts, ap, append_assoc, AreEntries, arith, Arrives, At, begin_flow, begin_key, begin_keyless_mapping, begin_keyless_pair, begin_keyless_value, begin_line, begin_pair, begins_entry, begins_free_line, begins_with, begins_with_alpha, begins_with_space_or_break, blanks_and_comment, Bool, check_after_tab, check_block_entry, check_dash, check_document_end, check_key_space, check_value_space, chosen, closed_key, Collection, colon_may_precede, deepened_flow, directive_of, directives_end, end_entry, end_flow, ended_flow, entries_by, Entry, eqb-true, Err, false, Fault, fetch_block_entry, fetch_directive, fetch_document_end, fetch_document_marker, fetch_flow_collection_end, fetch_flow_collection_start, fetch_flow_entry, fetch_key, fetch_value, flow_level, FlowLevel, followed_first, free, further, go_on, has, has_no_break, HasNoKey, HasSpaces, Held, held_of, Holds, if◌then◌else◌, in_flow, increase_flow_level, inl, inr, insert_key, is_alphanumeric, is_at_gap, is_blank, is_blank_or_breakz, is_breakz, is_empty, is_free, is_full, is_one_of, is_required, is_separation, is_taken, is_taken_line, is_value, is_value_here, IsDirectiveRefusal, IsFollowed, IsLineHere, IsLookedAt, IsOpenOutside, IsPlace, Key, leading, length, lexed, Line, line_by, line_past_separation, List, may_ask, may_not_stand, MayChoose, nat_le, nat_lt, nat_tests, next_entry, No, no_key, None, not, not-false, not-true, Ok, on_held, opens, opens_pair, Option, or_true, OutOfMemory, outside_key, paired, pass_indicator, past, past_blanks_and_comment, past_line_rest, peek, Position, position_after, Problem, Read, read_as, refl, refused_as, remove_implicit_key, Result, roll_entry, roll_indent, roll_one_col_indent, same_alpha, ScannerState, skip_indicator, skip_yaml_whitespace, slice_index, Some, space, spaces_are_passed, subst, suc, sym, taken, takes_pair, Tok, top_key, true, try_held, unroll_indent, waits, white, Whitespace, Yes, ℕ, ◌&&◌, ◌++◌, ◌-◌, ◌==◌, ◌||◌, ◌∙◌, ◌∷◌, ◌≡◌, ◌≤◌, ◌⊎◌}
-use Rattle.defs_text.specs.Tags as tags
-use Rattle.defs_token.specs.FlowEntry as entry
-use Rattle.yaml_tokens.specs.declared.problem.Problem.TheVariants as problem
+use Rattle.proof_scanner.proofs.Common.{[], allow_key, and_false, and_parts, ap, append_assoc, AreEntries, arith, Arrives, At, begin_flow, begin_key, begin_keyless_mapping, begin_keyless_value, begin_line, begin_pair, begins_entry, begins_free_line, begins_with, begins_with_alpha, begins_with_space_or_break, blanks_and_comment, Bool, check_after_tab, check_block_entry, check_dash, check_document_end, check_key_space, check_value_space, chosen, closed_key, Collection, colon_may_precede, deepened_flow, directive_of, directives_end, end_entry, end_flow, ended_flow, entries_by, Entry, eqb-true, Err, false, Fault, fetch_block_entry, fetch_directive, fetch_document_end, fetch_document_marker, fetch_flow_collection_end, fetch_flow_collection_start, fetch_flow_entry, fetch_key, fetch_value, flow_level, FlowLevel, followed_first, free, further, go_on, has, has_no_break, HasNoKey, HasSpaces, Held, held_of, Holds, if◌then◌else◌, in_flow, increase_flow_level, inl, inr, insert_key, is_alphanumeric, is_at_gap, is_blank, is_blank_or_breakz, is_breakz, is_empty, is_free, is_full, is_one_of, is_required, is_separation, is_taken, is_taken_line, is_value, is_value_here, IsDirectiveRefusal, IsFollowed, IsLookedAt, IsPlace, Key, leading, length, lexed, line_by, line_past_separation, List, may_ask, may_not_stand, MayChoose, nat_le, nat_lt, nat_tests, next_entry, No, no_key, None, not, not-false, not-true, Ok, on_held, opens, opens_pair, Option, or_true, OutOfMemory, outside_key, paired, pass_indicator, past, past_blanks_and_comment, past_line_rest, peek, Position, position_after, Problem, Read, read_as, refl, refused_as, remove_implicit_key, Result, roll_entry, roll_indent, roll_one_col_indent, same_alpha, ScannerState, skip_indicator, skip_yaml_whitespace, slice_index, Some, space, spaces_are_passed, subst, suc, sym, taken, takes_pair, Tok, top_key, true, try_held, unroll_indent, waits, white, Whitespace, Yes, ℕ, ◌&&◌, ◌++◌, ◌-◌, ◌==◌, ◌||◌, ◌∙◌, ◌∷◌, ◌≡◌, ◌≤◌, ◌⊎◌, append-nil, comment_of, is_break, is_decimal_digit, is_letter, is_on_line, past_comment, deepen, drop_open_level, in_block, Indent, level, ◌+◌, BlockEntryInFlow, BlockEntryNotAllowed, ColonMisplaced, CommentNotSeparated, ContentAfterDocumentEnd, FlowTooDeep, KeyExpected, KeyNotAllowed, TabAfterColon, TabAfterDash, TabAfterKey, ValueNotAllowed, WhitespaceExpected}
 use Rattle.yaml_chars.specs.Class.{is_alpha}
 use Rattle.model_scanner.specs.Directive.{directive}
 use Rattle.model_scanner.specs.State.{after}
 use Rattle.model_scanner.specs.Block.{value_of}
+use Rattle.proof_scanner.proofs.Sound.Stales.{no_entries}
+use Rattle.proof_scanner.proofs.Sound.DocumentLines.{line_begun}
+use Rattle.proof_scanner.proofs.Cut.Dispatch.{gap_here, value_is}
+use Rattle.proof_scanner.proofs.Cut.Blocks.{key_removed}
+use Rattle.proof_scanner.proofs.Cut.Passes.{Spaced, spaced, spaces_skipped}
+use Rattle.proof_scanner.proofs.Sound.QuotedEnds.{not_at_end}
+use Rattle.proof_scanner.proofs.Sound.Blanks.{same_in_line, line_rest_in_line, line_rest_cut, line_rest_fills, found_in, spaced_parted}
+use Rattle.proof_scanner.proofs.Sound.Passed.{same_has_break}
+use Rattle.proof_scanner.proofs.Cut.Saved.{saved_keys, saved_is}
+use Rattle.proof_scanner.proofs.Refusals.Places.{Faults, fault, goes, read, in_turn, tried, checked, either, kept, IsRowless, Said, IsWhy, LiesDeep, rowless_told, account_by, place, many_levels, IsAllowed, stuck, in_flow_is, looked_at, none_begins, followed_stuck, white_goes, space_told, spaces_told, no_comment, no_comment_left, solid_past}
+use Rattle.proof_scanner.proofs.Refusals.KeysThatWait.{not_required, line_rowless, closing_rowless, none_waits}
+use Rattle.proof_scanner.proofs.Sound.WhiteSpaces.{white_of, past_white, white_cut, past_white_space, white_exactly, white_first, no_tab_in, white_or_missed}
+use Rattle.proof_scanner.proofs.Sound.ColonSpaces.{colon_spaced}
+use Rattle.proof_scanner.proofs.Cut.Fetched.{begins_here}
+use Rattle.proof_scanner.proofs.Sound.FlowMarks.{flow_over, entry_over}
+use Rattle.proof_scanner.proofs.Refusals.PiecesRefused.{among}
+use Rattle.defs_text.specs.Classes as classes
+use Rattle.defs_text.specs.Tags as tags
+use Rattle.defs_token.specs.FlowEntry as entry
 use Rattle.model_scanner.proofs.Holds as holds
 use Rattle.proof_lexers.specs.DirectiveEnds as directives
 use Rattle.proof_lexers.specs.PlainEnds as plain_ends
 use Rattle.proof_lexers.specs.Separations as separations
 use Rattle.proof_scanner.proofs.Sound.Arrivals as arrivals
-use Rattle.proof_scanner.proofs.Sound.Stales.{no_entries}
-use Rattle.proof_scanner.proofs.Sound.DocumentLines.{line_begun}
-use Rattle.proof_scanner.proofs.Cut.Dispatch.{gap_here, value_is}
-use Rattle.proof_scanner.proofs.Cut.Levels.{rolled_one_is}
-use Rattle.proof_scanner.proofs.Cut.Passes.{Spaced, spaced, spaces_skipped}
-use Rattle.proof_scanner.proofs.Sound.QuotedEnds.{not_at_end}
-use Rattle.proof_scanner.proofs.Sound.Blanks.{same_in_line, line_rest_in_line, line_rest_cut, line_rest_fills, found_in, spaced_parted}
-use Rattle.proof_scanner.proofs.Sound.Passed.{same_has_break}
-use Rattle.proof_scanner.proofs.Refusals.TabsAfterColon.{no_space}
-use Rattle.proof_scanner.proofs.Refusals.Rolled.{Stays, rolled_stays, unrolled_stays, entry_keys, removed_is}
-use Rattle.proof_scanner.proofs.Cut.Saved.{saved_keys, saved_is}
 use Rattle.proof_scanner.specs.NoPiece as none
 use Rattle.proof_scanner.specs.Failing as defs
-use Rattle.proof_scanner.proofs.Refusals.Faults.{Faults, fault, goes, read, in_turn, tried, checked, either, kept}
-use Rattle.proof_scanner.proofs.Refusals.Spaces.{white_goes, space_told, spaces_told, no_comment, no_comment_left, solid_past}
-use Rattle.proof_scanner.proofs.Refusals.Places.{IsRowless, Said, IsWhy, LiesDeep, rowless_told, account_by, place, many_levels, IsAllowed, stuck, in_flow_is, looked_at, none_begins, followed_stuck}
-use Rattle.proof_scanner.proofs.Refusals.RequiredKeys.{not_required, line_rowless, closing_rowless, none_waits}
-use Rattle.proof_scanner.proofs.Sound.WhiteSpaces.{white_of, past_white, white_cut, past_white_space, white_exactly, white_first, no_tab_in, IsMissed, white_or_missed}
-use Rattle.proof_scanner.proofs.Sound.ColonSpaces.{colon_spaced}
-use Rattle.proof_scanner.proofs.Cut.Fetched.{begins_here}
-use Rattle.proof_scanner.proofs.Sound.FlowMarks.{flow_over, entry_over}
+
+-- ---- levels of indentation that a bracket begins
+
+unfoldable pub one_indents : Held → List Indent
+one_indents s = (if in_block s then level s.indent false ∷ s.indents else s.indents)
+
+unfoldable pub one_indent : Held → ℕ
+one_indent s = (if in_block s then s.indent + 1 else s.indent)
+
+pub rolled_one_is : (s : Held) → roll_one_col_indent s ≡ record s { indents = one_indents s; indent = one_indent s }
+unfolding roll_one_col_indent one_indents one_indent
+rolled_one_is a = grind (arith, nat_tests, eqb-true)
+
+-- the position and the open keys stay
+abbrev pub Stays : Held → Held → Type 0
+Stays u s = (u.position ≡ s.position) × (u.keys ≡ s.keys)
+
+pub rolled_stays : (col : ℕ) (number : Option ℕ) (tok : Tok) (p : Position) (s : Held) → Stays (roll_indent col number tok p s) s
+unfolding roll_indent drop_open_level deepen
+rolled_stays col number tok p s = grind arith
+
+pub unrolled_stays : (limit : ℕ) (s : Held) → Stays (unroll_indent limit s) s
+unfolding unroll_indent
+unrolled_stays limit s = grind arith
+
+-- ---- the blanks after a colon: TABs alone, where a letter stands after blanks and a comment without a space among the blanks
+
+-- a line ends with no letter
+line_end : (l : List ℕ) → begins_with_alpha (tags.after is_on_line l) ≡ false
+unfolding is_break classes.is_alpha is_decimal_digit is_letter
+line_end [] = refl
+line_end (d ∷ l) = grind (arith, line_end l)
+
+-- before a letter stand the blanks alone, so no space where none is among them
+pub no_space : (blanks b : List ℕ) → is_one_of blanks 32 ≡ false → begins_with_alpha (past_comment b) ≡ true → has 32 (blanks ++ comment_of b) ≡ false
+no_space blanks b h letter = grind (arith, among, line_end, append-nil)
 
 -- ---- keys that must be one
 
 remove_told : (text : List ℕ) (s : Held) → (is_required (top_key s.keys) ≡ true → IsRowless text) → Faults (Said text) (remove_implicit_key s)
 unfolding remove_implicit_key
-remove_told text s rowless = rowless_told text (is_required (top_key s.keys)) problem.KeyExpected s.position _ refl rowless
+remove_told text s rowless = rowless_told text (is_required (top_key s.keys)) KeyExpected s.position _ refl rowless
 
 line_told : (text : List ℕ) (s : Held) → (is_required (top_key s.keys) ≡ true → IsRowless text) → Faults (Said text) (begin_line s)
 unfolding begin_line
@@ -91,7 +124,7 @@ module _ (text : List ℕ) (t : ScannerState) (a : Arrives text t) (some : is_em
   unfolding check_document_end
   end_checked u v more e gap col m s =
       either (is_breakz (peek v.rest)) (λ _. goes) (λ i.
-      fault {f = At problem.ContentAfterDocumentEnd v.held.position} (followed_at problem.ContentAfterDocumentEnd v.held.position (further 3 t.held.position) (s.blanks ++ s.comment) v.rest
+      fault {f = At ContentAfterDocumentEnd v.held.position} (followed_at ContentAfterDocumentEnd v.held.position (further 3 t.held.position) (s.blanks ++ s.comment) v.rest
       (ap (λ h. h.position) s.is_held ∙ ap (λ q. position_after q (s.blanks ++ s.comment) v.rest) m.1)
       (none.after_end more (s.blanks ++ s.comment) v.rest col e gap (record { is_text = sym m.0 ∙ (s.is_rest ∙ sym (append_assoc s.blanks s.comment v.rest)); is_filled = s.is_filled; is_on_line = s.no_break }) (not_at_end v.rest i) (solid_past v.rest s.ends i)) (λ c may. tt)))
 
@@ -113,18 +146,7 @@ module _ (text : List ℕ) (t : ScannerState) (a : Arrives text t) (some : is_em
   outer_line out = subst (λ b. line_past_separation (not b) broken a.base.line ≡ Some a.line_here) out a.is_line
 
   line_taken : (c : Bool) (cs : List Bool) → IsAllowed text t a some c → is_empty t.held.flow ≡ true → t.held.key_allowed ≡ false → is_taken (chosen c cs t.held.keys a.base) a.separation ≡ true
-  line_taken c cs may out none =
-      let on_its_line : (k : Key) → k.position.line ≤ a.base.site.position.line → t.held.position.line ≤ k.position.line → broken ≡ false = λ k before here.
-      let line = ap (λ p. p.line) a.position_is in
-      arrivals.not_free a.base.site.before a.separation (arrivals.unbroken a.base.site.position a.separation t.rest some a.is_solid (omega (arith, before, here, line))) in
-      let by : (k : Option Key) (c : Bool) → MayChoose true c k t.held.position t.rest → IsLineHere false t.held.key_allowed t.rest k a.line_here → IsOpenOutside k a.base.site.position t.held.position t.rest a.base.site.blocks
-      → is_taken_line (line_past_separation false broken (line_by c k a.base.line)) ≡ true =
-      λ a c may h b. grind (arith, outer_line, out, taken_by, none, waits, on_its_line, some) in
-      by (outside_key a.base.entries t.held.keys) c (may out) (subst (λ b. IsLineHere (not b) t.held.key_allowed t.rest (outside_key a.base.entries t.held.keys) a.line_here) out a.line_is) a.is_open
-    where
-      taken_by : (l : Line) → (l ≡ free) ⊎ (l ≡ taken) → is_free l ≡ false → is_taken_line (Some l) ≡ true
-      taken_by l (inl e) h = absurd (cc (h, ap is_free e))
-      taken_by l (inr e) h = ap (λ x. is_taken_line (Some x)) e
+  line_taken c cs h e f = grind (arith, nat_tests, eqb-true, arrivals.not_free, arrivals.unbroken, some, is_taken_line, line_past_separation, line_by, outer_line, waits, outside_key, not, free, taken, is_free)
 
   line_not_taken : (c : Bool) (cs : List Bool) → IsAllowed text t a some c → is_empty t.held.flow ≡ true → t.held.key_allowed ≡ true → is_taken (chosen c cs t.held.keys a.base) a.separation ≡ false
   line_not_taken c cs may out allowed = grind arith
@@ -142,10 +164,10 @@ module _ (text : List ℕ) (t : ScannerState) (a : Arrives text t) (some : is_em
   entry_checked : (more : List ℕ) → t.rest ≡ 45 ∷ more → is_at_gap more ≡ true → Faults (Said text) (check_block_entry t.held)
   unfolding check_block_entry
   entry_checked more e gap =
-      checked (in_flow t.held) (At problem.BlockEntryInFlow t.held.position)
-      (λ i _. stuck text t a some [] problem.BlockEntryInFlow t.held.position (λ c may. record { fails = may_not_stand (defs.dash_in_flow more e gap (in_flow_is text t a some c [] ∙ i)); is_first = looked_at text t a some lies c [] })) (λ o.
-      checked (not t.held.key_allowed) (At problem.BlockEntryNotAllowed t.held.position)
-      (λ n _. stuck text t a some [] problem.BlockEntryNotAllowed t.held.position (λ c may.
+      checked (in_flow t.held) (At BlockEntryInFlow t.held.position)
+      (λ i _. stuck text t a some [] BlockEntryInFlow t.held.position (λ c may. record { fails = may_not_stand (defs.dash_in_flow more e gap (in_flow_is text t a some c [] ∙ i)); is_first = looked_at text t a some lies c [] })) (λ o.
+      checked (not t.held.key_allowed) (At BlockEntryNotAllowed t.held.position)
+      (λ n _. stuck text t a some [] BlockEntryNotAllowed t.held.position (λ c may.
       record { fails = may_not_stand (defs.dash_not_free more e gap (in_flow_is text t a some c [] ∙ o) (line_taken c [] may (is_outside o) (not-true t.held.key_allowed n))); is_first = looked_at text t a some lies c [] })) (λ _. goes))
 
   -- a character of a text stands in it with more after it
@@ -163,34 +185,31 @@ module _ (text : List ℕ) (t : ScannerState) (a : Arrives text t) (some : is_em
   dash_checked more e gap outside allowed h place x k = by x (read_as k (spaces_are_passed Yes more h.position))
     where
       reason : (blanks comment rest : List ℕ) → more ≡ blanks ++ (comment ++ rest) → is_separation false (blanks ++ comment) rest ≡ true → plain_ends.has_break (blanks ++ comment) ≡ false
-          → (has 9 blanks && (slice_index rest 0 == 45) && is_blank_or_breakz (slice_index rest 1)) ≡ true → Said text (At problem.TabAfterDash (position_after h.position (blanks ++ comment) rest))
+          → (has 9 blanks && (slice_index rest 0 == 45) && is_blank_or_breakz (slice_index rest 1)) ≡ true → Said text (At TabAfterDash (position_after h.position (blanks ++ comment) rest))
       reason blanks comment rest cut fills line all =
           let second = and_parts (has 9 blanks && (slice_index rest 0 == 45)) (is_blank_or_breakz (slice_index rest 1)) all in
           let first = and_parts (has 9 blanks) (slice_index rest 0 == 45) second.0 in
           let d = first_after rest 45 first.1 refl in
           let gap2 : is_at_gap d.0 ≡ true = sym (gap_here d.0) ∙ (ap (λ l. is_blank_or_breakz (slice_index l 1)) (sym d.1) ∙ second.1) in
-          followed_at problem.TabAfterDash _ (further 1 t.held.position) (blanks ++ comment) rest (ap (λ q. position_after q (blanks ++ comment) rest) place)
+          followed_at TabAfterDash _ (further 1 t.held.position) (blanks ++ comment) rest (ap (λ q. position_after q (blanks ++ comment) rest) place)
           (none.tab_after_dash more (blanks ++ comment) rest outside e gap (record { is_text = cut ∙ sym (append_assoc blanks comment rest); is_filled = fills; is_on_line = line })
           (has_more blanks comment first.0) (ap begins_entry d.1 ∙ gap2)) (λ c may. line_not_taken c [] may (is_outside outside) allowed)
 
-      by : (y : Read Whitespace) → HasSpaces Yes h.position more y → Faults (Said text) (if y.value.found_tabs && (slice_index y.rest 0 == 45) && is_blank_or_breakz (slice_index y.rest 1) then Err (At problem.TabAfterDash y.position) else Ok (go_on y h))
+      by : (y : Read Whitespace) → HasSpaces Yes h.position more y → Faults (Said text) (if y.value.found_tabs && (slice_index y.rest 0 == 45) && is_blank_or_breakz (slice_index y.rest 1) then Err (At TabAfterDash y.position) else Ok (go_on y h))
       by y (separations.spaces blanks comment rest cut are fills line ends) =
-          checked (has 9 blanks && (slice_index rest 0 == 45) && is_blank_or_breakz (slice_index rest 1)) (At problem.TabAfterDash (position_after h.position (blanks ++ comment) rest)) (reason blanks comment rest cut fills line) (λ _. goes)
+          checked (has 9 blanks && (slice_index rest 0 == 45) && is_blank_or_breakz (slice_index rest 1)) (At TabAfterDash (position_after h.position (blanks ++ comment) rest)) (reason blanks comment rest cut fills line) (λ _. goes)
 
   entry_outside : Holds (λ s. (in_flow t.held ≡ false) × (t.held.key_allowed ≡ true) × (s ≡ t.held)) (check_block_entry t.held)
   unfolding check_block_entry
-  entry_outside =
-      holds.checked (in_flow t.held) (At problem.BlockEntryInFlow t.held.position) (λ o. holds.checked (not t.held.key_allowed) (At problem.BlockEntryNotAllowed t.held.position) (λ n. holds.went (o, not-false t.held.key_allowed n, refl)))
+  entry_outside = grind (arith, nat_tests, eqb-true, holds.checked, in_flow, not, holds.went, not-false)
 
   -- no comment stands after what was passed behind a dash
   dash_spaced : (u : ScannerState) → Holds (λ v. (begins_with 35 v.rest ≡ false) × (v.held.keys ≡ u.held.keys)) (lexed (space Yes u.rest u.held.position) u.held check_dash)
   unfolding check_dash
-  dash_spaced u =
-      spaced Yes u check_dash (λ v. (begins_with 35 v.rest ≡ false) × (v.held.keys ≡ u.held.keys)) (λ w v s.
-      holds.checked (w.found_tabs && (slice_index v.rest 0 == 45) && is_blank_or_breakz (slice_index v.rest 1)) (At problem.TabAfterDash v.held.position) (λ _. holds.went (no_comment_left Yes v.rest s.ends, ap (λ h. h.keys) s.is_held)))
+  dash_spaced u = grind (arith, nat_tests, eqb-true, spaced, check_dash, begins_with, holds.checked, slice_index, is_blank_or_breakz, TabAfterDash, holds.went, no_comment_left)
 
   pub dash_told : (more : List ℕ) → t.rest ≡ 45 ∷ more → is_at_gap more ≡ true → Faults (Said text) (fetch_block_entry t)
-  unfolding fetch_block_entry
+  unfolding fetch_block_entry roll_entry
   dash_told more e gap =
       in_turn (tried t (entry_checked more e gap)) (λ u i.
       let was : (u.rest ≡ t.rest) × (in_flow t.held ≡ false) × (t.held.key_allowed ≡ true) × (u.held ≡ t.held) =
@@ -203,34 +222,30 @@ module _ (text : List ℕ) (t : ScannerState) (a : Arrives text t) (some : is_em
       (λ x k. dash_checked more e gap was.1 was.2 rolled.held place x (ap (λ r. space Yes r rolled.held.position) (sym left) ∙ k))) (λ v j.
       let spaced_on = held_of v (dash_spaced rolled) j in
       in_turn (spaces_told text No v (λ h. absurd (cc (h, spaced_on.0)))) (λ w k.
-      let keys : (roll_entry w).held.keys ≡ t.held.keys = entry_keys w ∙ (ap (λ h. h.keys) (held_of w (spaces_skipped No v) k).is_held ∙ (spaced_on.1 ∙ (stays.1 ∙ ap (λ h. h.keys) was.3))) in
+      let keys : (roll_entry w).held.keys ≡ t.held.keys = (grind (arith, rolled_one_is)) ∙ (ap (λ h. h.keys) (held_of w (spaces_skipped No v) k).is_held ∙ (spaced_on.1 ∙ (stays.1 ∙ ap (λ h. h.keys) was.3))) in
       in_turn (tried (roll_entry w) (remove_told text (roll_entry w).held (λ must. absurd (cc (must, ap (λ ks. is_required (top_key ks)) keys, not_required text t a some (ap (λ b. in_flow t.held || b) was.2 ∙ or_true (in_flow t.held))))))) (λ x l. goes))))
 
   key_begun : (more : List ℕ) → t.rest ≡ 63 ∷ more → is_at_gap more ≡ true → Faults (Said text) (begin_key t.held)
   unfolding begin_key
   key_begun more e gap =
       either (in_flow t.held) (λ _. goes) (λ o.
-      checked (not t.held.key_allowed) (At problem.KeyNotAllowed t.held.position)
-      (λ n _. stuck text t a some [] problem.KeyNotAllowed t.held.position (λ c may.
+      checked (not t.held.key_allowed) (At KeyNotAllowed t.held.position)
+      (λ n _. stuck text t a some [] KeyNotAllowed t.held.position (λ c may.
       record { fails = may_not_stand (defs.question_not_free more e gap (in_flow_is text t a some c [] ∙ o) (line_taken c [] may (is_outside o) (not-true t.held.key_allowed n))); is_first = looked_at text t a some lies c [] })) (λ _. goes))
 
   key_place : Holds (λ s. Stays s t.held × ((in_flow t.held || t.held.key_allowed) ≡ true)) (begin_key t.held)
   unfolding begin_key
-  key_place =
-      holds.either (in_flow t.held) (λ i. holds.went ((refl, refl), ap (λ b. b || t.held.key_allowed) i)) (λ o.
-      holds.checked (not t.held.key_allowed) (At problem.KeyNotAllowed t.held.position) (λ n.
-      holds.went (rolled_stays t.held.position.col None Tok.block_mapping_start t.held.position t.held, ap (λ b. b || t.held.key_allowed) o ∙ not-false t.held.key_allowed n)))
+  key_place = grind (arith, nat_tests, eqb-true, holds.either, in_flow, holds.went, holds.checked, not, KeyNotAllowed, rolled_stays, not-false)
 
   white_told : (in_flow t.held || t.held.key_allowed) ≡ true → (more : List ℕ) → t.rest ≡ 63 ∷ more → is_at_gap more ≡ true → (u : ScannerState) → u.rest ≡ more → u.held.position ≡ past t.held.position → Faults (Said text) (skip_yaml_whitespace u)
   unfolding skip_yaml_whitespace
-  white_told asked more e gap u left place = by (white_or_missed more u.held gap)
-    where
-      by : (begins_with_space_or_break more ≡ true) ⊎ IsMissed more u.held → Faults (Said text) (white false false u.rest u.held)
-      by (inl begins) = subst (λ x. Faults (Said text) x) (sym (white_goes u (ap begins_with_space_or_break left ∙ begins))) goes
-      by (inr m) =
-          subst (λ x. Faults (Said text) x) (sym (ap (λ r. white false false r u.held) left ∙ m.is_refused)) (fault {f = At problem.WhitespaceExpected u.held.position}
-          (followed_at problem.WhitespaceExpected u.held.position (further 1 t.held.position) [] more place
-          (none.no_space more [] more e gap (record { is_text = refl; is_filled = refl; is_on_line = refl }) m.no_space m.ends) (λ c may. (asks asked c may, refl))))
+  white_told asked more e gap u left place = elim (white_or_missed more u.held gap) [
+    | inl begins ↦ subst (λ x. Faults (Said text) x) (sym (white_goes u (ap begins_with_space_or_break left ∙ begins))) goes
+    | inr m ↦
+        subst (λ x. Faults (Said text) x) (sym (ap (λ r. white false false r u.held) left ∙ m.is_refused)) (fault {f = At WhitespaceExpected u.held.position}
+        (followed_at WhitespaceExpected u.held.position (further 1 t.held.position) [] more place
+        (none.no_space more [] more e gap (record { is_text = refl; is_filled = refl; is_on_line = refl }) m.no_space m.ends) (λ c may. (asks asked c may, refl))))
+  ]
 
   tab_first : (r : List ℕ) → (peek r == 9) ≡ true → r ≡ 9 ∷ after r
   tab_first r h = grind arith
@@ -242,10 +257,10 @@ module _ (text : List ℕ) (t : ScannerState) (a : Arrives text t) (some : is_em
       let begins : begins_with_space_or_break more ≡ true = held_of w (white_first more u.held gap) (ap (λ r. white false false r u.held) (sym left) ∙ k) in
       let separation : List ℕ = white_of false u.rest in
       let rest : List ℕ = past_white false u.rest in
-      subst (λ (z : ScannerState). Faults (Said text) (if peek z.rest == 9 then Err (At problem.TabAfterKey z.held.position) else Ok z)) (sym exact.0)
-      (checked (peek rest == 9) (At problem.TabAfterKey (position_after u.held.position separation rest)) (λ tab.
+      subst (λ (z : ScannerState). Faults (Said text) (if peek z.rest == 9 then Err (At TabAfterKey z.held.position) else Ok z)) (sym exact.0)
+      (checked (peek rest == 9) (At TabAfterKey (position_after u.held.position separation rest)) (λ tab.
       let first : rest ≡ 9 ∷ after rest = tab_first rest tab in
-      followed_at problem.TabAfterKey (position_after u.held.position separation rest) (further 1 t.held.position) separation (9 ∷ after rest)
+      followed_at TabAfterKey (position_after u.held.position separation rest) (further 1 t.held.position) separation (9 ∷ after rest)
       (ap (λ q. position_after q separation rest) place ∙ ap (λ r. position_after (further 1 t.held.position) separation r) first)
       (none.tab_after_question more separation (after rest) e gap (sym left ∙ (white_cut false u.rest ∙ ap (λ r. separation ++ r) first)) (subst (λ r. is_separation false separation r ≡ true) first exact.1))
       (λ c may. (asks asked c may, begins, no_tab_in false u.rest))) (λ _. goes))
@@ -257,7 +272,7 @@ module _ (text : List ℕ) (t : ScannerState) (a : Arrives text t) (some : is_em
       let first : (u.rest ≡ t.rest) × Stays u.held t.held × ((in_flow t.held || t.held.key_allowed) ≡ true) =
       held_of {P = λ v. (v.rest ≡ t.rest) × Stays v.held t.held × ((in_flow t.held || t.held.key_allowed) ≡ true)} u (holds.tried t (begin_key t.held) key_place (λ s k. (refl, k.0, k.1))) i in
       in_turn (tried u (remove_told text u.held (λ must. absurd (cc (must, ap (λ ks. is_required (top_key ks)) first.1.1, not_required text t a some first.2))))) (λ v j.
-      let second : (v.rest ≡ u.rest) × (v.held.position ≡ u.held.position) = held_of {P = λ x. (x.rest ≡ u.rest) × (x.held.position ≡ u.held.position)} v (holds.tried u (remove_implicit_key u.held) (removed_is u.held) (λ s k. (refl, ap (λ h. h.position) k))) j in
+      let second : (v.rest ≡ u.rest) × (v.held.position ≡ u.held.position) = held_of {P = λ x. (x.rest ≡ u.rest) × (x.held.position ≡ u.held.position)} v (holds.tried u (remove_implicit_key u.held) (key_removed u.held) (λ s k. (refl, ap (λ h. h.position) k))) j in
       let here : ScannerState = skip_indicator (on_held (λ s. allow_key (not (in_flow s)) s) v) in
       let left : here.rest ≡ more = ap after (second.0 ∙ (first.0 ∙ e)) in
       let place : here.held.position ≡ past t.held.position = ap past (second.1 ∙ first.1.0) in
@@ -277,13 +292,13 @@ module _ (text : List ℕ) (t : ScannerState) (a : Arrives text t) (some : is_em
   single_key : (allowed again : Bool) (fs : List FlowLevel) (ks : List (Option Key)) (es : List Entry) (k : Key) → AreEntries allowed again fs ks es → opens_pair fs ≡ true → top_key ks ≡ Some k → SingleKey k (entries_by (true ∷ []) ks es)
   single_key allowed again a ks es k h o e = grind arith
 
-  misplaced : (more : List ℕ) → t.rest ≡ 58 ∷ more → colon_may_precede more ≡ true → is_value t ≡ true → (k : Key) → top_key t.held.keys ≡ Some k → opens_pair t.held.flow ≡ true → nat_lt k.position.line t.held.position.line ≡ true → Said text (At problem.ColonMisplaced t.held.position)
+  misplaced : (more : List ℕ) → t.rest ≡ 58 ∷ more → colon_may_precede more ≡ true → is_value t ≡ true → (k : Key) → top_key t.held.keys ≡ Some k → opens_pair t.held.flow ≡ true → nat_lt k.position.line t.held.position.line ≡ true → Said text (At ColonMisplaced t.held.position)
   misplaced more e apart i k top opens late = λ _.
       let s : SingleKey k (entries_by (true ∷ []) t.held.keys a.base.entries) = single_key t.held.key_allowed _ t.held.flow t.held.keys a.base.entries k a.are_entries opens top in
-      stuck text t a some (true ∷ []) problem.ColonMisplaced t.held.position (λ c may.
+      stuck text t a some (true ∷ []) ColonMisplaced t.held.position (λ c may.
       record { fails = may_not_stand (defs.key_on_earlier_line more k.position s.first s.around e (value_here more e i c (true ∷ [])) s.are s.takes s.had_is (grind (arith, nat_tests, late))); is_first = (looked_at text t a some lies c (true ∷ []), apart) })
 
-  not_allowed : (more : List ℕ) → t.rest ≡ 58 ∷ more → colon_may_precede more ≡ true → is_value t ≡ true → top_key t.held.keys ≡ None → in_flow t.held ≡ false → t.held.key_allowed ≡ false → Said text (At problem.ValueNotAllowed t.held.position)
+  not_allowed : (more : List ℕ) → t.rest ≡ 58 ∷ more → colon_may_precede more ≡ true → is_value t ≡ true → top_key t.held.keys ≡ None → in_flow t.held ≡ false → t.held.key_allowed ≡ false → Said text (At ValueNotAllowed t.held.position)
   not_allowed more e apart i top o allowed = λ _.
       let out : is_empty t.held.flow ≡ true = is_outside o in
       let none_in : a.base.entries ≡ [] = no_entries t.held.key_allowed _ t.held.flow t.held.keys a.base.entries out a.are_entries in
@@ -296,22 +311,10 @@ module _ (text : List ℕ) (t : ScannerState) (a : Arrives text t) (some : is_em
             (subst (λ r. IsLookedAt (account_by text t a some false []) a.separation t.held.position r) e (looked_at text t a some lies false [])) apart;
       }
 
-  pair_told : (more : List ℕ) → t.rest ≡ 58 ∷ more → colon_may_precede more ≡ true → is_value t ≡ true → (k : Key) → top_key t.held.keys ≡ Some k → (pair : Bool) → opens_pair t.held.flow ≡ pair → (s : Held) → Faults (Said text) (begin_pair k t.held.position pair s)
-  unfolding begin_pair
-  pair_told more e apart i k top true opens s = checked (nat_lt k.position.line t.held.position.line) (At problem.ColonMisplaced t.held.position) (λ late. misplaced more e apart i k top opens late) (λ _. goes)
-  pair_told more e apart i k top false opens s = goes
-
   mapping_told : (more : List ℕ) → t.rest ≡ 58 ∷ more → colon_may_precede more ≡ true → is_value t ≡ true → top_key t.held.keys ≡ None → (s : Held) → in_flow s ≡ in_flow t.held → s.key_allowed ≡ t.held.key_allowed → Faults (Said text) (begin_keyless_mapping t.held.position s)
   unfolding begin_keyless_mapping
   mapping_told more e apart i top s flow allowed =
-      either (in_flow s) (λ _. goes) (λ o. checked (not s.key_allowed) (At problem.ValueNotAllowed t.held.position) (λ n. not_allowed more e apart i top (sym flow ∙ o) (sym allowed ∙ not-true s.key_allowed n)) (λ _. goes))
-
-  keyless_alike : (pair : Bool) (s : Held) → (in_flow (begin_keyless_pair pair s) ≡ in_flow s) × ((begin_keyless_pair pair s).key_allowed ≡ s.key_allowed)
-  keyless_alike a s = grind arith
-
-  value_told : (more : List ℕ) → t.rest ≡ 58 ∷ more → colon_may_precede more ≡ true → is_value t ≡ true → (o : Option Key) → top_key t.held.keys ≡ o → (s : Held) → in_flow s ≡ in_flow t.held → s.key_allowed ≡ t.held.key_allowed → Faults (Said text) (value_of o t.held.position (opens_pair t.held.flow) s)
-  unfolding insert_key begin_keyless_value
-  value_told more e apart i a top s flow allowed = grind (arith, nat_tests, eqb-true, keyless_alike, opens_pair, in_turn, mapping_told, goes, pair_told)
+      either (in_flow s) (λ _. goes) (λ o. checked (not s.key_allowed) (At ValueNotAllowed t.held.position) (λ n. not_allowed more e apart i top (sym flow ∙ o) (sym allowed ∙ not-true s.key_allowed n)) (λ _. goes))
 
   tab_checked : (more : List ℕ) → t.rest ≡ 58 ∷ more → begins_with 9 more ≡ true → (h : Held) → h.position ≡ past t.held.position → (x : Read Whitespace) → space Yes more h.position ≡ Ok x → Faults (Said text) (check_after_tab x.value (go_on x h))
   unfolding check_after_tab is_alpha is_alphanumeric
@@ -320,11 +323,11 @@ module _ (text : List ℕ) (t : ScannerState) (a : Arrives text t) (some : is_em
       let exactly : Read Whitespace = record { rest = past_blanks_and_comment more; position = past_line_rest h.position more; value = found_in (leading is_blank more) } in
       let same : exactly ≡ x = cc (exact, k) in
       let letter : (r : List ℕ) → ((peek r == 45) || is_alpha (peek r)) ≡ true → begins_with_alpha r ≡ true = λ r f. grind (arith, same_alpha) in
-      subst (λ (z : Read Whitespace). Faults (Said text) (if not z.value.has_valid_yaml_ws && ((peek z.rest == 45) || is_alpha (peek z.rest)) then Err (At problem.TabAfterColon z.position) else Ok (go_on z h))) same
-      (checked (not (is_one_of (leading is_blank more) 32) && ((peek (past_blanks_and_comment more) == 45) || is_alpha (peek (past_blanks_and_comment more)))) (At problem.TabAfterColon (past_line_rest h.position more)) (λ all.
+      subst (λ (z : Read Whitespace). Faults (Said text) (if not z.value.has_valid_yaml_ws && ((peek z.rest == 45) || is_alpha (peek z.rest)) then Err (At TabAfterColon z.position) else Ok (go_on z h))) same
+      (checked (not (is_one_of (leading is_blank more) 32) && ((peek (past_blanks_and_comment more) == 45) || is_alpha (peek (past_blanks_and_comment more)))) (At TabAfterColon (past_line_rest h.position more)) (λ all.
       let first = and_parts (not (is_one_of (leading is_blank more) 32)) ((peek (past_blanks_and_comment more) == 45) || is_alpha (peek (past_blanks_and_comment more))) all in
       let alpha : begins_with_alpha (past_blanks_and_comment more) ≡ true = letter (past_blanks_and_comment more) first.1 in
-      followed_at problem.TabAfterColon _ (further 1 t.held.position) (blanks_and_comment more) (past_blanks_and_comment more)
+      followed_at TabAfterColon _ (further 1 t.held.position) (blanks_and_comment more) (past_blanks_and_comment more)
       (same_in_line h.position (blanks_and_comment more) [] (past_blanks_and_comment more) (line_rest_in_line more) ∙ ap (λ q. position_after q (blanks_and_comment more) (past_blanks_and_comment more)) place)
       (none.tab_after_colon more (blanks_and_comment more) (past_blanks_and_comment more) e tab
       (record { is_text = line_rest_cut more; is_filled = line_rest_fills more; is_on_line = same_has_break (blanks_and_comment more) ∙ ap not (line_rest_in_line more) })
@@ -340,16 +343,14 @@ module _ (text : List ℕ) (t : ScannerState) (a : Arrives text t) (some : is_em
   -- only the position is another
   value_held : (u : ScannerState) → Holds (λ w. w.held ≡ record u.held { position = w.held.position }) (check_value_space u)
   unfolding check_value_space check_after_tab
-  value_held u =
-      holds.either (peek u.rest == 9) (λ _. holds.read u.held (space Yes u.rest u.held.position) check_after_tab (λ x k.
-      holds.checked (not x.value.has_valid_yaml_ws && ((peek x.rest == 45) || is_alpha (peek x.rest))) (At problem.TabAfterColon x.position) (λ _. holds.went refl))) (λ _. holds.went refl)
+  value_held u = grind (arith, nat_tests, eqb-true, holds.either, peek, holds.read, space, check_after_tab, holds.checked, not, is_alpha, TabAfterColon, holds.went)
 
   pub colon_told : (more : List ℕ) → t.rest ≡ 58 ∷ more → is_value t ≡ true → Faults (Said text) (fetch_value t)
-  unfolding fetch_value
+  unfolding fetch_value insert_key begin_keyless_value begin_pair
   colon_told more e is =
       let value_told_by : (more : List ℕ) → t.rest ≡ 58 ∷ more → colon_may_precede more ≡ true → (u : ScannerState) → u.held.keys ≡ t.held.keys → in_flow u.held ≡ in_flow t.held → u.held.key_allowed ≡ t.held.key_allowed
       → Faults (Said text) (value_of (top_key u.held.keys) t.held.position (opens_pair t.held.flow) u.held) =
-      λ more e apart u keys flow allowed. value_told more e apart is (top_key u.held.keys) (sym (ap top_key keys)) u.held flow allowed in
+      λ more e apart u keys flow allowed. (grind (arith, nat_tests, eqb-true, opens_pair, in_turn, mapping_told, goes, opens, checked, nat_lt, misplaced, (sym (ap top_key keys)))) in
       let first : ScannerState = skip_indicator (on_held (λ s. record s { flow = paired s.flow }) t) in
       in_turn (value_checked more e first (ap after e) refl) (λ u k.
       let h = held_of u (value_held first) k in
@@ -374,7 +375,7 @@ module _ (text : List ℕ) (t : ScannerState) (a : Arrives text t) (some : is_em
   unfolding pass_indicator
   indicator_passed c more e is room u h =
       spaces_told text Yes (skip_indicator u) (λ k.
-      followed_at problem.CommentNotSeparated (past u.held.position) (further 1 t.held.position) [] (after u.rest) (ap past h.1)
+      followed_at CommentNotSeparated (past u.held.position) (further 1 t.held.position) [] (after u.rest) (ap past h.1)
       (none.glued c more e is (ap (λ r. begins_with 35 (after r)) (sym e) ∙ (ap (λ r. begins_with 35 (after r)) (sym h.0) ∙ k))) (λ d may. ap (λ n. opens c && nat_le 255 n) (sym many_here) ∙ room))
 
   begun_here : (kind : Collection) → Holds (λ s. (s.position ≡ t.held.position) × (nat_le 255 (length t.held.flow) ≡ false)) (begin_flow kind t.held)
@@ -387,10 +388,10 @@ module _ (text : List ℕ) (t : ScannerState) (a : Arrives text t) (some : is_em
   flow_begun : (kind : Collection) (bracket : ℕ) (more : List ℕ) → t.rest ≡ bracket ∷ more → (bracket ≡ 91) ⊎ (bracket ≡ 123) → Faults (Said text) (begin_flow kind t.held)
   unfolding begin_flow increase_flow_level
   flow_begun kind bracket more e is =
-      subst (λ s. Faults (Said text) (deepened_flow (if nat_le 255 (length s.flow) then Err (At problem.FlowTooDeep s.position) else Ok (record s { keys = None ∷ s.keys; flow = flow_level kind ∷ s.flow }))))
+      subst (λ s. Faults (Said text) (deepened_flow (if nat_le 255 (length s.flow) then Err (At FlowTooDeep s.position) else Ok (record s { keys = None ∷ s.keys; flow = flow_level kind ∷ s.flow }))))
       (sym (ap roll_one_col_indent (saved_is t.held) ∙ rolled_one_is (record t.held { keys = saved_keys t.held })))
-      (kept deepened_flow (λ e. refl) (λ x. goes) (checked (nat_le 255 (length t.held.flow)) (At problem.FlowTooDeep t.held.position) (λ full _.
-      stuck text t a some [] problem.FlowTooDeep t.held.position (λ c may.
+      (kept deepened_flow (λ e. refl) (λ x. goes) (checked (nat_le 255 (length t.held.flow)) (At FlowTooDeep t.held.position) (λ full _.
+      stuck text t a some [] FlowTooDeep t.held.position (λ c may.
       let room : 255 ≤ length t.held.flow = grind (arith, nat_tests, full) in
       record { fails = may_not_stand (defs.too_deep bracket more e is (omega (arith, many_here, room))); is_first = looked_at text t a some lies c [] })) (λ _. goes)))
 

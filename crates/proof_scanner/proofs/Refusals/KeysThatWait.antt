@@ -1,16 +1,21 @@
 -- A key that must be one waits in each row of the text; and while it waits no line ends. So no row goes on where a beginning has only gone on over a line's end by making no key of it.
-use Rattle.proof_scanner.proofs.Common.{[], Account, account_past, Act, act_of, ap, arith, begins_free_line, begins_separation, BeginsButForKey, blocks_at, Bool, Entry, fails, false, first_account, free, gives_node, has_break, HasRow, inl, inr, is_empty, is_in_column, is_in_flow, is_marker, is_separation, is_waiting, IsRowFrom, IsWritten, key_waits, length, LikeEntries, LikeLine, Line, line_past, line_past_separation, List, no_key, no_nul_after, None, not, not-true, not_ended, Outside, Position, position_after, position_in_line, previous_by, refl, Row, same_flow, Site, site_at, Some, spelled, Step, subst, sym, taken, TextsWithARowAreNotStuck, Tok, true, waits, ℕ, ◌&&◌, ◌++◌, ◌+◌, ◌<◌, ◌∙◌, ◌∷◌, ◌≡◌, ◌≤◌, ◌⊎◌, eqb-true, nat_tests}
+use Rattle.proof_scanner.proofs.Common.{cases_Bool, [], Account, account_past, Act, act_of, ap, arith, begins_free_line, begins_separation, BeginsButForKey, blocks_at, Bool, Entry, fails, false, first_account, free, gives_node, has_break, HasRow, inl, inr, is_empty, is_in_column, is_in_flow, is_marker, is_separation, is_waiting, IsRowFrom, IsWritten, key_waits, length, LikeEntries, LikeLine, Line, line_past, line_past_separation, List, no_key, no_nul_after, None, not, not-true, not_ended, Outside, Position, position_after, position_in_line, previous_by, refl, Row, same_flow, Site, site_at, Some, spelled, Step, subst, sym, taken, TextsWithARowAreNotStuck, Tok, true, waits, ℕ, ◌&&◌, ◌++◌, ◌+◌, ◌<◌, ◌∙◌, ◌∷◌, ◌≡◌, ◌≤◌, ◌⊎◌, eqb-true, nat_tests, append-nil, append_assoc, append_cancel_right, AreAround, AreEntries, Arrives, Begins, comma, context_of, first_position, FlowLevel, gives_closing, gives_comma, GoesThrough, has_no_nul, has_required, HasNoKey, in_flow, is_blank, is_blank_or_end, is_break, is_far, is_flow, is_nul, is_required, IsNear, IsPositionIn, Key, Leads, mapping_closing, MayChoose, Option, outside_key, position_append, ScannerState, sequence_closing, Stands, suc, top_key, Whole, ◌||◌}
 use Rattle.proof_scanner.proofs.Sound.Sides.{with_entries}
-use Rattle.proof_scanner.proofs.Refusals.KindsOfPieces.{marker_begins}
+use Rattle.proof_scanner.proofs.Refusals.PiecesRefused.{marker_begins, acct, whole_by}
 use Rattle.proof_scanner.proofs.Known.Made.{same_of, waited, still_there, like_past, Waits, begun, kept, waits_past, Made, outside, inside, made}
 use Rattle.proof_scanner.proofs.Known.Rows.{Walked, walk}
 use Rattle.proof_scanner.proofs.Known.Ways.{Same, With, strictly}
-use Rattle.proof_scanner.proofs.Known.Places.{step_here}
-use Rattle.proof_scanner.proofs.Refusals.WaitingKeys.{none_ends, goes_near}
+use Rattle.proof_scanner.proofs.Known.Places.{step_here, piece_ends, at_end}
+use Rattle.proof_scanner.proofs.Refusals.OtherRows.{none_ends, goes_near, Keeps, keeps_on, row_begins, StepAt, RowAt, row_at, BeginsWith, begins_with_part}
 use Rattle.proof_scanner.proofs.Refusals.NoRows.{failing_places_have_no_row, no_keyless_colon}
-use Rattle.proof_scanner.proofs.Refusals.OtherRows.{Keeps, keeps_on, row_begins}
 use Rattle.proof_row.proofs.CutColumns.{unbroken}
 use Rattle.proof_scanner.proofs.Sound.Arrivals.{not_none}
+use Rattle.proof_scanner.proofs.Cut.Documents.{whole_text}
+use Rattle.proof_scanner.proofs.Cut.Positions.{not_before_after, index_after}
+use Rattle.proof_scanner.proofs.Sound.CutsSoFar.{stands_cut, cut_position}
+use Rattle.proof_scanner.proofs.Sound.Stales.{no_entries}
+use Rattle.proof_scanner.specs.KnownKeys.{IsAt}
+use Rattle.proof_scanner.proofs.Refusals.Places.{IsRowless, account_by, in_flow_is, place}
 
 -- ---- columns
 
@@ -46,10 +51,6 @@ not_below q a h b = grind arith
 
 falls_at : (fl : Bool) (k : Act) (c : ℕ) (ns : List ℕ) → Falls ns → Falls (blocks_at fl k c ns)
 falls_at fl k c ns f = grind (arith, falls_kept)
-
--- where a node stands in no column of a collection, all that go on have columns before it
-node_below : (k : Act) (c : ℕ) (ns : List ℕ) → k ≡ gives_node → Falls ns → is_in_column c (blocks_at false k c ns) ≡ false → AllBelow c (blocks_at false k c ns)
-node_below k c ns e f h = grind (arith, below_here)
 
 below_at : (q : ℕ) (fl : Bool) (k : Act) (c : ℕ) (ns : List ℕ) → AllBelow q ns → AllBelow q (blocks_at fl k c ns)
 below_at q fl k c ns f = grind (arith, below_kept)
@@ -110,8 +111,7 @@ waiting_past s l es w next b on is e q wt = by (made s l es w next b e)
         line_after q here w.piece w.shown next b.site (ap (λ (x : Site). x.position) site) (ap (λ (x : Site). x.before) site) far.0 is.1.0 (not_broken w.piece b.line q wt one) (unmarked (is_marker (act_of w.shown)) refl far.1)
       where
         unmarked : (c : Bool) → is_marker (act_of w.shown) ≡ c → 1 ≤ here.col → is_marker (act_of w.shown) ≡ false
-        unmarked false m far = m
-        unmarked true m far = let zero : here.col ≡ 0 = (marker_begins _ w.piece next None _ w.shown is.1.1 m).column in absurd (omega (arith, far, zero))
+        unmarked c h e = grind (arith, nat_tests, eqb-true, marker_begins, next, is)
 
 -- ---- a beginning and a row
 
@@ -150,31 +150,24 @@ below_after s l m ds es w c next a b i j f below e1 e2 q wt tk = by (made s l ds
     broken : Bool
     broken = begins_free_line s.before w.separation
 
-    flows : is_in_flow ds ≡ is_in_flow es
-    flows = same_flow ds es j
-
     both : (n o : Line) (u v : Outside) → LikeLine n o → line_past_separation false broken l ≡ Some n → line_past_separation false broken m ≡ Some o
         → line_past (is_in_column at.position.col at.blocks) at.position at.blocks (act_of w.shown) c o ≡ Some v → v.line ≡ taken → Waits (is_in_column at.position.col at.blocks) at.position at.blocks (act_of w.shown) n u q → AllBelow q.col u.blocks
-    both n o u v k sep1 sep2 past tk (begun act fr h bs) = to (taken_past _ _ _ c o v (ap (λ x. line_past (is_in_column at.position.col at.blocks) at.position at.blocks x c o) (sym act) ∙ past) tk)
-      where
-        to : ((o ≡ free) × (is_in_column at.position.col at.blocks ≡ false)) ⊎ (o ≡ taken) → AllBelow q.col u.blocks
-        to (inl p) = subst (λ x. AllBelow q.col x) (sym bs) (subst (λ (x : Position). AllBelow x.col at.blocks) h (node_below (act_of w.shown) at.position.col s.blocks act f p.1))
-        to (inr t) = absurd (grind arith)
-    both n o u v k sep1 sep2 past tk (kept act is bs) = to (taken_past _ _ _ c o v (ap (λ x. line_past (is_in_column at.position.col at.blocks) at.position at.blocks x c o) (sym act) ∙ past) tk)
-      where
-        was : (l ≡ waits q) × (broken ≡ false)
-        was = waited false broken l n q sep1 is
-
-        to : ((o ≡ free) × (is_in_column at.position.col at.blocks ≡ false)) ⊎ (o ≡ taken) → AllBelow q.col u.blocks
-        to (inl p) = absurd (grind arith)
-        to (inr t) = subst (λ x. AllBelow q.col x) (sym bs) (below_at q.col false (act_of w.shown) at.position.col s.blocks
-            (below q was.0 (same_of m o (subst (λ x. line_past_separation false x m ≡ Some o) was.1 sep2) ∙ t)))
+    both n o u v k sep1 sep2 past tk (begun act fr h bs) = elim (taken_past _ _ _ c o v (ap (λ x. line_past (is_in_column at.position.col at.blocks) at.position at.blocks x c o) (sym act) ∙ past) tk) [
+      | inl p ↦ subst (λ x. AllBelow q.col x) (sym bs) (subst (λ (x : Position). AllBelow x.col at.blocks) h (grind (arith, below_here)))
+      | inr t ↦ absurd (grind arith)
+    ]
+    both n o u v k sep1 sep2 past tk (kept act is bs) =
+        let was : (l ≡ waits q) × (broken ≡ false) = waited false broken l n q sep1 is in
+        elim (taken_past _ _ _ c o v (ap (λ x. line_past (is_in_column at.position.col at.blocks) at.position at.blocks x c o) (sym act) ∙ past) tk) [
+          | inl p ↦ absurd (grind arith)
+          | inr t ↦ subst (λ x. AllBelow q.col x) (sym bs) (below_at q.col false (act_of w.shown) at.position.col s.blocks (below q was.0 (same_of m o (subst (λ x. line_past_separation false x m ≡ Some o) was.1 sep2) ∙ t)))
+        ]
 
     by : Made s l ds w next a → Made s m es (With w c) next b → AllBelow q.col a.site.blocks
     by (outside n u n1 sep1 past1 line1 site1 one1) (outside o v n2 sep2 past2 line2 site2 one2) =
         subst (λ (x : Site). AllBelow q.col x.blocks) (sym site1) (both n o u v (like_past false broken l m n o i sep1 sep2) sep1 sep2 past2 (sym line2 ∙ tk) (waits_past _ _ _ (act_of w.shown) w.key n u q past1 (sym line1 ∙ wt)))
-    by (outside n u n1 sep1 past1 line1 site1 one1) (inside some sep2 site2 one2) = absurd (cc (sym (ap is_in_flow n1) ∙ flows ∙ some))
-    by (inside some sep1 site1 one1) (outside o v n2 sep2 past2 line2 site2 one2) = absurd (cc (sym some ∙ flows ∙ ap is_in_flow n2))
+    by (outside n u n1 sep1 past1 line1 site1 one1) (inside some sep2 site2 one2) = absurd (cc (sym (ap is_in_flow n1) ∙ same_flow ds es j ∙ some))
+    by (inside some sep1 site1 one1) (outside o v n2 sep2 past2 line2 site2 one2) = absurd (cc (sym some ∙ same_flow ds es j ∙ ap is_in_flow n2))
     by (inside some1 sep1 site1 one1) (inside some2 sep2 site2 one2) =
         subst (λ (x : Site). AllBelow q.col x.blocks) (sym site1) (below q (waited true broken l a.line q sep1 wt).0 (was_taken_inside broken m b.line sep2 tk))
 
@@ -185,9 +178,6 @@ apart_after s ds es w c next a b q j e1 e2 = by (made s taken ds w next a e1) (m
   where
     at : Site
     at = site_at false s w.separation w.piece w.shown next
-
-    flows : is_in_flow ds ≡ is_in_flow es
-    flows = same_flow ds es j
 
     inside_line : (broken : Bool) (m : Line) → line_past_separation true broken taken ≡ Some m → m ≡ taken
     inside_line a m e = grind (arith, same_of, taken)
@@ -201,8 +191,8 @@ apart_after s ds es w c next a b q j e1 e2 = by (made s taken ds w next a e1) (m
         let was = still_there false (begins_free_line s.before w.separation) (waits q) o q refl sep2 in
         let n_is : n ≡ taken = sym (same_of taken n (subst (λ x. line_past_separation false x taken ≡ Some n) was.0 sep1)) in
         let r = both n o u v n_is was.1 past1 past2 in (line1 ∙ r.0, line2 ∙ r.1)
-    by (outside n u n1 sep1 past1 line1 site1 one1) (inside some sep2 site2 one2) = absurd (cc (sym (ap is_in_flow n1) ∙ flows ∙ some))
-    by (inside some sep1 site1 one1) (outside o v n2 sep2 past2 line2 site2 one2) = absurd (cc (sym some ∙ flows ∙ ap is_in_flow n2))
+    by (outside n u n1 sep1 past1 line1 site1 one1) (inside some sep2 site2 one2) = absurd (cc (sym (ap is_in_flow n1) ∙ same_flow ds es j ∙ some))
+    by (inside some sep1 site1 one1) (outside o v n2 sep2 past2 line2 site2 one2) = absurd (cc (sym some ∙ same_flow ds es j ∙ ap is_in_flow n2))
     by (inside some1 sep1 site1 one1) (inside some2 sep2 site2 one2) = (inside_line (begins_free_line s.before w.separation) a.line sep1, (still_there true (begins_free_line s.before w.separation) (waits q) b.line q refl sep2).1)
 
 -- ---- as far as a beginning leads
@@ -266,3 +256,182 @@ pub texts_with_a_row_are_not_stuck : TextsWithARowAreNotStuck
 texts_with_a_row_are_not_stuck text why at r row (fails a separation rest why2 here at2 place some solid f) = failing_places_have_no_row text separation rest a here at why r place solid some f.fails row
 texts_with_a_row_are_not_stuck text why at r row (no_key a separation more here place is out line none looked apart) = no_keyless_colon text separation more a here r place is out line none row
 texts_with_a_row_are_not_stuck text why at r row (key_waits a separation rest why2 begin here at2 g flowing filled here_is late some solid f) = key_on_its_line text separation rest begin here a r g filled here_is late some solid row
+
+-- ---- a row that goes through a place
+
+-- steps lead on from an account
+some_past : (o : Option Account) (ws : List Step) (after : List ℕ) (b : Account) → Leads o ws after b → (c : Account) × (o ≡ Some c) × Leads (Some c) ws after b
+some_past o ws after b h = grind (arith, nat_tests, eqb-true)
+
+leads_waiting : (ws : List Step) (after : List ℕ) (a b : Account) → Waiting a.line a.site → Leads (Some a) ws after b → Waiting b.line b.site
+leads_waiting [] after a b on e = subst (λ (x : Account). Waiting x.line x.site) e on
+leads_waiting (w ∷ ws) after a b on h =
+    let c = some_past (account_past a w (spelled ws after)) ws after b h.1 in
+    leads_waiting ws after c.0 b (waiting_past a.site a.line a.entries w (spelled ws after) c.0 on h.0 c.1) c.2
+
+-- each beginning of a row is on the line of its key that waits
+begins_waiting : (text after : List ℕ) (b : Account) → Begins text after b → Waiting b.line b.site
+begins_waiting text after b g = leads_waiting g.steps after first_account b (λ q e. absurd (cc e)) g.leads
+
+-- ---- positions
+
+-- the text of steps, without what comes after them
+before_is : (ws : List Step) (after : List ℕ) → spelled ws after ≡ spelled ws [] ++ after
+before_is [] after = refl
+before_is (w ∷ ws) after = grind (arith, append_assoc, before_is ws after)
+
+leads_position : (ws : List Step) (after : List ℕ) (a b : Account) → Leads (Some a) ws after b → b.site.position ≡ position_after a.site.position (spelled ws []) after
+leads_position [] after a b e = ap (λ (x : Account). x.site.position) (sym e)
+leads_position (w ∷ ws) after a b h =
+    let c = some_past (account_past a w (spelled ws after)) ws after b h.1 in
+    let rest : List ℕ = spelled ws [] in
+    let here : Position = position_after a.site.position w.separation (w.piece ++ (rest ++ after)) in
+    leads_position ws after c.0 b c.2 ∙ ap (λ p. position_after p rest after) (place c.0 (made a.site a.line a.entries w (spelled ws after) c.0 c.1)) ∙
+    ap (λ x. position_after (position_after (position_after a.site.position w.separation (w.piece ++ x)) w.piece x) rest after) (before_is ws after) ∙ sym (position_append here w.piece rest after) ∙
+    ap (λ x. position_after (position_after a.site.position w.separation x) (w.piece ++ rest) after) (sym (append_assoc w.piece rest after)) ∙ sym (position_append a.site.position w.separation (w.piece ++ rest) after)
+  where
+    place : (c : Account) → Made a.site a.line a.entries w (spelled ws after) c → c.site.position ≡ position_after (position_after a.site.position w.separation (w.piece ++ spelled ws after)) w.piece (spelled ws after)
+    place c h = grind (arith, nat_tests, eqb-true, outside, inside)
+
+-- A separation after a beginning of a row ends where the scanner is, before the same text.
+same_place : (text separation rest : List ℕ) (p : Position) (b : Account) → has_no_nul text ≡ true → IsPositionIn text rest p → Begins text (separation ++ rest) b → p ≡ position_after b.site.position separation rest
+same_place text separation rest p b nul at g =
+    let before : List ℕ = spelled g.steps [] in
+    let all : at.before ++ rest ≡ (before ++ separation) ++ rest = sym at.is_text ∙ (sym (whole_text text nul) ∙ (sym g.spells ∙ (before_is g.steps (separation ++ rest) ∙ sym (append_assoc before separation rest)))) in
+    at.is_position ∙ (ap (λ x. position_after first_position x rest) (append_cancel_right at.before (before ++ separation) rest all) ∙
+    (position_append first_position before separation rest ∙ ap (λ q. position_after q separation rest) (sym (leads_position g.steps (separation ++ rest) first_account b g.leads))))
+
+-- While a key waits in the row, each part of the separation there ends on the key's line, and near.
+near_there : (text after : List ℕ) (q : Position) (g : GoesThrough text after) → g.account.line ≡ waits q → (separation rest : List ℕ) → after ≡ separation ++ rest → is_separation false separation rest ≡ true → is_far q (position_after g.account.site.position separation rest) ≡ false
+unfolding is_far
+near_there text after q g waiting separation rest cut filled = by g.steps g.is_row g.spells
+  where
+    by : (ws : List Step) → IsRowFrom (Some g.account) ws g.last → spelled ws g.last ≡ after → is_far q (position_after g.account.site.position separation rest) ≡ false
+    by [] row e = absurd (none_ends g.account q waiting row.1)
+    by (w ∷ ws) row e =
+        let next : List ℕ = w.piece ++ spelled ws g.last in
+        let p : Position = g.account.site.position in
+        let part : BeginsWith w.separation separation next rest = begins_with_part false w.separation separation next rest row.0.0 filled (piece_ends g.account w (spelled ws g.last) row.0) (e ∙ cut) in
+        let here : Position = position_after p separation rest in
+        let n = goes_near w ws g.last g.account q waiting row in
+        let on = here_on q g.account.site w.separation next (begins_waiting text after g.account g.begins q waiting) n.unbroken in
+        let whole : position_after p w.separation next ≡ position_after here part.more next = ap (λ f. position_after p f next) part.whole_is ∙ (position_append p separation part.more next ∙ ap (λ r. position_after (position_after p separation r) part.more next) (sym part.rest_is)) in
+        let line = ap (λ (x : Position). x.line) (sym whole) ∙ on.0 in
+        let index = ap (λ (x : Position). x.index) whole in
+        let near = n.near in
+        let later = (not_before_after here part.more next).0 in
+        let many = index_after here part.more next in
+        grind (arith, nat_tests, line, index, near, later, many)
+
+-- At the text's end no key waits in the row.
+none_at_end : (text separation rest : List ℕ) (q : Position) (g : GoesThrough text (separation ++ rest)) → g.account.line ≡ waits q → is_separation false separation rest ≡ true → rest ≡ [] → ⊥
+none_at_end text separation rest q g waiting filled none = by g.steps g.is_row g.spells
+  where
+    by : (ws : List Step) → IsRowFrom (Some g.account) ws g.last → spelled ws g.last ≡ separation ++ rest → ⊥
+    by [] row e = none_ends g.account q waiting row.1
+    by (w ∷ ws) row e = at_end g.account w separation (spelled ws g.last) (subst (λ x. is_separation false separation x ≡ true) none filled) row.0 (sym (append-nil separation) ∙ (ap (λ x. separation ++ x) (sym none) ∙ sym e))
+
+-- ---- open keys
+
+-- a key that must be one is the one outside flow
+required_around : (fs : List FlowLevel) (ks : List (Option Key)) (es : List Entry) → AreAround fs ks es → length ks ≡ suc (length fs) → has_required ks ≡ true → (k : Key) × (outside_key es ks ≡ Some k) × (k.required ≡ true)
+required_around [] [] es a n h = absurd (cc h)
+required_around [] b (e ∷ es) a n h = grind arith
+required_around [] (None ∷ []) [] a n h = absurd (cc h)
+required_around [] (Some k ∷ []) [] a n h = grind arith
+required_around [] (k ∷ x ∷ ks) [] a n h = absurd (omega (arith, n))
+required_around (f ∷ fs) ks [] a n h = grind arith
+required_around (f ∷ fs) [] (e ∷ es) a n h = absurd (cc h)
+required_around (f ∷ fs) (k ∷ ks) (e ∷ es) a n h = grind (arith, required_around fs ks es)
+
+required_outside : (allowed again : Bool) (fs : List FlowLevel) (ks : List (Option Key)) (es : List Entry) → AreEntries allowed again fs ks es → length ks ≡ suc (length fs) → has_required ks ≡ true → (k : Key) × (outside_key es ks ≡ Some k) × (k.required ≡ true)
+required_outside allowed again [] ks [] a n h = required_around [] ks [] tt n h
+required_outside allowed again [] ks (e ∷ es) a n h = absurd a
+required_outside allowed again (f ∷ fs) [] es a n h = absurd (cc h)
+required_outside allowed again (f ∷ fs) (k ∷ ks) [] a n h = absurd a
+required_outside allowed again (f ∷ fs) b (e ∷ es) a n h = grind (arith, required_around)
+
+-- ---- between two fetches, and at the text's end
+
+pub stale_rowless : (text : List ℕ) (u : ScannerState) (s : Stands text u) → has_no_nul text ≡ true → (k : Key) → outside_key s.base.entries u.held.keys ≡ Some k → k.required ≡ true → is_far k.position u.held.position ≡ true → IsRowless text
+stale_rowless text u s nul k e must far r h =
+    let g : GoesThrough text (s.separation ++ u.rest) = s.knows.rows r h in
+    let near = near_there text (s.separation ++ u.rest) k.position g (s.knows.required g.account k g.begins e must) s.separation u.rest refl s.is_filled in
+    cc (sym far ∙ (ap (λ p. is_far k.position p) (same_place text s.separation u.rest u.held.position g.account nul (cut_position text s.separation u.rest s.base u.held.tokens u.held.position (whole_text text nul) s.position_is (stands_cut text u s)) g.begins) ∙ near))
+
+pub end_rowless : (text : List ℕ) (t : ScannerState) (a : Arrives text t) → t.rest ≡ [] → has_required t.held.keys ≡ true → IsRowless text
+end_rowless text t a none must r h =
+    let k = required_outside t.held.key_allowed _ t.held.flow t.held.keys a.base.entries a.are_entries a.one_each must in
+    let g : GoesThrough text (a.separation ++ t.rest) = a.knows.rows r h in
+    none_at_end text a.separation t.rest k.0.position g (a.knows.required g.account k.0 g.begins k.1 k.2) a.is_filled none
+
+-- ---- where a piece begins
+
+-- The row's step at a place, while a key waits outside flow: no comma or closing bracket, and nothing in column 0.
+module _ {a : Account} {separation rest : List ℕ} {here : Position} (s : StepAt a separation rest here) (q : Position) (waiting : s.account.line ≡ waits q) where
+  made_here : Made s.account.site s.account.line s.account.entries s.step s.next s.past
+  made_here = made s.account.site s.account.line s.account.entries s.step s.next s.past s.is_past
+
+  pub not_first : Waiting s.account.line s.account.site → here.col ≡ 0 → ⊥
+  not_first on col = let place = ap (λ (p : Position). p.col) s.position_is in omega (arith, (here_on q s.account.site s.step.separation (s.step.piece ++ s.next) (on q waiting) (unbroken made_here)).1, place, col)
+    where
+      unbroken : Made s.account.site s.account.line s.account.entries s.step s.next s.past → begins_free_line s.account.site.before s.step.separation ≡ false
+      unbroken (outside m o none sep past line site one) = (still_there false _ s.account.line m q waiting sep).0
+      unbroken (inside some sep site one) = (still_there true _ s.account.line s.past.line q waiting sep).0
+
+  pub not_closing : is_in_flow a.entries ≡ false → (act_of s.step.shown ≡ gives_comma) ⊎ (act_of s.step.shown ≡ gives_closing) → ⊥
+  not_closing out act = elim made_here [
+    | outside m o none sep past line site one ↦ grind (arith, (still_there false _ s.account.line m q waiting sep).1)
+    | inside some sep site one ↦ cc (out, same_flow a.entries s.account.entries s.is_like.2, some)
+  ]
+
+  -- the text says so
+  pub closes : (c : ℕ) (more : List ℕ) → rest ≡ c ∷ more → (c ≡ 44) ⊎ (c ≡ 93) ⊎ (c ≡ 125) → (act_of s.step.shown ≡ gives_comma) ⊎ (act_of s.step.shown ≡ gives_closing)
+  unfolding is_blank_or_end is_blank is_break is_nul is_flow
+  closes c more e (inl is) = let w : Whole comma (context_of (acct s)) s.step.piece s.next s.step.shown = whole_by s 44 more (e ∙ ap (λ x. x ∷ more) is) in inl (ap act_of w.1)
+  closes c more e (inr (inl is)) = let w : Whole sequence_closing (context_of (acct s)) s.step.piece s.next s.step.shown = whole_by s 93 more (e ∙ ap (λ x. x ∷ more) is) in inr (ap act_of w.1)
+  closes c more e (inr (inr is)) = let w : Whole mapping_closing (context_of (acct s)) s.step.piece s.next s.step.shown = whole_by s 125 more (e ∙ ap (λ x. x ∷ more) is) in inr (ap act_of w.1)
+
+-- in flow the innermost open key need not be one
+free_inside : (allowed again : Bool) (fs : List FlowLevel) (ks : List (Option Key)) (es : List Entry) → is_empty fs ≡ false → AreEntries allowed again fs ks es → is_required (top_key ks) ≡ false
+free_inside allowed again a ks es i b = grind arith
+
+module _ (text : List ℕ) (t : ScannerState) (a : Arrives text t) (some : is_empty t.rest ≡ false) where
+  -- outside flow the open key is that outside
+  key_outside : is_empty t.held.flow ≡ true → outside_key a.base.entries t.held.keys ≡ top_key t.held.keys
+  key_outside out = ap (λ es. outside_key es t.held.keys) (no_entries t.held.key_allowed _ t.held.flow t.held.keys a.base.entries out a.are_entries)
+
+  -- A key that must be one has taken the line.
+  pub not_required : (in_flow t.held || t.held.key_allowed) ≡ true → is_required (top_key t.held.keys) ≡ false
+  not_required h = grind arith
+
+  -- If the innermost open key must be one, it waits where the row goes on; so no row does where no such step stands.
+  rowless : ((b : Account) (s : StepAt b a.separation t.rest t.held.position) (q : Position) → is_in_flow b.entries ≡ false → s.account.line ≡ waits q → Waiting s.account.line s.account.site → ⊥) → is_required (top_key t.held.keys) ≡ true → IsRowless text
+  rowless refuted must r h = elim (cases_Bool (is_empty t.held.flow)) [
+    | inl out ↦
+        let k = found (top_key t.held.keys) (key_outside out) must in
+        let at : RowAt text (account_by text t a some true []) a.separation t.rest t.held.position = row_at text a.separation t.rest (account_by text t a some true []) t.held.position r (place text t a some true [] (may _ (a.is_near out))) a.is_solid some h in
+        refuted (account_by text t a some true []) at.step_at k.0.position (in_flow_is text t a some true [] ∙ ap not out) (a.knows.required at.step_at.account k.0 at.begins k.1 k.2) (begins_waiting text (a.separation ++ t.rest) at.step_at.account at.begins)
+    | inr i ↦ cc (free_inside t.held.key_allowed _ t.held.flow t.held.keys a.base.entries i a.are_entries, must)
+  ]
+    where
+      -- it is near
+      may : (k : Option Key) → IsNear k t.held.position → MayChoose true true k t.held.position t.rest
+      may a near = grind (arith, some)
+
+      found : (k : Option Key) → outside_key a.base.entries t.held.keys ≡ k → is_required k ≡ true → (x : Key) × (outside_key a.base.entries t.held.keys ≡ Some x) × (x.required ≡ true)
+      found a e m = grind arith
+
+  pub line_rowless : t.held.position.col ≡ 0 → is_required (top_key t.held.keys) ≡ true → IsRowless text
+  line_rowless col = rowless (λ b s q out waiting on. not_first s q waiting on col)
+
+  pub closing_rowless : (c : ℕ) (more : List ℕ) → t.rest ≡ c ∷ more → (c ≡ 44) ⊎ (c ≡ 93) ⊎ (c ≡ 125) → is_required (top_key t.held.keys) ≡ true → IsRowless text
+  closing_rowless c more e is = rowless (λ b s q out waiting on. not_closing s q waiting out (closes s q waiting c more e is))
+
+  -- Where no key is open outside flow, none waits in any beginning of a row.
+  pub none_waits : top_key t.held.keys ≡ None → is_empty t.held.flow ≡ true → HasNoKey text a.separation t.rest t.held.position
+  none_waits top out b begin place waiting unbroken near spaces =
+      let on = here_on begin b.site a.separation t.rest (begins_waiting text (a.separation ++ t.rest) b place.begins begin waiting) unbroken in
+      let line = ap (λ (p : Position). p.line) place.is_here in
+      let same = on.0 in
+      subst (λ k. IsAt k begin) (key_outside out ∙ top) (a.knows.waiting b begin place.begins waiting (omega (arith, line, same)) (grind (arith, nat_tests, near)))

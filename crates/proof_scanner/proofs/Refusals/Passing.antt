@@ -1,16 +1,151 @@
 -- Faults on the way to the next token, from a state between two fetches.
-use Rattle.proof_scanner.proofs.Common.{[], and_parts, ap, append-nil, append_assoc, arith, Begins, begins_white, BeginsButForKey, Bool, chained, chosen, drop_stale, either, eqb-true, Err, fails, false, Fault, fetch, fetch_here, fetch_next, follows_plain, Held, Holds, in_flow, is_empty, is_far, is_indented_by_spaces, is_one_of, is_renewed, is_separation, IsPlace, IsReadOn, IsStuck, Key, key_waits, List, map, may_not_stand, MayChoose, not, Ok, on_held, Option, or_right, outside_key, Position, position_after, position_append, Previous, refl, refused, Result, ScannerState, skip_to_next_token, Some, stale, Stands, still, subst, sym, top_key, tried, true, unroll_indent, went, ℕ, ◌++◌, ◌+◌, ◌<◌, ◌==◌, ◌∙◌, ◌∷◌, ◌≡◌, nat_tests, cases_Bool, inl, inr}
-use Rattle.yaml_tokens.specs.declared.problem.Problem.TheVariants as problem
+use Rattle.proof_scanner.proofs.Common.{[], and_parts, ap, append-nil, append_assoc, arith, Begins, begins_white, BeginsButForKey, Bool, chained, chosen, drop_stale, either, eqb-true, Err, fails, false, Fault, fetch, fetch_here, fetch_next, follows_plain, Held, Holds, in_flow, is_empty, is_far, is_indented_by_spaces, is_one_of, is_renewed, is_separation, IsPlace, IsReadOn, IsStuck, Key, key_waits, List, map, may_not_stand, MayChoose, not, Ok, on_held, or_right, outside_key, Position, position_after, position_append, Previous, refl, refused, Result, ScannerState, skip_to_next_token, Some, stale, Stands, still, subst, sym, top_key, tried, true, unroll_indent, went, ℕ, ◌++◌, ◌+◌, ◌<◌, ◌==◌, ◌∙◌, ◌∷◌, ◌≡◌, nat_tests, cases_Bool, inl, inr, TabInBlockIndentation, At, begins_line, begins_separation, between, fills_blank, Gap, has_tab_within, is_before_indent, is_blanks, IsTabRefusal, last_line, least_column, length, not-true, same_blank, same_break, separations_are_passed, skip, suc, ◌&&◌, ◌||◌, ◌≤◌, EndsAs, reads, refuses}
 use Rattle.proof_scanner.proofs.Cut.Pieces.Separations.{separation_append}
-use Rattle.proof_scanner.proofs.Cut.Positions.{not_before_after}
-use Rattle.proof_scanner.proofs.Sound.Passed.{least_is}
+use Rattle.proof_scanner.proofs.Cut.Positions.{not_before_after, index_after}
+use Rattle.proof_scanner.proofs.Sound.Passed.{least_is, skip_stays, Exact}
 use Rattle.proof_scanner.proofs.Sound.Stales.{no_entries}
 use Rattle.proof_scanner.proofs.Sound.ToToken.{is_in}
-use Rattle.proof_scanner.specs.Failing as defs
 use Rattle.proof_scanner.proofs.Sound.StreamEnds.{same_flow}
-use Rattle.proof_scanner.proofs.Refusals.Faults.{Faults, mapped}
-use Rattle.proof_scanner.proofs.Refusals.Places.{entries_alike, Said, IsWhy, Where, placed, behind, where_is}
-use Rattle.proof_scanner.proofs.Refusals.Tabs.{TabStands, skip_refused}
+use Rattle.proof_scanner.proofs.Refusals.Places.{Faults, mapped, entries_alike, Said, IsWhy, Where, placed, behind, where_is, fault, goes}
+use Rattle.yaml_chars.specs.Class.{is_break}
+use Rattle.proof_scanner.proofs.Sound.LastLines.{last_more}
+use Rattle.proof_lexers.specs.Separations.{tab_left}
+use Rattle.proof_scanner.proofs.Sound.Skips.{line_more, IsLeast, IsAt, IsIn, IsPassed, skip_tells}
+use Rattle.proof_scanner.specs.Failing as defs
+use Rattle.defs_text.specs.Classes as classes
+
+-- ---- a TAB within columns
+
+-- among more columns, and in a longer line
+within_more : (n m : ℕ) (l r : List ℕ) → n ≤ m → has_tab_within n l ≡ true → has_tab_within m (l ++ r) ≡ true
+within_more (suc n) (suc m) (c ∷ l) r less h = grind (arith, within_more n m l r)
+within_more a m l r less h = grind arith
+
+-- at the end of a line that is shorter
+within_end : (n : ℕ) (l : List ℕ) → length l < n → has_tab_within n (l ++ 9 ∷ []) ≡ true
+within_end (suc n) (c ∷ l) less = grind (arith, within_end n l)
+within_end a l less = grind arith
+
+-- ---- the way to the next token
+
+module _ (before : Previous) (least : ℕ) where
+  -- a line begins in a separation, and a TAB stands in it before the least column
+  abbrev IsTabbed : List ℕ → Type 0
+  IsTabbed g = (begins_line before g ≡ true) × (has_tab_within least (last_line g) ≡ true)
+
+  -- What was passed before the fault.
+  record TabbedAt (g a : List ℕ) (s : Held) (f : Fault) : Type 0 where
+    passed : List ℕ
+    rest : List ℕ
+    place : Position
+    cut : a ≡ passed ++ rest
+    is_fault : f ≡ At TabInBlockIndentation place
+    index_is : place.index ≡ s.position.index + length passed
+    tabbed : IsTabbed (g ++ passed)
+
+  one_more : (g a : List ℕ) (c : ℕ) (s u : Held) (r : Result ScannerState Fault) → u.position.index ≡ suc s.position.index → Faults (TabbedAt (g ++ c ∷ []) a u) r → Faults (TabbedAt g (c ∷ a) s) r
+  one_more g a c s u r next (fault x) = fault (record {
+    passed = c ∷ x.passed;
+    rest = x.rest;
+    place = x.place;
+    cut = ap (λ y. c ∷ y) x.cut;
+    is_fault = x.is_fault;
+    index_is = let i = x.index_is in omega (arith, i, next);
+    tabbed = subst (λ y. IsTabbed y) (append_assoc g (c ∷ []) x.passed) x.tabbed;
+  })
+  one_more g a c s u r next goes = goes
+
+  -- a TAB left of the innermost level
+  tab_here : (g : List ℕ) (c : ℕ) (s : Held) → is_break c ≡ false → ((c == 9) && is_before_indent s) ≡ true → IsLeast before least s → IsAt before least g s → IsTabbed (g ++ c ∷ [])
+  unfolding is_before_indent
+  tab_here g c s e f l h = grind (arith, nat_tests, line_more, last_more, within_end, same_break)
+
+  -- a blank more in its line
+  blank_after : (g : List ℕ) (c : ℕ) → is_break c ≡ false → IsTabbed g → IsTabbed (g ++ c ∷ [])
+  blank_after g c e h = grind (arith, line_more, last_more, within_more, same_break)
+
+  tabs_tell : (a : List ℕ) (m : Gap) (g : List ℕ) (s : Held) → IsLeast before least s → IsPassed before least IsTabbed m g s a → Faults (TabbedAt g a s) (skip m a s)
+  tabs_tell = skip_tells before least (λ g a s r. Faults (TabbedAt g a s) r) IsTabbed (record {
+    ended = λ g s. goes;
+    further = one_more;
+    arrives = λ g a c s at. goes;
+    tab = tab_here;
+    blank = blank_after;
+    fails = λ g a c s h. fault (record { passed = []; rest = c ∷ a; place = s.position; cut = refl; is_fault = refl; index_is = omega arith; tabbed = subst (λ y. IsTabbed y) (sym (append-nil g)) h });
+  })
+
+-- ---- what is said of it
+
+-- A separation before which the way to the next token is refused: the position there, and a TAB that indents the line.
+pub record TabStands (bs : List ℕ) (awaits : Bool) (before : Previous) (separation text : List ℕ) (p : Position) (f : Fault) : Type 0 where
+  pub passed : List ℕ
+  pub rest : List ℕ
+  pub is_some : is_empty text ≡ false
+  pub cut : text ≡ passed ++ rest
+  pub is_filled : is_separation false passed rest ≡ true
+  pub goes_on : is_empty rest ≡ false
+  pub is_solid : begins_separation rest ≡ false
+  pub is_fault : f ≡ At TabInBlockIndentation (position_after p passed rest)
+  pub is_indented_by_tab : is_indented_by_spaces before bs awaits (separation ++ passed) ≡ false
+
+-- two beginnings of a text that are equally long are the same
+same_length : (a b r s : List ℕ) → a ++ r ≡ b ++ s → length a ≡ length b → a ≡ b
+same_length [] [] r s e n = refl
+same_length [] (d ∷ b) r s e n = grind arith
+same_length (c ∷ a) [] r s e n = grind arith
+same_length (c ∷ a) (d ∷ b) r s e n = grind (arith, same_length a b r s)
+
+blanks_fill : (bs rest : List ℕ) → is_blanks bs ≡ true → is_separation false bs rest ≡ true
+blanks_fill [] rest h = refl
+blanks_fill (c ∷ bs) rest h = grind (arith, fills_blank, same_blank, blanks_fill bs rest)
+
+tabbed_is : (before : Previous) (bs : List ℕ) (awaits : Bool) (g : List ℕ) → begins_line before g ≡ true → has_tab_within (least_column bs awaits) (last_line g) ≡ true → is_indented_by_spaces before bs awaits g ≡ false
+tabbed_is before bs awaits g b h =
+    let more : has_tab_within (least_column bs (awaits || follows_plain before g)) (last_line g ++ []) ≡ true = within_more (least_column bs awaits) (least_column bs (awaits || follows_plain before g)) (last_line g) [] (grind arith) h in
+    ap (λ x. not x || not (has_tab_within (least_column bs (awaits || follows_plain before g)) (last_line g))) b ∙ ap (λ x. not (has_tab_within (least_column bs (awaits || follows_plain before g)) x)) (sym (append-nil (last_line g))) ∙ ap not more
+
+-- Where the way to the next token is refused, after a separation that was read so.
+pub skip_refused : (before : Previous) (bs : List ℕ) (awaits : Bool) (separation : List ℕ) (t : ScannerState) → IsLeast before (least_column bs awaits) t.held →
+    (begins_separation t.rest ≡ true → IsIn before (least_column bs awaits) between separation t.held t.rest) → Faults (TabStands bs awaits before separation t.rest t.held.position) (skip_to_next_token t)
+unfolding skip_to_next_token classes.is_blank
+skip_refused before bs awaits separation t l known = elim (cases_Bool (begins_separation t.rest)) [
+  | inl h ↦ told h (skip between t.rest t.held) (separations_are_passed t.held t.rest) (tabs_tell before least t.rest between separation t.held l (known h))
+  | inr h ↦ subst (λ r. Faults Own r) (sym (skip_stays t.rest t.held h)) goes
+]
+  where
+    least : ℕ
+    least = least_column bs awaits
+
+    Own : Fault → Type 0
+    Own f = TabStands bs awaits before separation t.rest t.held.position f
+
+    told : begins_separation t.rest ≡ true → (x : Result ScannerState Fault) → EndsAs (Exact t) (IsTabRefusal t.held t.rest) x → Faults (TabbedAt before least separation t.rest t.held) x → Faults Own x
+    told begins x p goes = goes
+    told begins x (reads u passed e) (fault d) = absurd (cc e)
+    told begins x (refuses g (tab_left first blanks rest cut fills left are token) e) (fault {f = f} d) =
+        let q : Position = position_after t.held.position (first ++ 9 ∷ blanks) rest in
+        let same : At TabInBlockIndentation d.place ≡ At TabInBlockIndentation q = sym d.is_fault ∙ fault_of e in
+        let place : d.place ≡ q = cc same in
+        let i : q.index ≡ t.held.position.index + length (first ++ 9 ∷ blanks) = index_after t.held.position (first ++ 9 ∷ blanks) rest in
+        let j : d.place.index ≡ q.index = ap (λ y. y.index) place in
+        let k : d.place.index ≡ t.held.position.index + length d.passed = d.index_is in
+        let whole : t.rest ≡ (first ++ 9 ∷ blanks) ++ rest = cut ∙ sym (append_assoc first (9 ∷ blanks) rest) in
+        let passed_is : d.passed ≡ first ++ 9 ∷ blanks = same_length d.passed (first ++ 9 ∷ blanks) d.rest rest (sym d.cut ∙ whole) (omega (arith, i, j, k)) in
+        fault (record {
+          passed = first ++ 9 ∷ blanks;
+          rest = rest;
+          is_some = grind arith;
+          cut = whole;
+          is_filled = separation_append false first (9 ∷ blanks) rest fills (blanks_fill (9 ∷ blanks) rest are);
+          goes_on = grind arith;
+          is_solid = grind (arith, not-true);
+          is_fault = fault_of e;
+          is_indented_by_tab = tabbed_is before bs awaits (separation ++ (first ++ 9 ∷ blanks))
+              (subst (λ y. begins_line before (separation ++ y) ≡ true) passed_is d.tabbed.0) (subst (λ y. has_tab_within least (last_line (separation ++ y)) ≡ true) passed_is d.tabbed.1);
+        })
+      where
+        fault_of : {g : Fault} → ◌≡◌ {A = Result ScannerState Fault} (Err f) (Err g) → f ≡ g
+        fault_of e = cc e
 
 -- ---- keys that are near
 
@@ -18,21 +153,13 @@ use Rattle.proof_scanner.proofs.Refusals.Tabs.{TabStands, skip_refused}
 abbrev pub HasNear : Held → Type 0
 HasNear s = is_empty s.flow ≡ true → (k : Key) → top_key s.keys ≡ Some k → is_far k.position s.position ≡ false
 
-stale_near : (s : Held) → Holds HasNear (stale s)
-unfolding stale drop_stale
-stale_near s = either (in_flow s) (λ i. went (λ o. absurd (cc (o, ap not o, i)))) (λ _. (grind (arith, refused, went, first)))
-  where
-    first : (ks : List (Option Key)) (k : Key) → top_key (map (still s.position) ks) ≡ Some k → is_far k.position s.position ≡ false
-    first [] k e = absurd (cc e)
-    first (o ∷ ks) k e = grind arith
-
 pub anything : {A : Type 0} (r : Result A Fault) → Holds (λ x. Unit {0}) r
 anything (Ok x) = went tt
 anything (Err f) = refused
 
 next_near : (t : ScannerState) → Holds (λ u. HasNear u.held) (fetch_next t)
-unfolding fetch_next
-next_near t = chained (anything (skip_to_next_token t)) (λ u a. chained (anything _) (λ v b. chained (anything (fetch_here (on_held (λ s. unroll_indent (s.position.col + 1) s) v))) (λ w c. tried w (stale w.held) (stale_near w.held) (λ h n. n))))
+unfolding fetch_next stale drop_stale
+next_near t = chained (anything (skip_to_next_token t)) (λ u a. chained (anything _) (λ v b. chained (anything (fetch_here (on_held (λ s. unroll_indent (s.position.col + 1) s) v))) (λ w c. tried w (stale w.held) (grind (arith, nat_tests, eqb-true, either, in_flow, went, not, refused, top_key, map, still, is_far)) (λ h n. n))))
 
 -- after a fetch
 pub fetch_near : (t : ScannerState) → t.held.started ≡ true → Holds (λ u. HasNear u.held) (fetch t)
@@ -71,8 +198,7 @@ module _ (text : List ℕ) (t : ScannerState) (s : Stands text t) (near : HasNea
           hash (c ∷ f) p = or_right (35 == c) _ (hash f p)
 
           comment : (passed : List ℕ) → t.rest ≡ passed ++ d.rest → is_separation false passed d.rest ≡ true → begins_white t.rest ≡ false → is_indented_by_spaces s.base.site.before s.base.site.blocks s.base.site.awaits (s.separation ++ passed) ≡ false → is_one_of (s.separation ++ passed) 35 ≡ true
-          comment [] e fills white tab = grind (arith, nat_tests, eqb-true, append-nil)
-          comment (c ∷ p) e fills white tab = grind (arith, nat_tests, and_parts, hash, eqb-true)
+          comment passed h e f g = grind (arith, nat_tests, eqb-true, append-nil, and_parts, hash)
 
       place : (c : Bool) → MayChoose true c (outside_key s.base.entries t.held.keys) t.held.position t.rest → IsPlace text (chosen c [] t.held.keys s.base) (s.separation ++ d.passed) d.rest here
       place c may = record {
@@ -81,11 +207,11 @@ module _ (text : List ℕ) (t : ScannerState) (s : Stands text t) (near : HasNea
         is_here = here_is;
       }
 
-      said : IsStuck text problem.TabInBlockIndentation here → IsWhy text problem.TabInBlockIndentation here
+      said : IsStuck text TabInBlockIndentation here → IsWhy text TabInBlockIndentation here
       said h = record { is_stuck = h; stands = λ k. absurd (cc k) }
 
-      by : Where (outside_key s.base.entries t.held.keys) t.held.position t.rest → IsWhy text problem.TabInBlockIndentation here
-      by (placed c may) = said (fails (chosen c [] t.held.keys s.base) (s.separation ++ d.passed) d.rest problem.TabInBlockIndentation here here (place c may) d.goes_on d.is_solid (record { fails = may_not_stand (defs.tab_indents d.is_indented_by_tab); is_first = no_plain }))
+      by : Where (outside_key s.base.entries t.held.keys) t.held.position t.rest → IsWhy text TabInBlockIndentation here
+      by (placed c may) = said (fails (chosen c [] t.held.keys s.base) (s.separation ++ d.passed) d.rest TabInBlockIndentation here here (place c may) d.goes_on d.is_solid (record { fails = may_not_stand (defs.tab_indents d.is_indented_by_tab); is_first = no_plain }))
       by (behind x e must late) = elim (cases_Bool (is_empty t.held.flow)) [
         | inl out ↦
             let none : s.base.entries ≡ [] = no_entries t.held.key_allowed (is_renewed s.base.site.before s.separation) t.held.flow t.held.keys s.base.entries out s.are_entries in
@@ -93,7 +219,7 @@ module _ (text : List ℕ) (t : ScannerState) (s : Stands text t) (near : HasNea
         | inr i ↦
             let later = (not_before_after t.held.position d.passed d.rest).0 in
             let inside : is_empty s.base.entries ≡ false = sym (same_flow t.held.key_allowed (is_renewed s.base.site.before s.separation) t.held.flow t.held.keys s.base.entries s.are_entries) ∙ i in
-            said (key_waits (chosen false [] t.held.keys s.base) (s.separation ++ d.passed) d.rest problem.TabInBlockIndentation x.position here here
+            said (key_waits (chosen false [] t.held.keys s.base) (s.separation ++ d.passed) d.rest TabInBlockIndentation x.position here here
             (subst (λ r. BeginsButForKey text r x.position (chosen false [] t.held.keys s.base)) (ap (λ r. s.separation ++ r) d.cut ∙ sym (append_assoc s.separation d.passed d.rest)) (s.carries [] x e must inside d.is_some))
             (ap not (entries_alike [] t.held.keys s.base.entries ∙ inside)) filled here_is (omega (arith, later, late)) d.goes_on d.is_solid (record { fails = may_not_stand (defs.tab_indents d.is_indented_by_tab); is_first = no_plain }))
       ]

@@ -1,11 +1,52 @@
 -- Where a piece begins, a row of the text may begin with all pieces before it; or a node which must be an implicit key waits there, and its line has ended.
-use Rattle.proof_scanner.proofs.Common.{[], Account, ap, AreEntries, arith, Arrives, At, begins_document_at, Bool, chosen, columns, entries_by, Entry, Err, fails, FailsFirst, false, Fault, FlowLevel, followed_first, gives_node, has_open_level, HasRow, if◌then◌else◌, in_flow, is_empty, is_full, is_in_flow, is_taken, is_told, IsFollowed, IsLookedAt, IsNear, IsPlace, IsStuck, Key, key_waits, least_here, length, List, MayChoose, nat_lt, nat_tests, no_piece, no_piece_first, None, NoPiece, not, Ok, Option, or_left, or_right, OutOfMemory, outside_key, Position, Problem, refl, Row, ScannerState, site_at_place, site_in, Some, subst, sym, true, ℕ, ◌-◌, ◌<◌, ◌∙◌, ◌≡◌, is_shown, IsThere, eqb-true, cases_Bool, inl, inr}
+use Rattle.proof_scanner.proofs.Common.{[], Account, ap, AreEntries, arith, Arrives, At, begins_document_at, Bool, chosen, columns, entries_by, Entry, Err, fails, FailsFirst, false, Fault, FlowLevel, followed_first, gives_node, has_open_level, HasRow, if◌then◌else◌, in_flow, is_empty, is_full, is_in_flow, is_taken, is_told, IsFollowed, IsLookedAt, IsNear, IsPlace, IsStuck, Key, key_waits, least_here, length, List, MayChoose, nat_lt, nat_tests, no_piece, no_piece_first, None, NoPiece, not, Ok, Option, or_left, or_right, OutOfMemory, outside_key, Position, Problem, refl, Row, ScannerState, site_at_place, site_in, Some, subst, sym, true, ℕ, ◌-◌, ◌<◌, ◌∙◌, ◌≡◌, is_shown, IsThere, eqb-true, cases_Bool, inl, inr, go_on, Held, lexed, Read, Result, with_held, ◌>>=◌, begins_separation, begins_white_space, begins_with, begins_with_space_or_break, ends_spaces, glued, HasNoWhiteSpace, HasPassed, Holds, is_at_gap, is_blank, is_blank_or_end, is_break, is_breakz, is_nul, is_separation, IsGlued, peek, refused_as, skip_spaces, skip_yaml_whitespace, SkipTabs, space, spaces_are_passed, white_space_is_passed, Yes, ◌++◌, ◌∷◌, CommentNotSeparated, EndsAs}
 use Rattle.proof_scanner.proofs.Sound.StreamEnds.{same_flow}
-use Rattle.proof_scanner.proofs.Refusals.Faults.{Faults, fault, goes}
 use Rattle.proof_scanner.proofs.Cut.Nodes.{IsDeep}
-use Rattle.proof_scanner.proofs.Cut.Faults.Shown as shown
 use Rattle.proof_scanner.specs.Failing.{followed}
 use Rattle.proof_scanner.proofs.Sound.Arrivals.{many_around}
+use Rattle.proof_scanner.proofs.Sound.WhiteSpaces.{white_of, past_white, past_white_space, white_exactly}
+use Rattle.proof_scanner.proofs.Cut.Faults.Shown as shown
+use Rattle.yaml_chars.specs.Class as model_classes
+use Rattle.proof_lexers.specs.PlainEnds as ends
+
+-- ---- what holds of the fault of a step, if it has one: rules for the forms that the model's functions are made of
+
+-- F holds of the fault, if there is one
+pub data Faults (F : Fault → Type 0) {A : Type 0} : Result A Fault → Type 0 where
+  fault : {f : Fault} → F f → Faults F (Err f)
+  goes : {x : A} → Faults F (Ok x)
+
+pub fault_is : {F : Fault → Type 0} {A : Type 0} {r : Result A Fault} (f : Fault) → Faults F r → r ≡ Err f → F f
+fault_is {F = F} f (fault {f = g} p) e = let same : g ≡ f = cc e in subst F same p
+fault_is f goes e = absurd (cc)
+
+pub in_turn : {F : Fault → Type 0} {A B : Type 0} {r : Result A Fault} {k : A → Result B Fault} → Faults F r → ((x : A) → r ≡ Ok x → Faults F (k x)) → Faults F (r >>= k)
+in_turn (fault p) h = fault p
+in_turn goes h = h _ refl
+
+-- of a step that may only refuse as the one before it
+pub kept : {F : Fault → Type 0} {A B : Type 0} {r : Result A Fault} (f : Result A Fault → Result B Fault) → ((e : Fault) → f (Err e) ≡ Err e) → ((x : A) → Faults F (f (Ok x))) → Faults F r → Faults F (f r)
+kept {F = F} f on go (fault {f = e} p) = subst (Faults F) (sym (on e)) (fault p)
+kept f on go (goes {x = x}) = go x
+
+pub tried : {F : Fault → Type 0} (t : ScannerState) {r : Result Held Fault} → Faults F r → Faults F (with_held t r)
+tried t (fault p) = fault p
+tried t goes = goes
+
+pub read : {F : Fault → Type 0} {A : Type 0} (h : Held) (r : Result (Read A) Fault) (go : A → ScannerState → Result ScannerState Fault) → ((f : Fault) → r ≡ Err f → F f) → ((x : Read A) → r ≡ Ok x → Faults F (go x.value (go_on x h))) → Faults F (lexed r h go)
+read h (Ok x) go n f = f x refl
+read h (Err e) go n f = fault (n e refl)
+
+pub checked : {F : Fault → Type 0} {A : Type 0} {r : Result A Fault} (b : Bool) (f : Fault) → (b ≡ true → F f) → (b ≡ false → Faults F r) → Faults F (if b then Err f else r)
+checked true f p h = fault (p refl)
+checked false f p h = h refl
+
+pub either : {F : Fault → Type 0} {A : Type 0} {r q : Result A Fault} (b : Bool) → (b ≡ true → Faults F r) → (b ≡ false → Faults F q) → Faults F (if b then r else q)
+either a h g = grind (arith, nat_tests, eqb-true)
+
+pub mapped : {F G : Fault → Type 0} {A : Type 0} {r : Result A Fault} → ((f : Fault) → F f → G f) → Faults F r → Faults G r
+mapped h (fault p) = fault (h _ p)
+mapped h goes = goes
 
 -- A place where the choice of keys is allowed, or a key that must be one and began on an earlier line.
 pub data Where (k : Option Key) (p : Position) (rest : List ℕ) : Type 0 where
@@ -14,12 +55,10 @@ pub data Where (k : Option Key) (p : Position) (rest : List ℕ) : Type 0 where
 
 pub where_is : (k : Option Key) (p : Position) (rest : List ℕ) → is_empty rest ≡ false → Where k p rest
 where_is None p rest some = placed false tt
-where_is (Some k) p rest some = by k.required refl (nat_lt k.position.line p.line) refl
-  where
-    by : (r : Bool) → k.required ≡ r → (late : Bool) → nat_lt k.position.line p.line ≡ late → Where (Some k) p rest
-    by false e late l = placed false e
-    by true e true l = behind k refl e (grind (arith, nat_tests, l))
-    by true e false l = placed true (grind (arith, nat_tests, l), some)
+where_is (Some k) p rest some = elim (cases_Bool k.required) [
+  | inl e ↦ elim (cases_Bool (nat_lt k.position.line p.line)) [ inl l ↦ behind k refl e (grind (arith, nat_tests, l)) | inr l ↦ placed true (grind (arith, nat_tests, l), some) ]
+  | inr e ↦ placed false e
+]
 
 -- a text without a row
 abbrev pub IsRowless : List ℕ → Type 0
@@ -73,20 +112,19 @@ module _ (text : List ℕ) (t : ScannerState) (a : Arrives text t) (some : is_em
 
   -- What fails here, whatever is chosen, is what the text is stuck by.
   pub stuck : (cs : List Bool) (why : Problem) (at : Position) → ((c : Bool) → IsAllowed c → FailsFirst (account_by c cs) a.separation t.held.position t.rest why at) → IsWhy text why at
-  stuck cs why at h = by (where_is (outside_key a.base.entries t.held.keys) t.held.position t.rest some)
-    where
-      by : Where (outside_key a.base.entries t.held.keys) t.held.position t.rest → IsWhy text why at
-      by (placed c may) = record { is_stuck = fails (account_by c cs) a.separation t.rest why t.held.position at (place c cs may) some a.is_solid (h c (λ _. may)); stands = shown.stands text t a c cs why at (h c (λ _. may)).fails }
-      by (behind x e must late) = elim (cases_Bool (is_empty t.held.flow)) [
-        | inl o ↦ let near : IsNear (Some x) t.held.position = subst (λ k. IsNear k t.held.position) e (a.is_near o) in absurd (omega (arith, near.0, late))
-        | inr i ↦
-            let entries : is_empty a.base.entries ≡ false = sym (same_flow t.held.key_allowed _ t.held.flow t.held.keys a.base.entries a.are_entries) ∙ i in
-            let first = h false (λ o. absurd (cc (o, i))) in
-            record {
-              is_stuck = key_waits (account_by false cs) a.separation t.rest why x.position t.held.position at (a.carries cs x e must entries some) (in_flow_is false cs ∙ ap not i) a.is_filled a.position_is late some a.is_solid first;
-              stands = shown.stands text t a false cs why at first.fails;
-            }
-      ]
+  stuck cs why at h = elim (where_is (outside_key a.base.entries t.held.keys) t.held.position t.rest some) [
+    | placed c may ↦ record { is_stuck = fails (account_by c cs) a.separation t.rest why t.held.position at (place c cs may) some a.is_solid (h c (λ _. may)); stands = shown.stands text t a c cs why at (h c (λ _. may)).fails }
+    | behind x e must late ↦ elim (cases_Bool (is_empty t.held.flow)) [
+      | inl o ↦ let near : IsNear (Some x) t.held.position = subst (λ k. IsNear k t.held.position) e (a.is_near o) in absurd (omega (arith, near.0, late))
+      | inr i ↦
+          let entries : is_empty a.base.entries ≡ false = sym (same_flow t.held.key_allowed _ t.held.flow t.held.keys a.base.entries a.are_entries) ∙ i in
+          let first = h false (λ o. absurd (cc (o, i))) in
+          record {
+            is_stuck = key_waits (account_by false cs) a.separation t.rest why x.position t.held.position at (a.carries cs x e must entries some) (in_flow_is false cs ∙ ap not i) a.is_filled a.position_is late some a.is_solid first;
+            stands = shown.stands text t a false cs why at first.fails;
+          }
+    ]
+  ]
 
 -- what comes lies deep enough, unless it is a line for the document
 abbrev pub LiesDeep : ScannerState → Type 0
@@ -131,3 +169,42 @@ module _ (text : List ℕ) (t : ScannerState) (a : Arrives text t) (some : is_em
   followed_stuck why at x first =
       stuck_by text t a some why at (λ b bs k. (y : IsFollowed b t.held.position t.rest why at) × ((c : Bool) → IsAllowed text t a some c → followed_first b k (is_taken (account_by text t a some c []) a.separation) (is_full (account_by text t a some c [])) t.held.position t.rest why at y)) (x, first)
       (λ c may m. record { fails = followed m.0; is_first = (looked_at c [], m.1 c may) })
+
+-- ---- faults of what is passed between pieces
+
+-- over blanks and a comment in a line; what is to be said of a comment that no blank parts from what stands before it
+pub space_told : (text : List ℕ) (tabs : SkipTabs) (more : List ℕ) (p : Position) → (begins_with 35 more ≡ true → Said text (At CommentNotSeparated p)) → (f : Fault) → space tabs more p ≡ Err f → Said text f
+space_told text tabs more p why f k = by f (refused_as k (spaces_are_passed tabs more p))
+  where
+    by : (g : Fault) → IsGlued p more g → Said text g
+    by g (glued begins) = why begins
+
+pub spaces_told : (text : List ℕ) (tabs : SkipTabs) (t : ScannerState) → (begins_with 35 t.rest ≡ true → Said text (At CommentNotSeparated t.held.position)) → Faults (Said text) (skip_spaces tabs t)
+unfolding skip_spaces
+spaces_told text tabs t why = read t.held (space tabs t.rest t.held.position) _ (λ f k. space_told text tabs t.rest t.held.position why f k) (λ x k. goes)
+
+-- no comment stands at a gap
+pub no_comment : (r : List ℕ) → is_at_gap r ≡ true → begins_with 35 r ≡ false
+unfolding is_blank_or_end is_blank is_break is_nul
+no_comment a h = grind arith
+
+-- none stands where blanks were passed
+pub no_comment_left : (tabs : SkipTabs) (r : List ℕ) → ends_spaces tabs r ≡ true → begins_with 35 r ≡ false
+no_comment_left a b h = grind arith
+
+-- and no separation, where the line goes on
+pub solid_past : (r : List ℕ) → ends_spaces Yes r ≡ true → is_breakz (peek r) ≡ false → begins_separation r ≡ false
+unfolding is_blank is_break model_classes.is_break
+solid_past a h n = grind arith
+
+-- a space or a break stands first, so spaces, breaks and comments are read
+pub white_goes : (t : ScannerState) → begins_with_space_or_break t.rest ≡ true → skip_yaml_whitespace t ≡ Ok (past_white_space t)
+unfolding skip_yaml_whitespace
+white_goes t h =
+    let by : (x : Result ScannerState Fault) → EndsAs (HasPassed begins_white_space t.held t.rest) (HasNoWhiteSpace t.held t.rest) x → Holds (λ u. (u ≡ past_white_space t) × (is_separation false (white_of false t.rest) (past_white false t.rest) ≡ true)) x → x ≡ Ok (past_white_space t) = λ x a k. grind (arith, first, h) in
+    by (skip_yaml_whitespace t) (white_space_is_passed t.held t.rest) (white_exactly t)
+  where
+    first : (text separation rest : List ℕ) → begins_with_space_or_break text ≡ true → text ≡ separation ++ rest → begins_with 32 text ≡ false → ends.has_break separation ≡ false → begins_white_space rest ≡ false → ⊥
+    first [] separation rest h e f g i = absurd (cc h)
+    first (c ∷ r) [] rest h e f g i = grind arith
+    first (c ∷ r) (d ∷ separation) rest h e f g i = grind arith

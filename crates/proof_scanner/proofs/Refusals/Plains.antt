@@ -1,15 +1,13 @@
 -- Faults of plain scalars.
-use Rattle.proof_scanner.proofs.Common.{[], after_plain, allow_key, ap, arith, Arrives, before_by, before_past, begins_left, collection_of, columns, comes_plain, Context, context, false, Fault, fetch_plain_scalar, goes_on, goes_over, HasNoPlainFault, HasTab, in_flow, innermost, is_adjacent, is_empty, IsPlainFault, IsPlainRefusal, least_column, lexed, List, nat_le, nat_lt, nat_tests, no_plain, Ok, on_held, Option, plain_first, Position, position_after, Problem, push, refused_as, ScannerState, scans_end, Style, subst, sym, Tok, true, unroll_non_block_indents, without_open, ℕ, ◌++◌, ◌∙◌, ◌∷◌, ◌≡◌, eqb-true}
+use Rattle.proof_scanner.proofs.Common.{[], after_plain, allow_key, ap, arith, Arrives, before_by, before_past, begins_left, collection_of, columns, comes_plain, Context, context, false, Fault, fetch_plain_scalar, goes_on, goes_over, HasNoPlainFault, HasTab, in_flow, innermost, is_adjacent, is_empty, IsPlainFault, IsPlainRefusal, least_column, lexed, List, nat_le, nat_lt, nat_tests, no_plain, Ok, on_held, Option, plain_first, Position, position_after, Problem, push, refused_as, ScannerState, scans_end, Style, subst, sym, Tok, true, unroll_non_block_indents, without_open, ℕ, ◌++◌, ◌∙◌, ◌∷◌, ◌≡◌, eqb-true, FlowIndentation, PlainDashInFlow, PlainTab}
 use Rattle.defs_token.specs.Plain.{inside}
-use Rattle.yaml_tokens.specs.declared.problem.Problem.TheVariants as problem
 use Rattle.model_scanner.specs.Plain.{plain}
 use Rattle.proof_lexers.specs.PlainEnds as plains
 use Rattle.proof_scanner.proofs.Cut.Nodes.{IsDeep, less_or}
 use Rattle.proof_scanner.proofs.Cut.Saved.{saved_keys, saved_is}
 use Rattle.proof_scanner.proofs.Sound.WithoutOpen.{AreClosed, without_is}
 use Rattle.proof_scanner.specs.NoPiece as none
-use Rattle.proof_scanner.proofs.Refusals.Faults.{Faults, goes, read}
-use Rattle.proof_scanner.proofs.Refusals.Places.{Said, IsWhy, LiesDeep, looked_at, stuck_by}
+use Rattle.proof_scanner.proofs.Refusals.Places.{Faults, goes, read, Said, IsWhy, LiesDeep, looked_at, stuck_by}
 use Rattle.proof_scanner.proofs.Sound.PlainKeeps.{solid_text}
 
 -- ---- texts
@@ -44,23 +42,23 @@ module _ (text : List ℕ) (t : ScannerState) (a : Arrives text t) (some : is_em
       (λ c may m. record { fails = no_plain m.0 m.1; is_first = (looked_at text t a some lies c [], m.2) })
 
   -- the scalar does not begin left of its column
-  no_column : begins_left ctx t.held.position ≡ false → HasNoPlainFault ctx.flow blocks t.held.position t.rest problem.FlowIndentation
+  no_column : begins_left ctx t.held.position ≡ false → HasNoPlainFault ctx.flow blocks t.held.position t.rest FlowIndentation
   no_column deep place a = grind (arith, least_is)
 
   -- no TAB that is wrong begins a line of it
-  no_tab : (HasTab ctx t.rest → ⊥) → HasNoPlainFault ctx.flow blocks t.held.position t.rest problem.PlainTab
+  no_tab : (HasTab ctx t.rest → ⊥) → HasNoPlainFault ctx.flow blocks t.held.position t.rest PlainTab
   no_tab free place a = grind (arith, nat_tests, eqb-true, over_alike, collection_is, least_is)
 
   refused : (f : Fault) → IsPlainRefusal ctx t.held.position t.rest f → Said text f
   refused f (plains.by_column flow left) =
       let shallow : nat_le (least_column blocks true) t.held.position.col ≡ false = grind (arith, nat_tests, least_is, left) in
-      λ _. plain_stuck problem.FlowIndentation t.held.position (none.by_column flow shallow) tt
+      λ _. plain_stuck FlowIndentation t.held.position (none.by_column flow shallow) tt
   refused f (plains.by_tab deep tab) =
-      λ _. plain_stuck problem.PlainTab t.held.position
+      λ _. plain_stuck PlainTab t.held.position
       (none.by_tab tab.before tab.blanks tab.rest tab.column tab.is_text (sym (over_alike ctx (innermost blocks) tab.before (9 ∷ (tab.blanks ++ tab.rest)) collection_is) ∙ tab.is_over) tab.is_at (ap (nat_lt tab.column) least_is ∙ tab.is_left) tab.are_blanks tab.is_token)
       (no_column deep)
   refused f (plains.by_dash before rest deep free flow cut begins over apart) =
-      λ _. plain_stuck problem.PlainDashInFlow (position_after t.held.position before (45 ∷ rest))
+      λ _. plain_stuck PlainDashInFlow (position_after t.held.position before (45 ∷ rest))
       (none.by_dash before rest flow cut begins (sym (over_alike ctx (innermost blocks) before (45 ∷ rest) collection_is) ∙ over) apart)
       (no_column deep, no_tab free)
 

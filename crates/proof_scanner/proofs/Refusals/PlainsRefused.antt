@@ -1,20 +1,161 @@
 -- Where a plain scalar begins and is none, no row of the text goes on.
-use Rattle.proof_scanner.proofs.Common.{[], splits, More, append-nil, stand_after, is_gap, ◌⊎◌, inl, inr, Account, act_of, after_blank, and_parts, ap, append_assoc, are_marks, arith, before_by, before_past, begins_flow, begins_plain, begins_token, Bool, comes_plain, context_of, dashes, ends_with_content, ends_with_dash, false, flow_solid, goes_on, goes_over, has_dash_before_flow, inl, innermost, inr, is_adjacent, is_apart, is_at_gap, is_blanks, is_deep_enough, is_document_marker, is_flow, is_in_flow, is_indented_by_spaces, is_nul, is_whole_plain, Kind, least_column, List, may_begin, may_precede, nat_le, nat_lt, not, on_line, Option, or_true, plain_lines_fit, Position, previous_by, refl, same_flow, scalar, Site, site_at_place, site_past, Stand, stand_after, stops, subst, sym, true, Whole, ℕ, ◌&&◌, ◌++◌, ◌==◌, ◌∙◌, ◌∷◌, ◌≡◌, eqb-true, nat_tests, cases_Bool, and_false}
-use Rattle.defs_text.specs.Classes as classes
-use Rattle.defs_token.specs.Account as pieces
+use Rattle.proof_scanner.proofs.Common.{[], splits, More, append-nil, stand_after, is_gap, ◌⊎◌, inl, inr, Account, act_of, after_blank, and_parts, ap, append_assoc, are_marks, arith, before_by, before_past, begins_flow, begins_plain, begins_token, Bool, comes_plain, context_of, dashes, ends_with_content, ends_with_dash, false, flow_solid, goes_on, goes_over, has_dash_before_flow, innermost, is_adjacent, is_apart, is_at_gap, is_blanks, is_deep_enough, is_document_marker, is_flow, is_in_flow, is_indented_by_spaces, is_nul, is_whole_plain, Kind, least_column, List, may_begin, may_precede, nat_le, nat_lt, not, on_line, Option, or_true, plain_lines_fit, Position, previous_by, refl, same_flow, scalar, Site, site_at_place, site_past, Stand, stops, subst, sym, true, Whole, ℕ, ◌&&◌, ◌++◌, ◌==◌, ◌∙◌, ◌∷◌, ◌≡◌, eqb-true, nat_tests, cases_Bool, and_false, zero, ◌-◌, ◌+◌, ◌<◌, suc, length, has_break, further_on, has_tab_within, last_line, or-true, begins_separation, is_empty, kind_at}
 use Rattle.defs_token.specs.Plain.{inside, past}
-use Rattle.defs_token.specs.Token as tokens
-use Rattle.defs_token.specs.Step as steps
 use Rattle.proof_row.specs.Ends.{plain_scalar}
 use Rattle.proof_row.proofs.Plains.{plains}
 use Rattle.proof_row.proofs.Written.{At}
-use Rattle.proof_scanner.proofs.Refusals.PlainGaps.{next_clear, Comes, comes, dashed, comes_by, no_marker, stand_over, stand_content}
 use Rattle.proof_lexers.proofs.Plain.Found.{tab_blank}
-use Rattle.proof_scanner.proofs.Refusals.PlainTabs.{tab_line, blanks_end, ends_later, white_between, goes_later, gap_more, gap_tab, token_begins}
 use Rattle.proof_scanner.proofs.Refusals.OtherRows.{StepAt, IsClearGapAfter}
-use Rattle.proof_scanner.proofs.Refusals.PiecesHere.{acct, whole_at}
-use Rattle.proof_scanner.proofs.Refusals.StandsRefused.{node_site_past, flow_is, node_site, no_depth, no_lines, no_end}
-use Rattle.proof_scanner.proofs.Sound.PlainKeeps.{same_innermost}
+use Rattle.proof_scanner.proofs.Refusals.PiecesRefused.{acct, whole_at, node_site_past, flow_is, node_site, no_depth, no_lines, no_end}
+use Rattle.proof_scanner.proofs.Sound.PlainKeeps.{same_innermost, no_comment}
+use Rattle.defs_text.specs.Classes.{is_break, is_blank}
+use Rattle.proof_row.proofs.Runs.{joined, neither}
+use Rattle.proof_scanner.proofs.Sound.LastLines.{last_first, last_whole, break_append}
+use Rattle.proof_scanner.proofs.Sound.PlainLines.{first_line, line_is, all_lines, feed_first, first_is, others_are}
+use Rattle.defs_text.specs.Classes as classes
+use Rattle.defs_token.specs.Account as pieces
+use Rattle.defs_token.specs.Token as tokens
+use Rattle.defs_token.specs.Step as steps
+
+-- ---- the gap after it
+
+-- No TAB indents what comes after the gap, if a piece does: the next step of the row asks for that.
+pub next_clear : (indent : ℕ) (bs gap : List ℕ) (aw : Bool) → is_gap gap ≡ true → least_column bs true ≡ indent → is_indented_by_spaces steps.plain_scalar bs aw gap ≡ true → has_break gap ≡ true → has_tab_within indent (last_line gap) ≡ false
+next_clear indent bs gap aw white least h broken = grind (arith, no_comment, or-true)
+
+pub stand_over : (s : Stand) (r g : List ℕ) → stand_after s (r ++ g) ≡ stand_after (stand_after s r) g
+stand_over s [] g = refl
+stand_over s (c ∷ r) g = stand_over (past s c) r g
+
+-- after content stands content
+pub stand_content : (s : Stand) (c : ℕ) (r : List ℕ) → ends_with_content c r ≡ true → stand_after (past s c) r ≡ inside
+stand_content s c [] h = grind arith
+stand_content s c (d ∷ r) h = stand_content (past s c) d r h
+
+-- ---- where one comes
+
+-- where the dispatch looks for a plain scalar the text begins with one, or with a dash before another thing
+comes_by : (fl adjacent : Bool) (column : ℕ) (text : List ℕ) → comes_plain fl adjacent column text ≡ true → (kind_at fl adjacent column text ≡ plain_scalar) ⊎ (kind_at fl adjacent column text ≡ dashes)
+comes_by fl adjacent column text h = grind (arith, nat_tests)
+
+-- the other thing is no document marker
+pub no_marker : (fl adjacent : Bool) (column : ℕ) (text next : List ℕ) → comes_plain fl adjacent column text ≡ true → (45 ∷ 45 ∷ 45 ∷ next) ≡ text → column ≡ 0 → is_at_gap next ≡ true → ⊥
+unfolding are_marks
+no_marker fl adjacent column text next h e m g = grind (arith, nat_tests, eqb-true, and_parts)
+
+-- ---- the lines from a position on
+
+-- by what stands before it
+abbrev lines_from : (column : ℕ) → Stand → List ℕ → Bool
+lines_from column (on_line k) t = line_is k column (first_line t) && plain_lines_fit column t
+lines_from column s t = plain_lines_fit column t
+
+-- without its first blank a line is indented too
+tab_less : (k column c : ℕ) (l : List ℕ) → has_tab_within (column - k) (c ∷ l) ≡ false → has_tab_within (column - suc k) l ≡ false
+tab_less k column c l h = by (column - k) refl h
+  where
+    by : (n : ℕ) → column - k ≡ n → has_tab_within n (c ∷ l) ≡ false → has_tab_within (column - suc k) l ≡ false
+    by zero e f = let none : column - suc k ≡ 0 = omega (arith, e) in rw none refl
+    by (suc n) e f = let less : column - suc k ≡ n = omega (arith, e) in rw less (neither _ _ f).1
+
+line_less : (k column c : ℕ) (l : List ℕ) → is_blank c ≡ true → line_is k column (c ∷ l) ≡ true → line_is (suc k) column l ≡ true
+line_less k column c l b h = grind (arith, nat_tests, eqb-true, tab_less)
+
+module _ (column : ℕ) (c : ℕ) (r : List ℕ) where
+  line_goes : (s : Stand) → lines_from column s (c ∷ r) ≡ true → lines_from column (past s c) r ≡ true
+  line_goes s h = grind (arith, nat_tests, eqb-true, feed_first, all_lines, line_is, first_line, others_are, and_parts, joined, line_less, first_is)
+
+lines_go : (column : ℕ) (s : Stand) (before t : List ℕ) → lines_from column s (before ++ t) ≡ true → lines_from column (stand_after s before) t ≡ true
+lines_go column s [] t h = h
+lines_go column s (c ∷ before) t h = lines_go column (past s c) before t (line_goes column c (before ++ t) s h)
+
+-- After a TAB that indents a line stand blanks alone.
+pub tab_line : (column k : ℕ) (before z : List ℕ) → stand_after after_blank before ≡ on_line k → nat_lt k column ≡ true → plain_lines_fit column (before ++ 9 ∷ z) ≡ true → is_blanks (first_line z) ≡ true
+unfolding is_break is_blank
+tab_line column k before z stands low fit =
+    let by : (n : ℕ) → column - k ≡ n → line_is k column (9 ∷ first_line z) ≡ true → is_blanks (first_line z) ≡ true = λ n e h. grind (arith, nat_tests, low) in
+    let h : lines_from column (on_line k) (9 ∷ z) ≡ true = ap (λ s. lines_from column s (9 ∷ z)) (sym stands) ∙ lines_go column after_blank before (9 ∷ z) fit in
+    let q : line_is k column (9 ∷ first_line z) ≡ true = ap (line_is k column) (sym (first_is column 9 z refl)) ∙ (and_parts (line_is k column (first_line (9 ∷ z))) (plain_lines_fit column (9 ∷ z)) h).0 in
+    by (column - k) refl q
+
+blank_in_line : (c : ℕ) → is_blank c ≡ true → is_break c ≡ false
+unfolding is_blank is_break
+blank_in_line c h = grind (arith, h)
+
+-- A line of blanks alone is no line with a token after its blanks.
+pub blanks_end : (d : ℕ) (z blanks more next : List ℕ) → is_blank d ≡ true → ends_with_content d z ≡ true → is_blanks (first_line z) ≡ true → blanks ++ more ≡ z ++ next → is_blanks blanks ≡ true → begins_token more ≡ true → ⊥
+blanks_end d (c ∷ z) (k ∷ blanks) more next b ends line e are token = grind (arith, nat_tests, eqb-true, and_parts, first_is, blank_in_line, blanks_end c z blanks more next)
+blanks_end d a blanks more next b ends line e are token = grind arith
+
+-- the end of a text is that of what it ends with
+pub ends_later : (before : List ℕ) (c : ℕ) (r : List ℕ) (d : ℕ) (z : List ℕ) → c ∷ r ≡ before ++ d ∷ z → ends_with_content c r ≡ true → ends_with_content d z ≡ true
+ends_later [] c r d z e h = let first : c ≡ d = cc e in let rest : r ≡ z = cc e in cc (h, first, rest)
+ends_later (b ∷ before) c [] d z e h = absurd (nothing before (cc e))
+  where
+    nothing : (x : List ℕ) → [] ≡ x ++ d ∷ z → ⊥
+    nothing [] f = cc f
+    nothing (x ∷ a) f = cc f
+ends_later (b ∷ before) c (x ∷ r) d z e h = ends_later before x r d z (cc e) h
+
+-- ---- the gap after a scalar
+
+-- where a scalar goes on over a text, and ends before it, the text is blanks and breaks
+pub white_between : (fl : Bool) (coll : Option ℕ) (s : Stand) (q x : List ℕ) → goes_on fl coll s q x ≡ true → stops fl coll s (q ++ x) ≡ true → is_gap q ≡ true
+white_between fl coll s [] x h k = refl
+white_between fl coll s (c ∷ q) x h k = grind (arith, white_between fl coll (past s c) q x)
+
+pub goes_later : (fl : Bool) (coll : Option ℕ) (s : Stand) (r q x : List ℕ) → goes_on fl coll s (r ++ q) x ≡ true → goes_on fl coll (stand_after s r) q x ≡ true
+goes_later fl coll s [] q x h = h
+goes_later fl coll s (c ∷ r) q x h = goes_later fl coll (past s c) r q x (further_on fl coll s c (r ++ q) x h).1
+
+pub gap_more : (q blanks : List ℕ) → is_gap q ≡ true → is_blanks blanks ≡ true → is_gap (q ++ 9 ∷ blanks) ≡ true
+unfolding is_blank
+gap_more [] blanks g b = gap_of blanks b
+  where
+    gap_of : (l : List ℕ) → is_blanks l ≡ true → is_gap l ≡ true
+    gap_of [] h = refl
+    gap_of (c ∷ l) h = grind (arith, gap_of l)
+gap_more (c ∷ q) blanks g b = grind (arith, gap_more q blanks)
+
+-- whether a line's start and blanks stand before a position
+abbrev is_on_line : Stand → Bool
+is_on_line (on_line k) = true
+is_on_line s = false
+
+-- in a gap a line begins after a break alone
+breaks_in : (s : Stand) (q : List ℕ) → is_on_line s ≡ false → is_on_line (stand_after s q) ≡ true → has_break q ≡ true
+breaks_in s [] h k = absurd (cc (h, k))
+breaks_in s (c ∷ q) h k = grind (arith, breaks_in (past s c) q)
+
+column_is : (j k : ℕ) (q : List ℕ) → is_gap q ≡ true → has_break q ≡ false → stand_after (on_line j) q ≡ on_line k → j + length q ≡ k
+column_is j k [] g n e = grind arith
+column_is j k (c ∷ q) g n e = grind (arith, column_is (suc j) k q)
+
+tab_among : (n : ℕ) (q blanks : List ℕ) → length q < n → has_tab_within n (q ++ 9 ∷ blanks) ≡ true
+tab_among (suc n) (c ∷ q) blanks h = grind (arith, tab_among n q blanks)
+tab_among a q blanks h = grind arith
+
+blanks_break : (blanks : List ℕ) → is_blanks blanks ≡ true → has_break (9 ∷ blanks) ≡ false
+unfolding is_break is_blank
+blanks_break blanks h = by blanks h
+  where
+    by : (l : List ℕ) → is_blanks l ≡ true → has_break l ≡ false
+    by [] h = refl
+    by (c ∷ l) h = grind (arith, by l, blank_in_line)
+
+tab_in_last : (n k : ℕ) (s : Stand) (q blanks : List ℕ) → is_gap q ≡ true → is_blanks blanks ≡ true → k < n → has_break q ≡ true → stand_after s q ≡ on_line k → has_tab_within n (last_line (q ++ 9 ∷ blanks)) ≡ true
+tab_in_last n k s [] blanks g b low br e = absurd (cc br)
+tab_in_last n k s (c ∷ q) blanks g b low br e = grind (arith, nat_tests, eqb-true, last_first, and_parts, break_append, or-true, last_whole, blanks_break, column_is, tab_among, tab_in_last n k (past s c) q blanks)
+
+-- A TAB in the gap after a scalar indents the line after it.
+pub gap_tab : (n k : ℕ) (q blanks : List ℕ) → is_gap q ≡ true → is_blanks blanks ≡ true → nat_lt k n ≡ true → stand_after inside q ≡ on_line k → (has_break (q ++ 9 ∷ blanks) ≡ true) × (has_tab_within n (last_line (q ++ 9 ∷ blanks)) ≡ true)
+gap_tab n k q blanks g b low e =
+    let br : has_break q ≡ true = breaks_in inside q refl (ap is_on_line e) in
+    (rw (break_append q (9 ∷ blanks), br) refl, tab_in_last n k inside q blanks g b (grind (arith, nat_tests, low)) br e)
+
+-- what begins with a token is some text and no separation
+pub token_begins : (r : List ℕ) → begins_token r ≡ true → (begins_separation r ≡ false) × (is_empty r ≡ false)
+token_begins a h = grind arith
 
 -- ---- dashes
 
@@ -40,37 +181,33 @@ ends_dashed s c [] h = grind arith
 ends_dashed s c (d ∷ []) h = ends_dashed (past s c) d [] h
 ends_dashed s c (d ∷ e ∷ p) h = ends_dashed (past s c) d (e ∷ p) h
 
-module _ (a : Account) (separation rest : List ℕ) (here : Position) (s : StepAt a separation rest here) (comes_here : comes_plain (is_in_flow a.entries) (is_adjacent (before_past (before_by a.site.before) separation)) here.col rest ≡ true) where
-  abbrev next : List ℕ
-  next = s.next
-
+module _ {a : Account} {separation rest : List ℕ} {here : Position} (s : StepAt a separation rest here) (comes_here : comes_plain (is_in_flow a.entries) (is_adjacent (before_past (before_by a.site.before) separation)) here.col rest ≡ true) where
   abbrev seen_here : pieces.Account
-  seen_here = acct a separation rest here s
+  seen_here = acct s
 
   abbrev Here : Kind → Type 0
-  Here k = Whole k (context_of seen_here) s.step.piece next s.step.shown
+  Here k = Whole k (context_of seen_here) s.step.piece s.next s.step.shown
 
   comes_there : comes_plain (pieces.is_in_flow seen_here) (is_adjacent seen_here.before) seen_here.position.col rest ≡ true
   comes_there = grind arith
 
   plain_here : Here plain_scalar
-  plain_here = by (comes_by (pieces.is_in_flow seen_here) (is_adjacent seen_here.before) seen_here.position.col rest comes_there)
-    where
-      by : Comes (pieces.is_in_flow seen_here) (is_adjacent seen_here.before) seen_here.position.col rest → Here plain_scalar
-      by (comes k) = subst Here k (whole_at a separation rest here s)
-      by (dashed k) =
-          let m : Here dashes = subst Here k (whole_at a separation rest here s) in
-          absurd (no_marker (pieces.is_in_flow seen_here) (is_adjacent seen_here.before) seen_here.position.col rest next comes_there (ap (λ p. p ++ next) (sym m.0.0) ∙ s.text_is) m.0.1 m.0.2)
+  plain_here = elim (comes_by (pieces.is_in_flow seen_here) (is_adjacent seen_here.before) seen_here.position.col rest comes_there) [
+    | inl k ↦ subst Here k (whole_at s)
+    | inr k ↦
+        let m : Here dashes = subst Here k (whole_at s) in
+        absurd (no_marker (pieces.is_in_flow seen_here) (is_adjacent seen_here.before) seen_here.position.col rest s.next comes_there (ap (λ p. p ++ s.next) (sym m.0.0) ∙ s.text_is) m.0.1 m.0.2)
+  ]
 
-  site_is : At s.account s.step next ≡ site_at_place a here
-  site_is = node_site a separation rest here s (ap act_of plain_here.2)
+  site_is : At s.account s.step s.next ≡ site_at_place a here
+  site_is = node_site s (ap act_of plain_here.2)
 
   -- its column in flow
   pub no_column : is_in_flow a.entries ≡ true → nat_le (least_column (site_at_place a here).blocks true) here.col ≡ false → ⊥
-  no_column flow left = no_depth a separation rest here s (scalar tokens.plain plain_here.0) plain_here.2 refl (ap (λ b. is_deep_enough b (scalar tokens.plain plain_here.0) (site_at_place a here)) flow ∙ left)
+  no_column flow left = no_depth s (scalar tokens.plain plain_here.0) plain_here.2 refl (ap (λ b. is_deep_enough b (scalar tokens.plain plain_here.0) (site_at_place a here)) flow ∙ left)
 
   -- its piece is whole
-  whole : is_whole_plain (is_in_flow a.entries) (innermost (site_at_place a here).blocks) s.step.piece next ≡ true
+  whole : is_whole_plain (is_in_flow a.entries) (innermost (site_at_place a here).blocks) s.step.piece s.next ≡ true
   whole = grind (arith, flow_is, site_is, same_innermost, plain_here)
 
   -- a dash before a flow indicator
@@ -78,7 +215,7 @@ module _ (a : Account) (separation rest : List ℕ) (here : Position) (s : StepA
   no_dash [] more flow cut begins over apart =
       let may : may_begin true (is_adjacent seen_here.before) 45 more ≡ true =
       let all : begins_plain (pieces.is_in_flow seen_here) (is_adjacent seen_here.before) seen_here.position.col (45 ∷ more) ≡ true = ap (begins_plain (pieces.is_in_flow seen_here) (is_adjacent seen_here.before) seen_here.position.col) (sym (s.text_is ∙ cut)) ∙ plain_here.1.0 in
-      ap (λ b. may_begin b (is_adjacent seen_here.before) 45 more) (sym (flow_is a separation rest here s ∙ flow)) ∙ (and_parts (may_begin (pieces.is_in_flow seen_here) (is_adjacent seen_here.before) 45 more) (not ((seen_here.position.col == 0) && is_document_marker (45 ∷ more))) all).0 in
+      ap (λ b. may_begin b (is_adjacent seen_here.before) 45 more) (sym (flow_is s ∙ flow)) ∙ (and_parts (may_begin (pieces.is_in_flow seen_here) (is_adjacent seen_here.before) 45 more) (not ((seen_here.position.col == 0) && is_document_marker (45 ∷ more))) all).0 in
       cc (may, none)
     where
       none : may_begin true (is_adjacent seen_here.before) 45 more ≡ false
@@ -86,16 +223,16 @@ module _ (a : Account) (separation rest : List ℕ) (here : Position) (s : StepA
   no_dash (c ∷ p) more flow cut begins over apart =
       let coll : Option ℕ = innermost (site_at_place a here).blocks in
       let own : is_whole_plain true coll (c ∷ (p ++ 45 ∷ [])) more ≡ true = rw (goes_both true coll inside p (45 ∷ []) more (ap (λ b. goes_on b coll inside p (45 ∷ more)) (sym flow) ∙ over) (dash_goes coll (stand_after inside p) more begins), content_end c p, flow_stops coll inside more begins) refl in
-      let same : (s.step.piece ≡ c ∷ (p ++ 45 ∷ [])) × (next ≡ more) = plains true coll s.step.piece (c ∷ (p ++ 45 ∷ [])) next more (ap (λ b. is_whole_plain b coll s.step.piece next) (sym flow) ∙ whole) own (s.text_is ∙ (cut ∙ ap (λ r. c ∷ r) (sym (append_assoc p (45 ∷ []) more)))) in
-      let dashed_there : has_dash_before_flow s.step.piece next ≡ true = ap (λ x. has_dash_before_flow x next) same.0 ∙ (ap (λ r. has_dash_before_flow (c ∷ (p ++ 45 ∷ [])) r) same.1 ∙ rw (ends_dashed after_blank c p apart, begins) refl) in
-      no_end a separation rest here s
-      (ap (λ t. may_precede (is_in_flow s.account.entries) (At s.account s.step next).blocks t s.step.piece next) plain_here.2 ∙
-      (ap (λ b. not (b && has_dash_before_flow s.step.piece next)) (sym (same_flow a.entries s.account.entries s.is_like.2) ∙ flow) ∙ ap not dashed_there))
+      let same : (s.step.piece ≡ c ∷ (p ++ 45 ∷ [])) × (s.next ≡ more) = plains true coll s.step.piece (c ∷ (p ++ 45 ∷ [])) s.next more (ap (λ b. is_whole_plain b coll s.step.piece s.next) (sym flow) ∙ whole) own (s.text_is ∙ (cut ∙ ap (λ r. c ∷ r) (sym (append_assoc p (45 ∷ []) more)))) in
+      let dashed_there : has_dash_before_flow s.step.piece s.next ≡ true = ap (λ x. has_dash_before_flow x s.next) same.0 ∙ (ap (λ r. has_dash_before_flow (c ∷ (p ++ 45 ∷ [])) r) same.1 ∙ rw (ends_dashed after_blank c p apart, begins) refl) in
+      no_end s
+      (ap (λ t. may_precede (is_in_flow s.account.entries) (At s.account s.step s.next).blocks t s.step.piece s.next) plain_here.2 ∙
+      (ap (λ b. not (b && has_dash_before_flow s.step.piece s.next)) (sym (same_flow a.entries s.account.entries s.is_like.2) ∙ flow) ∙ ap not dashed_there))
 
   -- a TAB that indents a line of it, or the one after it
   pub no_tab : (before blanks more : List ℕ) (column : ℕ) → rest ≡ before ++ 9 ∷ (blanks ++ more) → goes_over (is_in_flow a.entries) (innermost (site_at_place a here).blocks) before (9 ∷ (blanks ++ more)) ≡ true → stand_after after_blank before ≡ on_line column
       → nat_lt column (least_column (site_at_place a here).blocks true) ≡ true → is_blanks blanks ≡ true → begins_token more ≡ true → IsClearGapAfter s → ⊥
-  no_tab before blanks more column cut over stands low are token is_clear = by s.step.piece refl (splits s.step.piece before next (9 ∷ (blanks ++ more)) (s.text_is ∙ cut))
+  no_tab before blanks more column cut over stands low are token is_clear = by s.step.piece refl (splits s.step.piece before s.next (9 ∷ (blanks ++ more)) (s.text_is ∙ cut))
     where
       least : ℕ
       least = least_column (site_at_place a here).blocks true
@@ -107,16 +244,16 @@ module _ (a : Account) (separation rest : List ℕ) (here : Position) (s : StepA
       coll = innermost (site_at_place a here).blocks
 
       lines : plain_lines_fit least s.step.piece ≡ true
-      lines = elim (cases_Bool (plain_lines_fit least s.step.piece)) [ inl e ↦ e | inr e ↦ absurd (no_lines a separation rest here s (scalar tokens.plain plain_here.0) plain_here.2 refl e) ]
+      lines = elim (cases_Bool (plain_lines_fit least s.step.piece)) [ inl e ↦ e | inr e ↦ absurd (no_lines s (scalar tokens.plain plain_here.0) plain_here.2 refl e) ]
 
-      past_is : s.past.site ≡ site_past (is_in_flow s.account.entries) (At s.account s.step next) s.step.piece s.step.shown next (At s.account s.step next).blocks
-      past_is = node_site_past s.account s.step next s.past (ap act_of plain_here.2) s.is_past
+      past_is : s.past.site ≡ site_past (is_in_flow s.account.entries) (At s.account s.step s.next) s.step.piece s.step.shown s.next (At s.account s.step s.next).blocks
+      past_is = node_site_past s.account s.step s.next s.past (ap act_of plain_here.2) s.is_past
 
       before_is : s.past.site.before ≡ steps.plain_scalar
       before_is = ap (λ (x : Site). x.before) past_is ∙ ap previous_by plain_here.2
 
       -- or in the gap after it
-      in_gap : (q : List ℕ) → next ≡ q ++ 9 ∷ (blanks ++ more) → stand_after inside q ≡ on_line column → goes_on fl coll inside q (9 ∷ (blanks ++ more)) ≡ true → stops fl coll inside next ≡ true → ⊥
+      in_gap : (q : List ℕ) → s.next ≡ q ++ 9 ∷ (blanks ++ more) → stand_after inside q ≡ on_line column → goes_on fl coll inside q (9 ∷ (blanks ++ more)) ≡ true → stops fl coll inside s.next ≡ true → ⊥
       in_gap q e stand goes ends =
           let gap : is_gap q ≡ true = white_between fl coll inside q (9 ∷ (blanks ++ more)) goes (ap (stops fl coll inside) (sym e) ∙ ends) in
           let whole : is_gap (q ++ 9 ∷ blanks) ≡ true = gap_more q blanks gap are in
@@ -126,19 +263,19 @@ module _ (a : Account) (separation rest : List ℕ) (here : Position) (s : StepA
           subst (λ y. is_indented_by_spaces y s.past.site.blocks s.past.site.awaits (q ++ 9 ∷ blanks) ≡ true) before_is (is_clear before_is (q ++ 9 ∷ blanks) more (e ∙ sym (append_assoc q (9 ∷ blanks) more)) whole solid.0 solid.1) in
           cc (tab.1, next_clear least s.past.site.blocks (q ++ 9 ∷ blanks) s.past.site.awaits whole (ap (λ (x : Site). least_column x.blocks true) past_is ∙ ap (λ (x : Site). least_column x.blocks true) site_is) spaced tab.0)
 
-      by : (piece : List ℕ) → s.step.piece ≡ piece → More s.step.piece before next (9 ∷ (blanks ++ more)) ⊎ More before s.step.piece (9 ∷ (blanks ++ more)) next → ⊥
-      by [] e m = let w : is_whole_plain fl coll [] next ≡ true = ap (λ x. is_whole_plain fl coll x next) (sym e) ∙ whole in cc w
+      by : (piece : List ℕ) → s.step.piece ≡ piece → More s.step.piece before s.next (9 ∷ (blanks ++ more)) ⊎ More before s.step.piece (9 ∷ (blanks ++ more)) s.next → ⊥
+      by [] e m = let w : is_whole_plain fl coll [] s.next ≡ true = ap (λ x. is_whole_plain fl coll x s.next) (sym e) ∙ whole in cc w
       by (d ∷ r) e m =
-          let w : is_whole_plain fl coll (d ∷ r) next ≡ true = ap (λ x. is_whole_plain fl coll x next) (sym e) ∙ whole in
-          let q = and_parts (goes_on fl coll inside r next && ends_with_content d r) (stops fl coll inside next) w in
-          let z = and_parts (goes_on fl coll inside r next) (ends_with_content d r) q.0 in
+          let w : is_whole_plain fl coll (d ∷ r) s.next ≡ true = ap (λ x. is_whole_plain fl coll x s.next) (sym e) ∙ whole in
+          let q = and_parts (goes_on fl coll inside r s.next && ends_with_content d r) (stops fl coll inside s.next) w in
+          let z = and_parts (goes_on fl coll inside r s.next) (ends_with_content d r) q.0 in
           of z.1 q.1 m
         where
           here_stands : (r : List ℕ) (d : ℕ) → ends_with_content d r ≡ true → stand_after inside r ≡ inside
           here_stands [] d h = refl
           here_stands (x ∷ r) d h = stand_content inside x r h
 
-          of : ends_with_content d r ≡ true → stops fl coll inside next ≡ true → More s.step.piece before next (9 ∷ (blanks ++ more)) ⊎ More before s.step.piece (9 ∷ (blanks ++ more)) next → ⊥
+          of : ends_with_content d r ≡ true → stops fl coll inside s.next ≡ true → More s.step.piece before s.next (9 ∷ (blanks ++ more)) ⊎ More before s.step.piece (9 ∷ (blanks ++ more)) s.next → ⊥
           of content ends (inl m) =
               let longer : before ≡ d ∷ (r ++ m.more) = m.longer ∙ ap (λ p. p ++ m.more) e in
               let stand : stand_after (past after_blank d) (r ++ m.more) ≡ on_line column = ap (stand_after after_blank) (sym longer) ∙ stands in
@@ -147,11 +284,11 @@ module _ (a : Account) (separation rest : List ℕ) (here : Position) (s : StepA
               (ap (λ t. goes_on fl coll t m.more (9 ∷ (blanks ++ more))) (sym (here_stands r d content)) ∙ goes_later fl coll inside r m.more (9 ∷ (blanks ++ more)) goes) ends
           of content ends (inr m) = tail m.more m.longer m.rest
             where
-              tail : (z : List ℕ) → s.step.piece ≡ before ++ z → 9 ∷ (blanks ++ more) ≡ z ++ next → ⊥
+              tail : (z : List ℕ) → s.step.piece ≡ before ++ z → 9 ∷ (blanks ++ more) ≡ z ++ s.next → ⊥
               tail [] longer rest =
                   let same : before ≡ d ∷ r = sym (append-nil before) ∙ (sym longer ∙ e) in
                   cc (stands, ap (stand_after after_blank) same, stand_content after_blank d r content)
               tail (x ∷ z) longer rest =
                   let first : x ≡ 9 = cc rest in
                   let cut : s.step.piece ≡ before ++ 9 ∷ z = longer ∙ ap (λ y. before ++ y ∷ z) first in
-                  (blanks_end 9 z blanks more next tab_blank (ends_later before d r 9 z (sym e ∙ cut) content) (tab_line least column before z stands low (ap (plain_lines_fit least) (sym cut) ∙ lines)) (cc rest) are token)
+                  (blanks_end 9 z blanks more s.next tab_blank (ends_later before d r 9 z (sym e ∙ cut) content) (tab_line least column before z stands low (ap (plain_lines_fit least) (sym cut) ∙ lines)) (cc rest) are token)

@@ -1,7 +1,6 @@
 -- The scan of a quoted scalar reads one, or refuses the text for what is wrong with it first.
-use Rattle.proof_scanner.proofs.Common.{position_append, [], cases_Bool, inl, inr, after_element, after_escaped, after_gap, after_quote, along, along_more, and_false, and_parts, ap, append-nil, arith, At, at_start, begins_further, begins_marked, Begun, begun, blank, Bool, break_further, content, Context, drop, element_of, ends_before, eqb-true, Err, escape, escaped_break, false, Fault, first_is_gap, first_fails, Folded, gap, in_gap, inside, is_document_marker, is_marked, is_some, append_cancel_right, ◌++◌, quoted_lines_fit, joined, line_break, LineStand, List, list_all, marked, Mode, nat_lt, nat_tests, None, not, not-true, nothing, off_margin, Ok, Option, OutOfMemory, past, past_element, past_escaped, past_is, Position, position_after, position_past, Problem, quoted, Read, refl, Result, scan, shallow, Some, Spelled, step, StepOf, steps, subst, suc, sym, take, true, white_stands, with_break, with_escaped_break, within, zero, ℕ, ◌&&◌, ◌+◌, ◌==◌, ◌∙◌, ◌∷◌, ◌≡◌, ◌≤◌, past_elements}
+use Rattle.proof_scanner.proofs.Common.{position_append, [], cases_Bool, inl, inr, after_element, after_escaped, after_gap, after_quote, along, along_more, and_false, and_parts, ap, append-nil, arith, At, at_start, begins_further, begins_marked, Begun, begun, blank, Bool, break_further, content, Context, drop, element_of, ends_before, eqb-true, Err, escape, escaped_break, false, Fault, first_is_gap, first_fails, Folded, gap, in_gap, inside, is_document_marker, is_marked, is_some, append_cancel_right, ◌++◌, quoted_lines_fit, joined, line_break, LineStand, List, list_all, marked, Mode, nat_lt, nat_tests, None, not, not-true, nothing, off_margin, Ok, Option, OutOfMemory, past, past_element, past_escaped, past_is, Position, position_after, position_past, Problem, quoted, Read, refl, Result, scan, shallow, Some, Spelled, step, StepOf, steps, subst, suc, sym, take, true, white_stands, with_break, with_escaped_break, within, zero, ℕ, ◌&&◌, ◌+◌, ◌==◌, ◌∙◌, ◌∷◌, ◌≡◌, ◌≤◌, past_elements, QuotedDocumentMarker, QuotedEnd, QuotedIndentation, TabAsIndentation}
 use Rattle.yaml_chars.specs.Class.{is_break, is_blank}
-use Rattle.yaml_tokens.specs.declared.problem.Problem.TheVariants as problem
 use Rattle.model_scanner.specs.Quoted.{after}
 use Rattle.model_scanner.specs.Quoted as model
 use Rattle.proof_lexers.proofs.Quoted.Faults.{escape_fails}
@@ -9,15 +8,14 @@ use Rattle.proof_lexers.proofs.Quoted.Shapes.{NoElement, closing, slash, no_elem
 use Rattle.proof_lexers.proofs.Quoted.Turns.{spelled, begins, Step, is_shallow}
 use Rattle.proof_scanner.proofs.Sound.QuotedBreaks.{Kind, has_content, has_blank, has_line, has_escaped, is_white, quote_white, slash_white, body_between}
 use Rattle.proof_scanner.specs.NoPiece.{quote_of}
-use Rattle.proof_scanner.proofs.Refusals.QuotedElements.{quote_no_break, after_quote_at, no_quote, solid_here, past_line, past_two, after_it, kind_of, content_after}
-use Rattle.proof_scanner.proofs.Refusals.QuotedReasons.{stands, by_end, by_escape, by_column, by_tab, by_marker, placed, arrived, stepped, Reason, Closed, parted, all_stand, before_quote, lines_close}
+use Rattle.proof_scanner.proofs.Refusals.QuotedReasons.{quote_no_break, after_quote_at, no_quote, solid_here, past_line, past_two, after_it, kind_of, content_after, stands, by_end, by_escape, by_column, by_tab, by_marker, placed, arrived, stepped, Reason, Closed, parted, all_stand, before_quote, lines_close}
 use Rattle.model_scanner.proofs.PlainLemmas.{break_leads}
 
 -- the faults of further lines
 abbrev pub is_of_lines : Fault → Bool
 is_of_lines OutOfMemory = false
-is_of_lines (At problem.QuotedIndentation p) = true
-is_of_lines (At problem.TabAsIndentation p) = true
+is_of_lines (At QuotedIndentation p) = true
+is_of_lines (At TabAsIndentation p) = true
 is_of_lines (At _ p) = false
 
 -- ---- texts
@@ -68,24 +66,22 @@ module _ (single : Bool) (ctx : Context) (start : Position) (least : ℕ) (limit
 
   -- ---- a line begins or goes on
 
-  -- what is neither blank nor break begins a line or goes on in one
-  data Started (s : LineStand) (p : Position) (text : List ℕ) (t : Folded) : Type 0 where
-    begins_or_goes : ((p.col == 0) && is_document_marker text) ≡ false → nat_lt p.col least ≡ false → scan single ctx start text gap p t ≡ scan single ctx start text inside p (joined t) → Started s p text t
-    stops : Ends s p text (scan single ctx start text gap p t) → Started s p text t
-
-  started : (c : ℕ) (b : List ℕ) (s : LineStand) (m : Mode) (p : Position) (t : Folded) → is_white c ≡ false → Stood p t s m → (s ≡ past_escaped → (c == quote_of single) ≡ false) → Started s p (c ∷ b) t
-  started c b s m p t solid stood unlike = by ((p.col == 0) && is_document_marker (c ∷ b)) refl (begins single ctx start c b p t solid)
+  -- What is neither blank nor break begins a line or goes on in one; or it is refused.
+  started : (c : ℕ) (b : List ℕ) (s : LineStand) (m : Mode) (p : Position) (t : Folded) → is_white c ≡ false → Stood p t s m → (s ≡ past_escaped → (c == quote_of single) ≡ false)
+      → (((p.col == 0) && is_document_marker (c ∷ b)) ≡ false → nat_lt p.col least ≡ false → scan single ctx start (c ∷ b) gap p t ≡ scan single ctx start (c ∷ b) inside p (joined t) → Ends s p (c ∷ b) (scan single ctx start (c ∷ b) gap p t))
+      → Ends s p (c ∷ b) (scan single ctx start (c ∷ b) gap p t)
+  started c b s m p t solid stood unlike on = by ((p.col == 0) && is_document_marker (c ∷ b)) refl (begins single ctx start c b p t solid)
     where
       further : (s : LineStand) (m : Mode) → Stood p t s m → (s ≡ past_escaped → (c == quote_of single) ≡ false) → nat_lt p.col least ≡ true → begins_further s (c == quote_of single) ≡ true
       further s m a unlike b = grind arith
 
-      by : (marker : Bool) → ((p.col == 0) && is_document_marker (c ∷ b)) ≡ marker → Begun single ctx start (c ∷ b) p t → Started s p (c ∷ b) t
-      by true h z = stops (refused problem.QuotedDocumentMarker start (arrived (by_marker h)) (begins_marked single ctx start c b p t solid h))
-      by false h (begun none deep i) = begins_or_goes none (sym (limit p.col) ∙ deep) i
+      by : (marker : Bool) → ((p.col == 0) && is_document_marker (c ∷ b)) ≡ marker → Begun single ctx start (c ∷ b) p t → Ends s p (c ∷ b) (scan single ctx start (c ∷ b) gap p t)
+      by true h z = refused QuotedDocumentMarker start (arrived (by_marker h)) (begins_marked single ctx start c b p t solid h)
+      by false h (begun none deep i) = on none (sym (limit p.col) ∙ deep) i
       by false h (marked g i) = absurd (cc (g, h))
       by false h (shallow g i) =
           let low : nat_lt p.col least ≡ true = sym (limit p.col) ∙ g in
-          stops (refused problem.QuotedIndentation start (arrived (placed _ _ h (by_column (solid_here c b solid) (further s m stood unlike low) low))) i)
+          refused QuotedIndentation start (arrived (placed _ _ h (by_column (solid_here c b solid) (further s m stood unlike low) low))) i
 
   -- ---- an element more
 
@@ -97,11 +93,7 @@ module _ (single : Bool) (ctx : Context) (start : Position) (least : ℕ) (limit
     ends_grown x y i fit none (reads z w j) = reads z (stepped c b e is fit none w) (i ∙ j)
 
     not_quote : single ≡ false → (c == quote_of single) ≡ false
-    not_quote double = by single double is
-      where
-        by : (x : Bool) → x ≡ false → element_of x c b ≡ Some e → (c == quote_of x) ≡ false
-        by true d i = absurd (cc d)
-        by false d i = no_quote c b e i
+    not_quote double = let i = rw double at is in rw double (no_quote c b e i)
 
   deep_stands : (s : LineStand) (k : ℕ) → nat_lt k least ≡ false → not (begins_further s false && nat_lt k least) ≡ true
   deep_stands s k h = rw (h, and_false (begins_further s false)) refl
@@ -112,7 +104,8 @@ module _ (single : Bool) (ctx : Context) (start : Position) (least : ℕ) (limit
   -- content
   content_ends : (c : ℕ) (b : List ℕ) (code k : ℕ) → element_of single c b ≡ Some (spelled (content code) k) → is_white c ≡ false → (s : LineStand) (p : Position) (m : Mode) (t : Folded) → Stood p t s m → Later (drop k b)
       → Ends s p (c ∷ b) (scan single ctx start (c ∷ b) gap p t)
-  content_ends c b code k is solid s p m t stood later = by (started c b s m p t solid stood (no_escaped s m p t c stood (not_quote c b (spelled (content code) k) is s p)))
+  content_ends c b code k is solid s p m t stood later =
+      started c b s m p t solid stood (no_escaped s m p t c stood (not_quote c b (spelled (content code) k) is s p)) (λ none deep i. go none deep (subst (λ o. StepOf single ctx start c b [] p t o) is (step single ctx start c b [] p t refl)))
     where
       here : Result (Read (List ℕ)) Fault
       here = scan single ctx start (c ∷ b) gap p t
@@ -124,16 +117,12 @@ module _ (single : Bool) (ctx : Context) (start : Position) (least : ℕ) (limit
           let still : nat_lt q.col least ≡ false = ap (λ (z : Position). nat_lt z.col least) at ∙ grind (arith, nat_tests, further, deep) in
           ends_grown c b (spelled (content code) k) is s p here _ i (deep_stands s p.col deep) none (subst (λ z. Ends within z (drop k b) (scan single ctx start (drop k b) gap q now)) place (later within q gap now (in_line still)))
 
-      by : Started s p (c ∷ b) t → Ends s p (c ∷ b) here
-      by (stops x) = x
-      by (begins_or_goes none deep i) = go (subst (λ o. StepOf single ctx start c b [] p t o) is (step single ctx start c b [] p t refl))
-        where
-          go : Step single ctx start c b [] p t (spelled (content code) k) → Ends s p (c ∷ b) here
-          go (steps _ q at in_gap full unmarked marks j) =
-              on deep none q _ at (ap (λ r. scan single ctx start (c ∷ r) gap p t) (sym (append-nil b)) ∙ (j ∙ ap (λ r. scan single ctx start r gap q (after_element (content code) t)) (append-nil (drop k b))))
-          go (steps _ q at (after_escaped double f g) full unmarked marks j) = absurd (cc g)
-          go (is_marked h j) = absurd (cc (none, ap (λ r. (p.col == 0) && is_document_marker (c ∷ r)) (sym (append-nil b)), h))
-          go (is_shallow h j) = absurd (cc (h, limit p.col, deep))
+      go : ((p.col == 0) && is_document_marker (c ∷ b)) ≡ false → nat_lt p.col least ≡ false → Step single ctx start c b [] p t (spelled (content code) k) → Ends s p (c ∷ b) here
+      go none deep (steps _ q at in_gap full unmarked marks j) =
+          on deep none q _ at (ap (λ r. scan single ctx start (c ∷ r) gap p t) (sym (append-nil b)) ∙ (j ∙ ap (λ r. scan single ctx start r gap q (after_element (content code) t)) (append-nil (drop k b))))
+      go none deep (steps _ q at (after_escaped double f g) full unmarked marks j) = absurd (cc g)
+      go none deep (is_marked h j) = absurd (cc (none, ap (λ r. (p.col == 0) && is_document_marker (c ∷ r)) (sym (append-nil b)), h))
+      go none deep (is_shallow h j) = absurd (cc (h, limit p.col, deep))
 
   -- blanks
   blank_ends : (c : ℕ) (b : List ℕ) → element_of single c b ≡ Some (spelled (blank c) 0) → is_break c ≡ false → is_blank c ≡ true → (s : LineStand) (p : Position) (m : Mode) (t : Folded) → Stood p t s m → Later b → Ends s p (c ∷ b) (scan single ctx start (c ∷ b) gap p t)
@@ -159,10 +148,10 @@ module _ (single : Bool) (ctx : Context) (start : Position) (least : ℕ) (limit
 
       tabbed : (s : LineStand) → begins_further s false ≡ true → (t.leading && (c == 9) && nat_lt (p.col + 1) ctx.indent) ≡ true → Ends s p (c ∷ b) here
       tabbed s further h =
-          let fails : here ≡ Err (At problem.TabAsIndentation p) = rw (f, g, h) refl in
+          let fails : here ≡ Err (At TabAsIndentation p) = rw (f, g, h) refl in
           let parts = and_parts (t.leading && (c == 9)) (nat_lt (p.col + 1) ctx.indent) h in
           let is_tab : c ≡ 9 = eqb-true c 9 (and_parts t.leading (c == 9) parts.0).1 in
-          refused problem.TabAsIndentation p (arrived (placed _ _ none (by_tab b (ap (λ x. x ∷ b) is_tab) further (sym (limit p.col) ∙ parts.1)))) fails
+          refused TabAsIndentation p (arrived (placed _ _ none (by_tab b (ap (λ x. x ∷ b) is_tab) further (sym (limit p.col) ∙ parts.1)))) fails
 
       open_line : (s : LineStand) → begins_further s false ≡ true → past_element s (blank c) ≡ at_start → t.leading ≡ true → Ends s p (c ∷ b) here
       open_line s further next leads = elim (cases_Bool (t.leading && (c == 9) && nat_lt (p.col + 1) ctx.indent)) [
@@ -188,12 +177,9 @@ module _ (single : Bool) (ctx : Context) (start : Position) (least : ℕ) (limit
 
   escaped_ends : (d : ℕ) (a : List ℕ) → single ≡ false → element_of single 92 (d ∷ a) ≡ Some (spelled escaped_break (suc (break_further d a))) → is_break d ≡ true → (s : LineStand) (p : Position) (m : Mode) (t : Folded) → Stood p t s m → Later (drop (break_further d a) a)
       → Ends s p (92 ∷ d ∷ a) (scan single ctx start (92 ∷ d ∷ a) gap p t)
-  escaped_ends d a double is f s p m t stood later = by (started 92 (d ∷ a) s m p t slash_white stood (λ _. slash_no_quote single))
-    where
-      by : Started s p (92 ∷ d ∷ a) t → Ends s p (92 ∷ d ∷ a) (scan single ctx start (92 ∷ d ∷ a) gap p t)
-      by (stops x) = x
-      by (begins_or_goes none deep i) =
-          ends_grown 92 (d ∷ a) (spelled escaped_break (suc (break_further d a))) is s p _ _ (i ∙ escaped_goes single ctx start double d a p (joined t) f) (deep_stands s p.col deep) none (later past_escaped _ after _ (escaped double refl))
+  escaped_ends d a double is f s p m t stood later =
+      started 92 (d ∷ a) s m p t slash_white stood (λ _. slash_no_quote single) (λ none deep i.
+      ends_grown 92 (d ∷ a) (spelled escaped_break (suc (break_further d a))) is s p _ _ (i ∙ escaped_goes single ctx start double d a p (joined t) f) (deep_stands s p.col deep) none (later past_escaped _ after _ (escaped double refl)))
 
   -- ---- where no element stands
 
@@ -203,13 +189,13 @@ module _ (single : Bool) (ctx : Context) (start : Position) (least : ℕ) (limit
       closed : (s : LineStand) → all_stand least s p.col (before_quote s) ≡ true → Closed single least start s p (model.quote_of single ∷ r) r (past p)
       closed s fit = arrived (record { is_quote = ap (λ q. q ∷ r) (same_quote single); fit = fit; end_is = refl })
 
-      in_its_line : (s : LineStand) → Started s p (model.quote_of single ∷ r) t → Ends s p (model.quote_of single ∷ r) (scan single ctx start (model.quote_of single ∷ r) gap p t)
-      in_its_line s (stops x) = x
-      in_its_line s (begins_or_goes none deep i) = reads _ (closed s (grind (arith, and_false))) (i ∙ closes single ctx start r p (joined t) ended)
+      in_its_line : (s : LineStand) → Stood p t s gap → (s ≡ past_escaped → (model.quote_of single == quote_of single) ≡ false) → Ends s p (model.quote_of single ∷ r) (scan single ctx start (model.quote_of single ∷ r) gap p t)
+      in_its_line s stood unlike =
+          started (model.quote_of single) r s gap p t (quote_white single) stood unlike (λ none deep i. reads _ (closed s (grind (arith, and_false))) (i ∙ closes single ctx start r p (joined t) ended))
 
       by : (s : LineStand) (m : Mode) → Stood p t s m → Ends s p (model.quote_of single ∷ r) (scan single ctx start (model.quote_of single ∷ r) m p t)
-      by s m (in_line deep) = in_its_line within (started (model.quote_of single) r within gap p t (quote_white single) (in_line deep) (λ e. absurd (cc e)))
-      by s m (begins_here leads) = in_its_line at_start (started (model.quote_of single) r at_start gap p t (quote_white single) (begins_here leads) (λ e. absurd (cc e)))
+      by s m (in_line deep) = in_its_line within (in_line deep) (λ e. absurd (cc e))
+      by s m (begins_here leads) = in_its_line at_start (begins_here leads) (λ e. absurd (cc e))
       by s m (escaped double leads) = reads _ (closed past_escaped refl) (after_quote single ctx start (model.quote_of single) (model.quote_of single ∷ r) p t refl refl ∙ closes single ctx start r p t ended)
 
   -- what is no closing quote is read after an escaped break as in a gap
@@ -219,16 +205,13 @@ module _ (single : Bool) (ctx : Context) (start : Position) (least : ℕ) (limit
   from_gap c b unlike s m p t (escaped double leads) = after_gap single ctx start c (c ∷ b) p t refl (ap (λ q. c == q) (same_quote single) ∙ unlike double)
 
   bad_ends : single ≡ false → (r : List ℕ) → escape r ≡ None → Later (92 ∷ r)
-  bad_ends double r bad s p m t stood = ends_on s p (92 ∷ r) _ _ (from_gap 92 r (λ _. slash_no_quote single) s m p t stood) (by (started 92 r s m p t slash_white stood (λ _. slash_no_quote single)))
-    where
-      by : Started s p (92 ∷ r) t → Ends s p (92 ∷ r) (scan single ctx start (92 ∷ r) gap p t)
-      by (stops x) = x
-      by (begins_or_goes none deep i) =
-          let z = escape_fails ctx start r p (joined t) bad in
-          refused z.why start (arrived (placed _ _ none (by_escape r z.why double refl z.bad (rw (deep, and_false (begins_further s false)) refl)))) (i ∙ (grind arith))
+  bad_ends double r bad s p m t stood =
+      ends_on s p (92 ∷ r) _ _ (from_gap 92 r (λ _. slash_no_quote single) s m p t stood) (started 92 r s m p t slash_white stood (λ _. slash_no_quote single) (λ none deep i.
+      let z = escape_fails ctx start r p (joined t) bad in
+      refused z.why start (arrived (placed _ _ none (by_escape r z.why double refl z.bad (rw (deep, and_false (begins_further s false)) refl)))) (i ∙ (grind arith))))
 
   unclosed_ends : Later []
-  unclosed_ends s p m t stood = refused problem.QuotedEnd start (arrived (placed _ _ (and_false (p.col == 0)) (by_end refl))) (grind arith)
+  unclosed_ends s p m t stood = refused QuotedEnd start (arrived (placed _ _ (and_false (p.col == 0)) (by_end refl))) (grind arith)
 
   none_ends : (c : ℕ) (b : List ℕ) → NoElement single c b → Later (c ∷ b)
   none_ends c b (closing e ended) = subst (λ x. Later (x ∷ b)) (sym e) (closed_ends b ended)
@@ -279,9 +262,7 @@ module _ (single : Bool) (ctx : Context) (start : Position) (least : ℕ) (limit
       fails (c ∷ b) f i = cc (i, first_fails single ctx start c (b ++ quote_of single ∷ x.rest) (past start) (off_margin start.col 0) f)
 
       position_of : (position : Position) → position ≡ past (position_after (past start) body (quote_of single ∷ x.rest)) → position ≡ position_after start (quote_of single ∷ (body ++ quote_of single ∷ [])) x.rest
-      position_of position e =
-          e ∙ (sym (past_is (position_after (past start) body (quote_of single ∷ x.rest)) (quote_of single) x.rest (quote_no_break single)) ∙
-          (sym (position_append (past start) body (quote_of single ∷ []) x.rest) ∙ sym (after_quote_at single start (body ++ quote_of single ∷ []) x.rest)))
+      position_of position h = grind (arith, nat_tests, eqb-true, past_is, position_after, past, start, body, quote_of, single, quote_no_break, position_append, after_quote_at)
 
       by : Ends within (past start) (body ++ quote_of single ∷ x.rest) (quoted single ctx (quote_of single ∷ (body ++ quote_of single ∷ x.rest)) start) → IsBody (quote_of single) body x
       by (refused why at h i) = absurd (cc (i, e))

@@ -1,6 +1,5 @@
 -- Faults of quoted scalars: a further line is not indented, or what stands after the scalar may not follow it.
-use Rattle.proof_scanner.proofs.Common.{[], ap, append-nil, append_assoc, are_indented, AreNotIndented, arith, Arrives, At, begins_separation, begins_with, bodies_are_read, Bool, check_after_quoted, closed_first, content, Context, element_of, elements, ends_before, ends_spaces, Err, false, Fault, go_on, has_marker, has_no_nul, held_of, in_flow, is_breakz, is_document_marker, is_empty, IsBadEscape, IsQuoted, IsQuotedFault, lines_first, List, may_follow_quoted, nat_lt, no_quoted, node_start, not-true, off_margin, Ok, on_held, past, past_elements, peek, Position, position_after, Problem, quote_of, quoted, quoted_lines_fit, quoted_may_end, Read, refl, Result, ScannerState, skip_spaces, Some, subst, sym, tab, true, unled, value_of, within, Yes, ℕ, ◌++◌, ◌+◌, ◌-◌, ◌==◌, ◌∙◌, ◌∷◌, ◌≡◌, further_lines_fit, lines_of, eqb-true, nat_tests, and_parts}
-use Rattle.yaml_tokens.specs.declared.problem.Problem.TheVariants as problem
+use Rattle.proof_scanner.proofs.Common.{inr, inl, cases_Bool, [], ap, append-nil, append_assoc, are_indented, AreNotIndented, arith, Arrives, At, begins_separation, begins_with, bodies_are_read, Bool, check_after_quoted, closed_first, content, Context, element_of, elements, ends_before, ends_spaces, Err, false, Fault, go_on, has_marker, has_no_nul, held_of, in_flow, is_breakz, is_document_marker, is_empty, IsBadEscape, IsQuoted, IsQuotedFault, lines_first, List, may_follow_quoted, nat_lt, no_quoted, node_start, not-true, off_margin, Ok, on_held, past, past_elements, peek, Position, position_after, Problem, quote_of, quoted, quoted_lines_fit, quoted_may_end, Read, refl, Result, ScannerState, skip_spaces, Some, subst, sym, tab, true, unled, value_of, within, Yes, ℕ, ◌++◌, ◌+◌, ◌-◌, ◌==◌, ◌∙◌, ◌∷◌, ◌≡◌, further_lines_fit, lines_of, eqb-true, nat_tests, and_parts, CommentNotSeparated, ContentAfterQuoted, QuotedDocumentMarker, QuotedEnd, QuotedIndentation, TabAsIndentation, neither}
 use Rattle.proof_lexers.specs.QuotedScan as scans
 use Rattle.proof_scanner.proofs.Cut.Nodes.{IsDeep}
 use Rattle.proof_scanner.proofs.Cut.Pieces.Quoted.{some_chars}
@@ -10,16 +9,11 @@ use Rattle.proof_scanner.proofs.Sound.QuotedBreaks.{same_limit, has_elements, bo
 use Rattle.proof_scanner.proofs.Sound.QuotedEnds.{unglued}
 use Rattle.proof_scanner.proofs.Sound.QuotedKeeps.{QuotedAs, piece_of}
 use Rattle.proof_scanner.proofs.Refusals.AfterQuoted.{check_passes}
-use Rattle.proof_scanner.proofs.Refusals.QuotedCuts.{not_closed}
+use Rattle.proof_scanner.proofs.Refusals.QuotedReasons.{not_closed, after_quote_at, all_stand, indented_are, is_marked, by_end, by_escape, by_column, by_tab, by_marker, placed, Wrong, Reason, Parted, parted, lines_close}
 use Rattle.proof_scanner.specs.NoPiece as none
 use Rattle.proof_scanner.specs.QuotedLines as lines
-use Rattle.proof_scanner.proofs.Refusals.QuotedElements.{after_quote_at}
-use Rattle.proof_scanner.proofs.Refusals.QuotedLines.{is_of_lines, Ends, refused, reads, quoted_ends}
-use Rattle.proof_scanner.proofs.Refusals.QuotedReasons.{all_stand, indented_are, is_marked, by_end, by_escape, by_column, by_tab, by_marker, placed, Wrong, Reason, Parted, parted, lines_close}
-use Rattle.proof_scanner.proofs.Refusals.Faults.{Faults, fault, goes, in_turn, either}
-use Rattle.proof_scanner.proofs.Refusals.Spaces.{spaces_told, solid_past}
-use Rattle.proof_scanner.proofs.Refusals.Places.{Said, IsWhy, LiesDeep, looked_at, none_here, followed_stuck, stuck_by}
-use Rattle.proof_row.proofs.Runs.{neither}
+use Rattle.proof_scanner.proofs.Refusals.QuotedLines.{is_of_lines, refused, reads, quoted_ends}
+use Rattle.proof_scanner.proofs.Refusals.Places.{Faults, fault, goes, in_turn, either, Said, IsWhy, LiesDeep, looked_at, none_here, followed_stuck, stuck_by, spaces_told, solid_past}
 
 -- ---- texts
 
@@ -72,31 +66,30 @@ module _ (text : List ℕ) (t : ScannerState) (a : Arrives text t) (some : is_em
   fits = ap (λ n. quoted_lines_fit (n - 1) (element_of single) piece) (sym same) ∙ q.fits
 
   -- a comment right after the quote
-  glued : begins_with 35 x.rest ≡ true → Said text (At problem.CommentNotSeparated x.position)
+  glued : begins_with 35 x.rest ≡ true → Said text (At CommentNotSeparated x.position)
   glued h =
-      λ _. subst (λ p. IsWhy text problem.CommentNotSeparated p) (sym q.end_is)
-      (followed_stuck text t a some lies problem.CommentNotSeparated (position_after t.held.position piece x.rest) (none.glued_to_quoted single piece x.rest q.cut is h) (λ c may. fits))
+      λ _. subst (λ p. IsWhy text CommentNotSeparated p) (sym q.end_is)
+      (followed_stuck text t a some lies CommentNotSeparated (position_after t.held.position piece x.rest) (none.glued_to_quoted single piece x.rest q.cut is h) (λ c may. fits))
 
   refuses : (v : ScannerState) → skip_spaces Yes closed ≡ Ok v → may_follow_quoted (in_flow v.held) (t.held.position.line == v.held.position.line) (peek v.rest) ≡ false
-      → check_after_quoted t.held.position.line closed ≡ Err (At problem.ContentAfterQuoted v.held.position)
+      → check_after_quoted t.held.position.line closed ≡ Err (At ContentAfterQuoted v.held.position)
   unfolding check_after_quoted
   refuses v e n = rw (e, n) refl
 
   may_not_end : (v : ScannerState) → skip_spaces Yes closed ≡ Ok v → may_follow_quoted (in_flow v.held) (t.held.position.line == v.held.position.line) (peek v.rest) ≡ false → quoted_may_end (in_flow t.held) piece x.rest ≡ false
-  may_not_end v e n = by (quoted_may_end (in_flow t.held) piece x.rest) refl
-    where
-      by : (b : Bool) → quoted_may_end (in_flow t.held) piece x.rest ≡ b → b ≡ false
-      by false i = refl
-      by true i = absurd (cc ((check_passes t.held.position piece closed q.end_is (ap (λ b. quoted_may_end b piece x.rest) (ap in_flow (saved_is t.held)) ∙ i)).is, refuses v e n))
+  may_not_end v e n = elim (cases_Bool (quoted_may_end (in_flow t.held) piece x.rest)) [
+    | inl i ↦ absurd (cc ((check_passes t.held.position piece closed q.end_is (ap (λ b. quoted_may_end b piece x.rest) (ap in_flow (saved_is t.held)) ∙ i)).is, refuses v e n))
+    | inr i ↦ i
+  ]
 
   -- other text on its line
-  followed_by : (v : ScannerState) → skip_spaces Yes closed ≡ Ok v → Spaced Yes closed v → may_follow_quoted (in_flow v.held) (t.held.position.line == v.held.position.line) (peek v.rest) ≡ false → Said text (At problem.ContentAfterQuoted v.held.position)
+  followed_by : (v : ScannerState) → skip_spaces Yes closed ≡ Ok v → Spaced Yes closed v → may_follow_quoted (in_flow v.held) (t.held.position.line == v.held.position.line) (peek v.rest) ≡ false → Said text (At ContentAfterQuoted v.held.position)
   followed_by v e s n =
       let end : Position = position_after t.held.position piece x.rest in
       let passed : List ℕ = s.blanks ++ s.comment in
       let place : v.held.position ≡ position_after end passed v.rest = ap (λ h. h.position) s.is_held ∙ ap (λ p. position_after p passed v.rest) q.end_is in
-      λ _. subst (λ p. IsWhy text problem.ContentAfterQuoted p) (sym place)
-      (followed_stuck text t a some lies problem.ContentAfterQuoted (position_after end passed v.rest)
+      λ _. subst (λ p. IsWhy text ContentAfterQuoted p) (sym place)
+      (followed_stuck text t a some lies ContentAfterQuoted (position_after end passed v.rest)
       (none.after_quoted single piece x.rest passed v.rest q.cut is (may_not_end v e n) (record { is_text = s.is_rest ∙ sym (append_assoc s.blanks s.comment v.rest); is_filled = s.is_filled; is_on_line = s.no_break })
       (solid_left (in_flow v.held) (t.held.position.line == v.held.position.line) v.rest s.ends n)) (λ c may. (fits, held_of v (unglued Yes closed) e)))
 
@@ -104,7 +97,7 @@ module _ (text : List ℕ) (t : ScannerState) (a : Arrives text t) (some : is_em
   unfolding check_after_quoted
   after_told =
       in_turn (spaces_told text Yes closed glued) (λ v e.
-      either (may_follow_quoted (in_flow v.held) (t.held.position.line == v.held.position.line) (peek v.rest)) (λ _. goes) (λ n. fault {f = At problem.ContentAfterQuoted v.held.position} (followed_by v e (held_of v (spaces_skipped Yes closed) e) n)))
+      either (may_follow_quoted (in_flow v.held) (t.held.position.line == v.held.position.line) (peek v.rest)) (λ _. goes) (λ n. fault {f = At ContentAfterQuoted v.held.position} (followed_by v e (held_of v (spaces_skipped Yes closed) e) n)))
 
 -- ---- a text that is refused
 
@@ -133,19 +126,16 @@ module _ (text : List ℕ) (t : ScannerState) (a : Arrives text t) (some : is_em
       none_there told = subst (λ r. none.HasNoQuoted single r) (sym e) (none_quoted single ctx more here f fails told)
 
       -- nor one whose lines are indented
-      none_fits : (why : Problem) (at : Position) → (why ≡ problem.QuotedDocumentMarker → ⊥) → Reason single least here within (past here) more why at → AreNotIndented single least t.rest
-      none_fits why at unlike x piece next cut is = on (quoted_lines_fit least (element_of single) piece) refl
-        where
-          b : Bodied single more piece next
-          b = bodied single more piece next (sym e ∙ cut) is
-
-          on : (fit : Bool) → quoted_lines_fit least (element_of single) piece ≡ fit → fit ≡ false
-          on false i = refl
-          on true i =
-              let es = has_elements single b.body b.value b.value_is in
-              let whole : quoted_lines_fit least (element_of single) (none.quote_of single ∷ (b.body ++ none.quote_of single ∷ [])) ≡ true = ap (quoted_lines_fit least (element_of single)) (sym b.piece_is) ∙ i in
-              let fit : further_lines_fit least (lines_of es.0) ≡ true = rw (body_between (none.quote_of single) b.body, es.1) at whole in
-              absurd (not_closed single least here within (past here) b.body next es.0 b.ends es.1 (sym (lines_close least (past here).col es.0) ∙ fit) why at unlike (subst (λ r. Reason single least here within (past here) r why at) b.is_text x))
+      none_fits : (why : Problem) (at : Position) → (why ≡ QuotedDocumentMarker → ⊥) → Reason single least here within (past here) more why at → AreNotIndented single least t.rest
+      none_fits why at unlike x piece next cut is = elim (cases_Bool (quoted_lines_fit least (element_of single) piece)) [
+        | inl i ↦
+            let b : Bodied single more piece next = bodied single more piece next (sym e ∙ cut) is in
+            let es = has_elements single b.body b.value b.value_is in
+            let whole : quoted_lines_fit least (element_of single) (none.quote_of single ∷ (b.body ++ none.quote_of single ∷ [])) ≡ true = ap (quoted_lines_fit least (element_of single)) (sym b.piece_is) ∙ i in
+            let fit : further_lines_fit least (lines_of es.0) ≡ true = rw (body_between (none.quote_of single) b.body, es.1) at whole in
+            absurd (not_closed single least here within (past here) b.body next es.0 b.ends es.1 (sym (lines_close least (past here).col es.0) ∙ fit) why at unlike (subst (λ r. Reason single least here within (past here) r why at) b.is_text x))
+        | inr i ↦ i
+      ]
 
       -- what is wrong with the text after the quote is what the whole text is stuck by
       told_by : (why : Problem) (at : Position) → At why at ≡ f → Reason single least here within (past here) more why at → IsWhy text why at
@@ -162,32 +152,31 @@ module _ (text : List ℕ) (t : ScannerState) (a : Arrives text t) (some : is_em
 
               of : (why : Problem) (at : Position) → At why at ≡ f → Reason single least here within (past here) more why at → Wrong single least here (past_elements within x.es) (position_after (past here) x.body x.rest) x.rest why at → IsWhy text why at
               of why at is w (by_marker h) =
-                  none_here text t a some lies problem.QuotedDocumentMarker
-                  (none.unquoted single more problem.QuotedDocumentMarker e (none_there (ap is_of_lines (sym is))) (none.by_marker x.body x.rest x.is_text (x.es, x.are) (marks true h)))
+                  none_here text t a some lies QuotedDocumentMarker
+                  (none.unquoted single more QuotedDocumentMarker e (none_there (ap is_of_lines (sym is))) (none.by_marker x.body x.rest x.is_text (x.es, x.are) (marks true h)))
                   ((and_parts ((position_after (past here) x.body x.rest).col == 0) (is_document_marker x.rest) h).1, indented)
               of why at is w (placed _ _ free (by_end ends)) =
                   let all : more ≡ x.body = x.is_text ∙ (ap (λ r. x.body ++ r) ends ∙ append-nil x.body) in
-                  none_here text t a some lies problem.QuotedEnd
-                  (none.unquoted single more problem.QuotedEnd e (none_there (ap is_of_lines (sym is))) (none.by_end (x.es, subst (λ b. elements (element_of single) 0 b ≡ Some x.es) (sym all) x.are)))
+                  none_here text t a some lies QuotedEnd
+                  (none.unquoted single more QuotedEnd e (none_there (ap is_of_lines (sym is))) (none.by_end (x.es, subst (λ b. elements (element_of single) 0 b ≡ Some x.es) (sym all) x.are)))
                   (ap (λ b. has_marker b []) all ∙ (ap (λ r. has_marker x.body r) (sym ends) ∙ marks false free), indented)
               of why at is w (placed _ _ free (by_escape next _ double cut bad may)) =
                   none_here text t a some lies why
                   (none.unquoted single more why e (none_there (ap is_of_lines (sym is) ∙ not_of_lines next why here bad)) (none.by_escape x.body next why double (x.is_text ∙ ap (λ r. x.body ++ r) cut) (x.es, x.are) bad))
                   (ap (λ r. has_marker x.body r) (sym cut) ∙ marks false free, indented_are least (past here).col (x.es ++ content 92 ∷ []) ∙ x.fits (content 92 ∷ []) may)
               of why at is w (placed _ _ free (by_column solid further low)) =
-                  lines_stuck single problem.QuotedIndentation here (none_fits why at (λ k. absurd (cc k)) w)
+                  lines_stuck single QuotedIndentation here (none_fits why at (λ k. absurd (cc k)) w)
                   (lines.by_column x.body x.rest x.es (e ∙ ap (λ r. none.quote_of single ∷ r) x.is_text) x.are solid further (ap (λ (q : Position). nat_lt q.col least) (after_quote_at single here x.body x.rest) ∙ low))
                   (marks false free, indented)
               of why at is w (placed _ _ free (by_tab next cut further low)) =
                   let same_place : position_after (past here) x.body x.rest ≡ position_after here (none.quote_of single ∷ x.body) (tab ∷ next) = sym (after_quote_at single here x.body x.rest) ∙ ap (λ r. position_after here (none.quote_of single ∷ x.body) r) cut in
-                  subst (λ z. IsWhy text problem.TabAsIndentation z) (sym same_place)
-                  (lines_stuck single problem.TabAsIndentation (position_after here (none.quote_of single ∷ x.body) (tab ∷ next)) (none_fits why at (λ k. absurd (cc k)) w)
+                  subst (λ z. IsWhy text TabAsIndentation z) (sym same_place)
+                  (lines_stuck single TabAsIndentation (position_after here (none.quote_of single ∷ x.body) (tab ∷ next)) (none_fits why at (λ k. absurd (cc k)) w)
                   (lines.by_tab x.body next x.es (e ∙ ap (λ r. none.quote_of single ∷ r) (x.is_text ∙ ap (λ r. x.body ++ r) cut)) x.are further (ap (λ (q : Position). nat_lt q.col least) (sym same_place) ∙ low))
                   (ap (λ r. has_marker x.body r) (sym cut) ∙ marks false free, indented))
 
     pub refused_told : has_no_nul more ≡ true → (f : Fault) → quoted single ctx (none.quote_of single ∷ more) here ≡ Err f → Said text f
-    refused_told clean f fails = by (quoted_ends single ctx here least limit (omega (arith, deep, same)) more (some_chars more clean))
-      where
-        by : Ends single ctx here least limit within (past here) more (quoted single ctx (none.quote_of single ∷ more) here) → Said text f
-        by (reads y w i) = absurd (cc (i, fails))
-        by (refused why at h i) = let is : At why at ≡ f = cc (i, fails) in subst (λ g. Said text g) is (λ _. told_by f fails why at is h)
+    refused_told clean f fails = elim (quoted_ends single ctx here least limit (omega (arith, deep, same)) more (some_chars more clean)) [
+      | reads y w i ↦ absurd (cc (i, fails))
+      | refused why at h i ↦ let is : At why at ≡ f = cc (i, fails) in subst (λ g. Said text g) is (λ _. told_by f fails why at is h)
+    ]

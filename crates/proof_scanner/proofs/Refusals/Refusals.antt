@@ -1,8 +1,6 @@
 -- Where the scanner's model refuses a text with a fault of a kind that is told, the text is stuck.
-use Rattle.proof_scanner.proofs.Common.{OutOfMemory, [], ap, Arrives, At, begins, cleared, drop_stale, false, Fares, Fault, fetch, fetch_here, fetch_next, fetch_stream_end, fetch_stream_start, has_no_nul, has_required, held_of, here, Holds, in_flow, inl, inr, is_empty, is_far, is_overdue, IsRefused, Key, List, list_any, map, next_line, not-false, Ok, on_held, Option, outside_key, over, peek, Position, Reaches, refl, RefusedTextsAreStuck, ScannerState, Some, stale, Stands, start, still, sym, there, top_key, true, unroll_indent, ℕ, ◌+◌, ◌==◌, ◌∙◌, ◌∷◌, ◌≡◌, ◌⊎◌, arith, eqb-true, nat_tests}
-use Rattle.yaml_tokens.specs.declared.problem.Problem.TheVariants as problem
+use Rattle.proof_scanner.proofs.Common.{OutOfMemory, [], ap, Arrives, At, begins, cleared, drop_stale, false, Fares, Fault, fetch, fetch_here, fetch_next, fetch_stream_end, fetch_stream_start, has_no_nul, has_required, held_of, here, Holds, in_flow, inl, inr, is_empty, is_far, is_overdue, IsRefused, Key, List, list_any, map, next_line, not-false, Ok, on_held, Option, outside_key, over, peek, Position, Reaches, refl, RefusedTextsAreStuck, ScannerState, Some, stale, Stands, start, still, sym, there, top_key, true, unroll_indent, ℕ, ◌+◌, ◌==◌, ◌∙◌, ◌∷◌, ◌≡◌, ◌⊎◌, arith, eqb-true, nat_tests, Account, Bool, Fails, fails, IsStuck, key_waits, AnchorIndentation, KeyExpected, KeyWithoutColon}
 use Rattle.model_scanner.specs.Keys.{with_keys}
-use Rattle.model_scanner.proofs.Holds as holds
 use Rattle.proof_scanner.proofs.Cut.Fetched.{goes_on_here}
 use Rattle.proof_scanner.specs.StandsInRow.{goes}
 use Rattle.proof_scanner.proofs.Sound.Fetches.{content_kept, fetch_keeps}
@@ -10,15 +8,28 @@ use Rattle.proof_scanner.proofs.Sound.Runs.{reached, first_fetch}
 use Rattle.proof_scanner.proofs.Sound.Stales.{no_entries, one_key}
 use Rattle.proof_scanner.proofs.Sound.ToToken.{passed_stands}
 use Rattle.proof_scanner.specs.Never.{AnchorIndentationNeverComes}
-use Rattle.proof_scanner.proofs.Refusals.Faults as faults
-use Rattle.proof_scanner.proofs.Refusals.Faults.{Faults, fault_is, in_turn, tried, either}
+use Rattle.proof_scanner.proofs.Refusals.Places.{Faults, fault_is, in_turn, tried, either, Told, Said, kind, rowless_told}
 use Rattle.proof_scanner.proofs.Refusals.Fetches.{here_told}
-use Rattle.proof_scanner.proofs.Refusals.OtherFaults.{stuck_never}
 use Rattle.proof_scanner.proofs.Refusals.Passing.{HasNear, fetch_near, passing_told}
-use Rattle.proof_scanner.proofs.Refusals.Places.{Told, Said, kind, rowless_told}
-use Rattle.proof_scanner.proofs.Refusals.RequiredKeys.{stale_rowless}
-use Rattle.proof_scanner.proofs.Refusals.Rolled.{unrolled_stays}
+use Rattle.proof_scanner.proofs.Refusals.KeysThatWait.{stale_rowless}
+use Rattle.proof_scanner.proofs.Refusals.Indicators.{unrolled_stays}
 use Rattle.proof_scanner.proofs.Refusals.Shortens.{stale_arrives}
+use Rattle.proof_scanner.proofs.Cut.Faults.Shown.{line_neither, tag_neither}
+use Rattle.model_scanner.proofs.Holds as holds
+use Rattle.proof_scanner.proofs.Refusals.Places as faults
+use Rattle.proof_scanner.specs.NoPiece as none
+
+-- ---- no text is stuck for a property in the first column before an entry there: each reason is one of another kind of fault
+
+quoted_never : (single : Bool) (more : List ℕ) → none.IsNotQuoted single more AnchorIndentation → ⊥
+quoted_never single more (none.by_escape body after _ double cut has bad) = elim bad [ ]
+
+fails_never : (a : Account) (separation rest : List ℕ) (spot at : Position) → Fails a separation spot rest AnchorIndentation at → ⊥
+fails_never a separation rest spot at b = grind (arith, nat_tests, eqb-true, tag_neither, quoted_never, line_neither)
+
+pub stuck_never : (text : List ℕ) (at : Position) → IsStuck text AnchorIndentation at → ⊥
+stuck_never text at (fails a separation rest _ spot _ place some solid f) = fails_never a separation rest spot at f.fails
+stuck_never text at (key_waits a separation rest _ begin spot _ g flowing filled here_is late some solid f) = fails_never a separation rest spot at f.fails
 
 -- ---- a fetch
 
@@ -36,7 +47,7 @@ stale_told : (text : List ℕ) → has_no_nul text ≡ true → (u : ScannerStat
 unfolding stale drop_stale
 stale_told text nul u s =
     either (in_flow u.held) (λ _. faults.goes) (λ o. faults.kept (with_keys u.held) (λ e. refl) (λ x. faults.goes)
-    (rowless_told text (list_any (is_overdue u.held.position) u.held.keys) problem.KeyWithoutColon u.held.position (map (still u.held.position) u.held.keys) refl (λ h.
+    (rowless_told text (list_any (is_overdue u.held.position) u.held.keys) KeyWithoutColon u.held.position (map (still u.held.position) u.held.keys) refl (λ h.
     let out : is_empty u.held.flow ≡ true = not-false (is_empty u.held.flow) o in
     let only = one_key u.held.keys u.held.flow s.one_each out in
     let far = overdue u.held.position only.0 u.held.keys only.1 h in
@@ -54,7 +65,7 @@ StandsOrEnds text t = Stands text t ⊎ (has_required t.held.keys ≡ false)
 
 end_cleared : (t : ScannerState) → Holds (λ u. has_required u.held.keys ≡ false) (fetch_stream_end t)
 unfolding fetch_stream_end
-end_cleared t = holds.tried {P = λ h. has_required h.keys ≡ false} t _ (holds.checked (has_required t.held.keys) (At problem.KeyExpected (next_line t.held.position)) (λ _. holds.went (ap has_required (unrolled_stays 0 _).1 ∙ none t.held.keys))) (λ h k. k)
+end_cleared t = holds.tried {P = λ h. has_required h.keys ≡ false} t _ (holds.checked (has_required t.held.keys) (At KeyExpected (next_line t.held.position)) (λ _. holds.went (ap has_required (unrolled_stays 0 _).1 ∙ none t.held.keys))) (λ h k. k)
   where
     none : (ks : List (Option Key)) → has_required (cleared ks) ≡ false
     none [] = refl
@@ -69,7 +80,7 @@ unfolding stale drop_stale
 left_told text nul t (inl s) = stale_told text nul t s
 left_told text nul t (inr none) =
     either (in_flow t.held) (λ _. faults.goes) (λ _. faults.kept (with_keys t.held) (λ e. refl) (λ x. faults.goes)
-    (rowless_told text (list_any (is_overdue t.held.position) t.held.keys) problem.KeyWithoutColon t.held.position (map (still t.held.position) t.held.keys) refl (λ h. absurd (cc (h, none_overdue t.held.position t.held.keys none)))))
+    (rowless_told text (list_any (is_overdue t.held.position) t.held.keys) KeyWithoutColon t.held.position (map (still t.held.position) t.held.keys) refl (λ h. absurd (cc (h, none_overdue t.held.position t.held.keys none)))))
 
 next_told : (text : List ℕ) → has_no_nul text ≡ true → (t : ScannerState) → Stands text t → HasNear t.held → Faults (Said text) (fetch_next t)
 unfolding fetch_next
@@ -132,4 +143,4 @@ pub refused_texts_are_stuck : RefusedTextsAreStuck
 refused_texts_are_stuck text why at nul r told = refusal_told text (At why at) nul r (kind told)
 
 pub anchor_indentation_never_comes : AnchorIndentationNeverComes
-anchor_indentation_never_comes text at nul r = stuck_never text at (refused_texts_are_stuck text problem.AnchorIndentation at nul r refl)
+anchor_indentation_never_comes text at nul r = stuck_never text at (refused_texts_are_stuck text AnchorIndentation at nul r refl)

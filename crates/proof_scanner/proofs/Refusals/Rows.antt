@@ -1,6 +1,5 @@
 -- Sound texts where a condition was once said to fail: it does not.
-use Rattle.proof_scanner.proofs.Common.{codes, false, first_account, first_position, is_alpha, is_blank, is_blank_or_end, is_break, is_decimal_digit, is_flow, is_letter, is_nul, is_tag, is_uri, is_value_here, IsNoHeader, IsTagRefusal, IsVersionBefore, List, literal, Position, Problem, refl, tags_are_read, uri_character, ℕ, ◌∷◌, ◌≡◌, arith, eqb-true, nat_tests}
-use Rattle.yaml_tokens.specs.declared.problem.Problem.TheVariants as problem
+use Rattle.proof_scanner.proofs.Common.{codes, false, first_account, first_position, is_alpha, is_blank, is_blank_or_end, is_break, is_decimal_digit, is_flow, is_letter, is_nul, is_tag, is_uri, is_value_here, IsNoHeader, IsTagRefusal, IsVersionBefore, List, literal, Position, Problem, refl, tags_are_read, uri_character, ℕ, ◌∷◌, ◌≡◌, arith, eqb-true, nat_tests, BlockScalarHeader}
 use Rattle.proof_scanner.specs.NoPiece as none
 use Rattle.proof_scanner.proofs.Refusals.TextsRefused.{refusal_fails}
 
@@ -31,5 +30,5 @@ unfolding is_blank is_alpha is_decimal_digit is_letter
 no_comment rest v = grind (arith, nat_tests, eqb-true)
 
 -- a header's other text stands after its sign and digit: `|2#` has none
-header_comment : (at : Position) → IsNoHeader literal first_position (codes "2#") problem.BlockScalarHeader at → ⊥
+header_comment : (at : Position) → IsNoHeader literal first_position (codes "2#") BlockScalarHeader at → ⊥
 header_comment at (none.by_text zero more begins) = cc begins

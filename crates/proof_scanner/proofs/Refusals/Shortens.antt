@@ -1,16 +1,12 @@
 -- Each fetch reads on: where a piece begins, less text is left after it.
-use Rattle.std.proofs.lemmas.List.{length-append}
-use Rattle.proof_scanner.proofs.Common.{[], after_plain, allow_key, anchor_name, and_parts, ap, append_assoc, are_single, arith, Arrives, At, Before, before_by, before_past, begin_flow, begin_key, begin_line, begins_separation, block, Bool, both_hold, chained, check_after_quoted, check_after_tab, check_block_entry, check_dash, check_document_end, check_key_space, check_value_space, checked, Collection, collection_column, collection_of, comes_plain, Context, context, directives_end, either, end_entry, end_flow, end_stream, false, Fault, fetch, fetch_anchor, fetch_block_entry, fetch_block_scalar, fetch_content, fetch_directive, fetch_document_end, fetch_document_marker, fetch_flow_collection_end, fetch_flow_collection_start, fetch_flow_entry, fetch_flow_scalar, fetch_here, fetch_key, fetch_next, fetch_plain_scalar, fetch_stream_end, fetch_tag, fetch_token, fetch_value, go_on, has_no_nul, has_required, Held, Holds, if◌then◌else◌, in_flow, inl, inr, is_adjacent, is_document_marker, is_empty, is_literal, is_nul, length, lexed, List, mark_of, may_follow_quoted, NameKind, next_line, No, node_start, None, not, Ok, on_held, opens_pair, Option, other, paired, pass_indicator, peek, Position, push, quote_of, quoted, Quotes, Read, read, read_as, ReadAs, refl, refused, remove_implicit_key, Result, roll_entry, roll_indent, save_implicit_key, ScannerState, sequence, skip_indicator, SkipTabs, stale, Stands, Style, subst, sym, Tok, top_key, tried, true, try_held, unled, unroll_indent, unroll_non_block_indents, weakened, went, without_open, Yes, ℕ, ◌&&◌, ◌++◌, ◌+◌, ◌<◌, ◌==◌, ◌>>=◌, ◌∙◌, ◌∷◌, ◌≡◌, ◌≤◌, ◌⊎◌}
-use Rattle.defs_token.specs.Account.{Account, is_in_flow}
-use Rattle.yaml_tokens.specs.declared.problem.Problem.TheVariants as problem
+use Rattle.proof_scanner.proofs.Common.{[], after_plain, allow_key, anchor_name, and_parts, ap, append_assoc, are_single, arith, Arrives, At, Before, before_by, before_past, begin_flow, begin_key, begin_line, begins_separation, block, Bool, both_hold, chained, check_after_quoted, check_after_tab, check_block_entry, check_dash, check_document_end, check_key_space, check_value_space, checked, Collection, collection_of, comes_plain, Context, context, directives_end, either, end_entry, end_flow, end_stream, false, Fault, fetch, fetch_anchor, fetch_block_entry, fetch_block_scalar, fetch_content, fetch_directive, fetch_document_end, fetch_document_marker, fetch_flow_collection_end, fetch_flow_collection_start, fetch_flow_entry, fetch_flow_scalar, fetch_here, fetch_key, fetch_next, fetch_plain_scalar, fetch_stream_end, fetch_tag, fetch_token, fetch_value, go_on, has_no_nul, has_required, Held, Holds, if◌then◌else◌, in_flow, inl, inr, is_adjacent, is_document_marker, is_empty, is_literal, is_nul, length, lexed, List, mark_of, may_follow_quoted, NameKind, next_line, No, node_start, None, not, Ok, on_held, opens_pair, Option, other, paired, pass_indicator, peek, Position, push, quote_of, quoted, Quotes, Read, read, read_as, ReadAs, refl, refused, remove_implicit_key, Result, roll_entry, roll_indent, save_implicit_key, ScannerState, sequence, skip_indicator, SkipTabs, stale, Stands, Style, subst, sym, Tok, top_key, tried, true, try_held, unled, unroll_indent, unroll_non_block_indents, weakened, went, without_open, Yes, ℕ, ◌&&◌, ◌++◌, ◌+◌, ◌<◌, ◌==◌, ◌>>=◌, ◌∙◌, ◌∷◌, ◌≡◌, ◌≤◌, ◌⊎◌, KeyExpected, TabAfterKey, length-append, passes}
+use Rattle.defs_token.specs.Account.{Account}
 use Rattle.model_scanner.specs.Directive.{directive}
 use Rattle.model_scanner.specs.Plain.{plain}
 use Rattle.model_scanner.specs.Tag as tags
 use Rattle.model_scanner.specs.declared.kind.BlockStyle.{BlockStyle}
-use Rattle.model_scanner.specs.declared.kind.Collection.TheVariants.{Sequence, Mapping}
 use Rattle.model_scanner.specs.State.{after}
 use Rattle.model_scanner.specs.Block.{value_of}
-use Rattle.model_scanner.proofs.Holds.{passes}
 use Rattle.proof_lexers.specs.DirectiveEnds as directives
 use Rattle.proof_scanner.proofs.Cut.Dispatch.{token_holds, content_holds}
 use Rattle.proof_scanner.proofs.Cut.Fetched.{goes_on_here}
@@ -40,18 +36,12 @@ cut_no_longer g a r e = let k = ap length e in let n = length-append g r in omeg
 spaced_no_longer : (tabs : SkipTabs) (t u : ScannerState) → Spaced tabs t u → length u.rest ≤ length t.rest
 spaced_no_longer tabs t u s = cut_no_longer (s.blanks ++ s.comment) t.rest u.rest (s.is_rest ∙ sym (append_assoc s.blanks s.comment u.rest))
 
-read_shorter : (a : Account) (text : List ℕ) (tok : Tok) (p : Position) (rest : List ℕ) (end : Position) → ReadAs a text tok p rest end → length rest < length text
-read_shorter a text tok p rest end r = grind (arith, length-append)
+read_shorter : (a : Account) (whole text : List ℕ) (tok : Tok) (p : Position) (rest : List ℕ) (end : Position) → whole ≡ text → ReadAs a text tok p rest end → length rest < length whole
+read_shorter a whole text tok p rest end e r = grind (arith, length-append)
 
 -- an account that a lexing function asks for
 abbrev asked : Position → (flow : Bool) → (column : Option ℕ) → Before → Account
 asked p flow column before = record { position = p; blocks = column ∷ []; levels = (if flow then record { kind = sequence; pair = false } ∷ [] else []); before = before }
-
-asked_flow : (p : Position) (flow : Bool) (column : Option ℕ) (before : Before) → is_in_flow (asked p flow column before) ≡ flow
-asked_flow p a column before = grind arith
-
-asked_column : (p : Position) (flow : Bool) (column : Option ℕ) (before : Before) → collection_column (asked p flow column before) ≡ column
-asked_column p flow a before = grind arith
 
 -- ---- where a piece begins
 
@@ -66,14 +56,13 @@ module _ (text : List ℕ) (t : ScannerState) (a : Arrives text t) (some : is_em
   unfolding fetch_anchor
   name_shortens kind more e =
       read (node_start t.held) (anchor_name t.rest t.held.position) _ (λ x k.
-      went (subst (λ r. length x.rest < length r) (sym e) (read_shorter _ _ _ _ _ _ (pieces_are_read.name (asked t.held.position false None other) kind more x (clean_more _ more e) (ap (λ r. anchor_name r t.held.position) (sym e) ∙ k)))))
+      went (read_shorter _ _ _ _ _ _ _ e (pieces_are_read.name (asked t.held.position false None other) kind more x (clean_more _ more e) (ap (λ r. anchor_name r t.held.position) (sym e) ∙ k))))
 
   tag_shortens : (more : List ℕ) → t.rest ≡ 33 ∷ more → Holds Shorter (fetch_tag t)
   unfolding fetch_tag
   tag_shortens more e =
       read (node_start t.held) (tags.tag (in_flow t.held) t.rest t.held.position) _ (λ x k.
-      went (subst (λ r. length x.rest < length r) (sym e) (read_shorter _ _ _ _ _ _
-      (pieces_are_read.tag (asked t.held.position (in_flow t.held) None other) (in_flow t.held) more x (clean_more _ more e) (asked_flow t.held.position (in_flow t.held) None other) (ap (λ r. tags.tag (in_flow t.held) r t.held.position) (sym e) ∙ k)))))
+      went (read_shorter _ _ _ _ _ _ _ e (pieces_are_read.tag (asked t.held.position (in_flow t.held) None other) (in_flow t.held) more x (clean_more _ more e) (grind arith) (ap (λ r. tags.tag (in_flow t.held) r t.held.position) (sym e) ∙ k))))
 
   after_quoted : (line : ℕ) (u : ScannerState) → Holds (λ v. length v.rest ≤ length u.rest) (check_after_quoted line u)
   unfolding check_after_quoted
@@ -83,8 +72,7 @@ module _ (text : List ℕ) (t : ScannerState) (a : Arrives text t) (some : is_em
   unfolding fetch_flow_scalar
   quoted_shortens quotes more e =
       read (node_start t.held) (quoted (are_single quotes) (context (node_start t.held)) t.rest t.held.position) _ (λ x k.
-      let less : length x.rest < length t.rest = subst (λ r. length x.rest < length r) (sym e) (read_shorter _ _ _ _ _ _
-      (pieces_are_read.quoted (asked t.held.position false None other) quotes (context (node_start t.held)) more x (clean_more _ more e) (ap (λ r. quoted (are_single quotes) (context (node_start t.held)) r t.held.position) (sym e) ∙ k))) in
+      let less : length x.rest < length t.rest = read_shorter _ _ _ _ _ _ _ e (pieces_are_read.quoted (asked t.held.position false None other) quotes (context (node_start t.held)) more x (clean_more _ more e) (ap (λ r. quoted (are_single quotes) (context (node_start t.held)) r t.held.position) (sym e) ∙ k)) in
       chained (after_quoted t.held.position.line (on_held unled (go_on x (node_start t.held)))) (λ v n. chained (exact v) (λ w p.
       let m = cut_no_longer p.separation v.rest w.rest p.cut in went (omega (arith, less, n, m)))))
 
@@ -96,8 +84,7 @@ module _ (text : List ℕ) (t : ScannerState) (a : Arrives text t) (some : is_em
   unfolding fetch_block_scalar
   block_shortens style more e =
       read saved (block (is_literal style) saved.indent t.rest t.held.position) _ (λ x k.
-      went (subst (λ r. length x.rest < length r) (sym e) (read_shorter _ _ _ _ _ _
-      (pieces_are_read.block (asked t.held.position false (collection_of saved.indent) other) style saved.indent more x (clean_more _ more e) refl (asked_column t.held.position false (collection_of saved.indent) other) (ap (λ r. block (is_literal style) saved.indent r t.held.position) (sym e) ∙ k)).0)))
+      went (read_shorter _ _ _ _ _ _ _ e (pieces_are_read.block (asked t.held.position false (collection_of saved.indent) other) style saved.indent more x (clean_more _ more e) refl (grind arith) (ap (λ r. block (is_literal style) saved.indent r t.held.position) (sym e) ∙ k)).0))
 
   abbrev ctx : Context
   ctx = record { flow = in_flow t.held; indent = (without_open t.held.indent t.held.indents t.held.tokens).indent }
@@ -112,7 +99,7 @@ module _ (text : List ℕ) (t : ScannerState) (a : Arrives text t) (some : is_em
       (λ r u. Ok (on_held (λ v. push t.held.position (Tok.scalar Style.plain r.text) (after_plain r.leading v)) u)))) (sym (saved_is t.held))
       (read (unroll_non_block_indents (allow_key false (record t.held { keys = saved_keys t.held }))) (plain ctx t.rest t.held.position) _ (λ x k.
       let b : Account = asked t.held.position (in_flow t.held) (collection_of ctx.indent) before_here in
-      went (read_shorter b t.rest _ _ _ _ (pieces_are_read.plain b ctx t.rest x a.is_clean (asked_flow t.held.position (in_flow t.held) (collection_of ctx.indent) before_here) (asked_column t.held.position (in_flow t.held) (collection_of ctx.indent) before_here)
+      went (read_shorter b t.rest t.rest _ _ _ _ refl (pieces_are_read.plain b ctx t.rest x a.is_clean (grind arith) (grind arith)
       comes (less_or (in_flow t.held) ctx.indent t.held.position.col (omega (arith, deep, (without_is t.held.indent t.held.indents t.held.tokens a.are_levels).not_deeper))) k))))
 
   -- ---- indicators
@@ -156,7 +143,7 @@ module _ (text : List ℕ) (t : ScannerState) (a : Arrives text t) (some : is_em
 
   key_spaced : (w : ScannerState) → length w.rest < length t.rest → Holds Shorter (check_key_space w)
   unfolding check_key_space
-  key_spaced w n = passes (peek w.rest == 9) (At problem.TabAfterKey w.held.position) (went n)
+  key_spaced w n = passes (peek w.rest == 9) (At TabAfterKey w.held.position) (went n)
 
   question_shortens : Holds Shorter (fetch_key t)
   unfolding fetch_key
@@ -218,24 +205,8 @@ module _ (text : List ℕ) (t : ScannerState) (a : Arrives text t) (some : is_em
 
   token_shortens : IsDeep t.held → ((t.held.position.col == 0) && is_document_marker t.rest) ≡ false → Holds Shorter (fetch_token t)
   token_shortens deep marker =
-      token_holds (Holds Shorter) t (is_adjacent before_here) a.is_clean a.is_solid (λ inside. sym (a.is_adjacent_here inside some)) marker (record {
-        anchor = λ kind more e. name_shortens kind more e;
-        tag = λ more e. tag_shortens more e;
-        plain = λ comes. plain_shortens deep comes;
-        quoted = λ quotes more e. quoted_shortens quotes more e;
-        block = λ style more e o. block_shortens style more e;
-        dash = λ more e gap. dash_shortens;
-        question = λ more e gap. question_shortens;
-        colon = λ more e i. colon_shortens;
-        open_bracket = λ more e. opening_shortens Sequence;
-        open_brace = λ more e. opening_shortens Mapping;
-        close_bracket = λ more e. closing_shortens Sequence;
-        close_brace = λ more e. closing_shortens Mapping;
-        comma = λ more e. comma_shortens;
-        percent = λ more e. refused;
-        at_sign = λ more e. refused;
-        backtick = λ more e. refused;
-      }) some
+      token_holds (Holds Shorter) t (is_adjacent before_here) a.is_clean a.is_solid (λ inside. sym (a.is_adjacent_here inside some)) marker
+      (search (name_shortens, tag_shortens, plain_shortens, quoted_shortens, block_shortens, dash_shortens, question_shortens, colon_shortens, opening_shortens, closing_shortens, comma_shortens, refused)) some
 
   content_shortens : Holds Shorter (fetch_content t)
   content_shortens =
@@ -254,7 +225,7 @@ ReadsOn t u = (u.held.ended ≡ true) ⊎ (length u.rest < length t.rest)
 here_shortens : (text : List ℕ) (t : ScannerState) → Arrives text t → Holds (ReadsOn t) (fetch_here t)
 unfolding fetch_here fetch_stream_end
 here_shortens text t a =
-    let over : (s : Held) → Holds (λ h. h.ended ≡ true) (end_stream s) = λ s. checked (has_required s.keys) (At problem.KeyExpected s.position) (λ _. went refl) in
+    let over : (s : Held) → Holds (λ h. h.ended ≡ true) (end_stream s) = λ s. checked (has_required s.keys) (At KeyExpected s.position) (λ _. went refl) in
     either (peek t.rest == 0) (λ _. tried t (end_stream (record t.held { position = next_line t.held.position })) (over (record t.held { position = next_line t.held.position })) (λ s k. inl k)) (λ e. weakened (λ u n. inr n) (content_shortens text t a (goes_on_here t.rest e)))
 
 -- ---- a fetch

@@ -1,8 +1,6 @@
 -- Where a tag, a directive or a block scalar's header is none, no row of the text goes on.
-use Rattle.proof_scanner.proofs.Common.{[], Account, after, all_of, alpha_starts, and_parts, ap, append-nil, are_marks, AreNotIndented, At, begins_flow, begins_with, begins_with_mark, block_may_end, block_read, block_token, BlockRead, BlockStyle, Body, body, Bool, context_of, decoded, decoded_some, directive_begins, directive_line, directive_of, double_quoted, eqb-true, Err, false, first_line, folded, further, further_text, has_header, has_no_break, has_no_nul, HasNoQuoted, Header, header_of, if◌then◌else◌, in_double_quotes, in_single_quotes, indicator_of, inl, inr, is_adjacent, is_alpha, is_at_end, is_at_gap, is_at_line_end, is_blank, is_blank_or_end, is_break, is_decimal_digit, is_empty, is_flow, is_further_text, is_in_flow, is_in_line, is_letter, is_nul, is_past, is_tag, is_uri, IsTagRefusal, Kind, kind_at, leading, leading_all, least_column, length, line_is, line_more, lines_after, List, literal, local_goes_on, local_octets, may_follow, may_precede, More, no_lines, no_nul_after, no_suffix, None, not, of_lines, Ok, Option, past, Position, Problem, put_first, read_body, read_lines, refl, same_end, scalar, single_quoted, site_at_place, slice_index, Some, split, split_append, splits, subst, suffix_goes_on, suffix_octets, sym, tag_text, tags_are_read, true, unclosed, up_to_break, verbatim_goes_on, verbatim_octets, Whole, word, written_tag, ℕ, ◌&&◌, ◌++◌, ◌==◌, ◌||◌, ◌∙◌, ◌∷◌, ◌≡◌, ◌⊎◌, arith, ends_run, runs, nat_tests}
-use Rattle.defs_text.specs.BlockScalar as block
+use Rattle.proof_scanner.proofs.Common.{cases_Bool, [], Account, after, all_of, alpha_starts, and_parts, ap, append-nil, are_marks, AreNotIndented, At, begins_flow, begins_with, begins_with_mark, block_may_end, block_read, block_token, BlockRead, BlockStyle, Body, body, Bool, context_of, decoded_some, directive_begins, directive_line, directive_of, double_quoted, eqb-true, Err, false, first_line, folded, further, further_text, has_header, has_no_break, has_no_nul, HasNoQuoted, Header, header_of, if◌then◌else◌, in_double_quotes, in_single_quotes, indicator_of, inl, inr, is_adjacent, is_alpha, is_at_end, is_at_gap, is_blank, is_blank_or_end, is_break, is_decimal_digit, is_empty, is_flow, is_further_text, is_in_flow, is_in_line, is_letter, is_nul, is_past, is_tag, is_uri, IsTagRefusal, Kind, kind_at, leading, leading_all, least_column, length, line_is, line_more, lines_after, List, literal, local_goes_on, local_octets, may_follow, may_precede, More, no_lines, no_nul_after, no_suffix, None, not, of_lines, Option, past, Position, Problem, put_first, read_body, read_lines, refl, same_end, scalar, single_quoted, site_at_place, slice_index, Some, split, split_append, splits, subst, suffix_goes_on, suffix_octets, sym, tag_text, tags_are_read, true, unclosed, up_to_break, verbatim_goes_on, verbatim_octets, Whole, word, written_tag, ℕ, ◌&&◌, ◌++◌, ◌==◌, ◌||◌, ◌∙◌, ◌∷◌, ◌≡◌, ◌⊎◌, arith, ends_run, runs, nat_tests, TagEnd, VerbatimTagEnd}
 use Rattle.defs_token.specs.Account as pieces
-use Rattle.yaml_tokens.specs.declared.problem.Problem.TheVariants as problem
 use Rattle.model_scanner.specs.Tag as tags
 use Rattle.model_scanner.specs.Tag.{verbatim_end, verbatim, named, shorthand, tag_end, tag}
 use Rattle.proof_row.specs.Ends.{block_scalar}
@@ -13,8 +11,7 @@ use Rattle.proof_lexers.proofs.Properties.Uris.{uris_are_read}
 use Rattle.proof_row.proofs.Written as written
 use Rattle.proof_scanner.specs.NoPiece.{quote_of}
 use Rattle.proof_scanner.proofs.Refusals.OtherRows.{StepAt}
-use Rattle.proof_scanner.proofs.Refusals.PiecesHere.{acct, whole_by, rest_of}
-use Rattle.proof_scanner.proofs.Refusals.StandsRefused.{flow_is, no_lines as no_lines_there, no_end as no_end_here}
+use Rattle.proof_scanner.proofs.Refusals.PiecesRefused.{acct, whole_by, rest_of, flow_is, no_lines as no_lines_there, no_end as no_end_here}
 use Rattle.proof_scanner.proofs.Cut.Pieces.Blocks.{end_no_text}
 
 -- ---- tags
@@ -23,7 +20,7 @@ no_mark : is_alpha 33 ≡ false
 unfolding is_alpha is_decimal_digit is_letter
 no_mark = refl
 
-closes_not : (start p : Position) (uri r : List ℕ) → begins_with 62 r ≡ false → verbatim_end start uri r p ≡ Err (At problem.VerbatimTagEnd start)
+closes_not : (start p : Position) (uri r : List ℕ) → begins_with 62 r ≡ false → verbatim_end start uri r p ≡ Err (At VerbatimTagEnd start)
 closes_not start p uri r h = grind arith
 
 -- a word and a second mark begin no verbatim tag
@@ -36,9 +33,6 @@ plainly text h = grind arith
 
 unmarked : (text : List ℕ) → begins_with_mark text ≡ false → (slice_index text 0 == 33) ≡ false
 unmarked text h = grind arith
-
-suffix_given : (l suffix : List ℕ) → is_empty l ≡ false → decoded l ≡ Ok suffix → is_empty suffix ≡ false
-suffix_given l suffix h e = grind (arith, decoded_some)
 
 -- The scan refuses a text after `!` for each of these reasons.
 pub refusal_fails : (flow : Bool) (text : List ℕ) (why : Problem) (p : Position) → IsTagRefusal flow text why → tag flow (33 ∷ text) p ≡ Err (At why p)
@@ -54,13 +48,13 @@ refusal_fails flow text why p (no_suffix name rest cut all none) =
     rw (cut, no_angle name rest all, word (name ++ 33 ∷ rest) (past p) [], z.0, z.1, (uris_are_read p rest (past (further (length name) (past p))) []).1, none) refl
 refusal_fails flow text why p (suffix_goes_on name rest suffix cut all some e goes) =
     let z = leading_all is_alpha name (33 ∷ rest) all no_mark in
-    let given : is_empty suffix ≡ false = suffix_given (leading is_tag rest) suffix some e in
+    let given : is_empty suffix ≡ false = grind (arith, decoded_some) in
     rw (cut, no_angle name rest all, word (name ++ 33 ∷ rest) (past p) [], z.0, z.1, (uris_are_read p rest (past (further (length name) (past p))) []).1, e, given, same_end flow (after is_tag rest), goes) refl
 refusal_fails flow text why p (local_octets f no_verbatim none e) =
     rw (plainly text no_verbatim, word text (past p) [], unmarked (after is_alpha text) none, (uris_are_read p (after is_alpha text) (further (length (leading is_alpha text)) (past p)) (leading is_alpha text)).1, e) refl
 refusal_fails flow text why p (local_goes_on suffix no_verbatim none e goes) =
     let by : (b : Bool) → is_empty (leading is_alpha text ++ suffix) ≡ b
-    → tag_end flow p (tags.local (record { rest = after is_tag (after is_alpha text); position = further (length (leading is_tag (after is_alpha text))) (further (length (leading is_alpha text)) (past p)); value = leading is_alpha text ++ suffix })) ≡ Err (At problem.TagEnd p) =
+    → tag_end flow p (tags.local (record { rest = after is_tag (after is_alpha text); position = further (length (leading is_tag (after is_alpha text))) (further (length (leading is_alpha text)) (past p)); value = leading is_alpha text ++ suffix })) ≡ Err (At TagEnd p) =
     λ a i. grind (arith, nat_tests, same_end, flow, after, text, goes, eqb-true) in
     rw (plainly text no_verbatim, word text (past p) [], unmarked (after is_alpha text) none, (uris_are_read p (after is_alpha text) (further (length (leading is_alpha text)) (past p)) (leading is_alpha text)).1, e)
     (by (is_empty (leading is_alpha text ++ suffix)) refl)
@@ -81,9 +75,6 @@ line_ends a e = grind arith
 pub one_line : (line1 next1 line2 next2 : List ℕ) → line1 ++ next1 ≡ line2 ++ next2 → has_no_break line1 ≡ true → directives.ends_line next1 ≡ true → has_no_break line2 ≡ true → directives.ends_line next2 ≡ true → line1 ≡ line2
 one_line line1 next1 line2 next2 e h j k l = (runs in_line line1 line2 next1 next2 (all_in_line line1 ∙ h) (all_in_line line2 ∙ k) (line_ends next1 j) (line_ends next2 l) e).0
 
-clean_end : (next : List ℕ) → is_at_line_end next ≡ true → has_no_nul next ≡ true → directives.ends_line next ≡ true
-clean_end a e n = grind arith
-
 -- a text's first line
 pub first_of : (line after : List ℕ) → is_in_line line ≡ true → ends_line after ≡ true → up_to_break (line ++ after) ≡ line
 first_of [] after h e = grind arith
@@ -98,10 +89,6 @@ piece_line collection piece next r clean is = grind (arith, end_no_text, append-
 -- a block scalar that was read ends before the text after it
 ended_body : (collection : Option ℕ) (h : Option Header) (b : Body) (next : List ℕ) (r : BlockRead) → read_body h collection b next ≡ Some r → (column : ℕ) × (is_past column next ≡ true)
 ended_body collection h b next r e = grind arith
-
-tab_is_text : is_at_end (9 ∷ []) ≡ false
-unfolding is_nul
-tab_is_text = refl
 
 not_past : (column : ℕ) (r : List ℕ) → is_further_text column (10 ∷ r) ≡ false
 unfolding is_break are_marks
@@ -139,11 +126,10 @@ module _ (collection : Option ℕ) (header more : List ℕ) where
       by (l ∷ ls) [] false e f g k =
           let read : read_body (header_of l) collection (body ls further_text) (d ∷ next) ≡ Some r = rw (e, f, g) at k in
           let past = ended_body collection (header_of l) (body ls further_text) (d ∷ next) r read in
-          on (d == 10) refl past.0 past.1
-        where
-          on : (b : Bool) → (d == 10) ≡ b → (column : ℕ) → (is_at_end (d ∷ next) || is_further_text column (d ∷ next)) ≡ true → ⊥
-          on true i column p = let same : d ≡ 10 = eqb-true d 10 i in cc (p, g, ap (λ x. is_further_text column (x ∷ next)) same, not_past column next)
-          on false i column p = two l ls (ap (λ x. of_lines x ((split own).last)) e ∙ ap (λ x. of_lines (l ∷ ls) x) f) i
+          elim (cases_Bool (d == 10)) [
+            | inl i ↦ let same : d ≡ 10 = eqb-true d 10 i in cc (past.1, g, ap (λ x. is_further_text past.0 (x ∷ next)) same, not_past past.0 next)
+            | inr i ↦ two l ls (ap (λ x. of_lines x ((split own).last)) e ∙ ap (λ x. of_lines (l ∷ ls) x) f) i
+          ]
       by complete last a e f g k = grind (arith, some)
 
   -- A block scalar that has this header, after which a TAB begins the next line, is the header alone.
@@ -166,7 +152,8 @@ module _ (collection : Option ℕ) (header more : List ℕ) where
 
   -- It may not end there.
   tab_follows : (own piece next : List ℕ) (bs : List ℕ) (r : BlockRead) → piece ++ next ≡ own ++ 9 ∷ more → split own ≡ of_lines (header ∷ []) [] → has_no_nul next ≡ true → block_read collection piece next ≡ Some r → block_may_end bs piece next ≡ false
-  tab_follows own piece next bs r cut one clean is = grind (arith, nat_tests, header_alone, eqb-true, tab_is_text)
+  unfolding is_nul
+  tab_follows own piece next bs r cut one clean is = grind (arith, nat_tests, header_alone, eqb-true, (refl))
 
 unbroken : (style : BlockStyle) → is_break (indicator_of style) ≡ false
 unfolding is_break
@@ -175,32 +162,23 @@ unbroken style = grind arith
 -- a text whose first line is a header begins with its indicator
 pub first_char : (own header : List ℕ) (h : Header) → up_to_break own ≡ header → header_of header ≡ Some h → (style : BlockStyle) × (p : List ℕ) × (own ≡ indicator_of style ∷ p)
 first_char [] header h e is = absurd (cc (is, ap header_of (sym e)))
-first_char (d ∷ p) header h e is = by (is_break d) (ap header_of e ∙ is)
-  where
-    by : (b : Bool) → header_of (if b then [] else d ∷ up_to_break p) ≡ Some h → (style : BlockStyle) × (q : List ℕ) × (d ∷ p ≡ indicator_of style ∷ q)
-    by true k = absurd (cc k)
-    by false k = on (d == 124) (d == 62) refl refl k
-      where
-        on : (x y : Bool) → (d == 124) ≡ x → (d == 62) ≡ y → (if x then block.after_style literal (up_to_break p) else (if y then block.after_style folded (up_to_break p) else None)) ≡ Some h → (style : BlockStyle) × (q : List ℕ) × (d ∷ p ≡ indicator_of style ∷ q)
-        on true y e f k = (literal, p, ap (λ z. z ∷ p) (eqb-true d 124 e))
-        on false true e f k = (folded, p, ap (λ z. z ∷ p) (eqb-true d 62 f))
-        on false false e f k = absurd (cc k)
+first_char (d ∷ p) header h e is = elim (cases_Bool (d == 124)) [
+  | inl f ↦ (literal, p, ap (λ z. z ∷ p) (eqb-true d 124 f))
+  | inr f ↦ elim (cases_Bool (d == 62)) [ inl g ↦ (folded, p, ap (λ z. z ∷ p) (eqb-true d 62 g)) | inr g ↦ absurd (grind arith) ]
+]
 
-module _ (a : Account) (separation rest : List ℕ) (here : Position) (s : StepAt a separation rest here) where
-  abbrev next : List ℕ
-  next = s.next
-
+module _ {a : Account} {separation rest : List ℕ} {here : Position} (s : StepAt a separation rest here) where
   abbrev Here : Kind → Type 0
-  Here k = Whole k (context_of (acct a separation rest here s)) s.step.piece next s.step.shown
+  Here k = Whole k (context_of (acct s)) s.step.piece s.next s.step.shown
 
   pub no_tag : (more : List ℕ) (why : Problem) → rest ≡ 33 ∷ more → IsTagRefusal (is_in_flow a.entries) more why → ⊥
   unfolding is_blank_or_end is_blank is_break is_nul is_flow
   no_tag more why e reason =
-      let w : Here tag_text = whole_by a separation rest here s 33 more e in
+      let w : Here tag_text = whole_by s 33 more e in
       let first = mark_is_first s.step.piece w.0 w.1 in
-      let left : first.0 ++ next ≡ more = rest_of a separation rest here s 33 first.0 more first.1 e in
-      let follows : may_follow (is_in_flow a.entries) next ≡ true = ap (λ b. is_at_gap next || (b && begins_flow next)) (sym (flow_is a separation rest here s)) ∙ w.2 in
-      let reads = tags_are_read (is_in_flow a.entries) first.0 next w.0.handle w.0.suffix here (ap written_tag (sym first.1) ∙ w.1) follows in
+      let left : first.0 ++ s.next ≡ more = rest_of s 33 first.0 more first.1 e in
+      let follows : may_follow (is_in_flow a.entries) s.next ≡ true = ap (λ b. is_at_gap s.next || (b && begins_flow s.next)) (sym (flow_is s)) ∙ w.2 in
+      let reads = tags_are_read (is_in_flow a.entries) first.0 s.next w.0.handle w.0.suffix here (ap written_tag (sym first.1) ∙ w.1) follows in
       let fails = refusal_fails (is_in_flow a.entries) more why here reason in
       cc (reads, fails, ap (λ r. tag (is_in_flow a.entries) (33 ∷ r) here) left)
 
@@ -208,51 +186,48 @@ module _ (a : Account) (separation rest : List ℕ) (here : Position) (s : StepA
   unfolding is_blank_or_end is_blank is_break is_nul is_flow
   no_directive line after e one ends none =
       let no_nul_more : (r : List ℕ) → has_no_nul (37 ∷ r) ≡ true → has_no_nul r ≡ true = λ r h. (and_parts (not (is_nul 37)) (has_no_nul r) h).1 in
-      let w : Here directive_line = whole_by a separation rest here s 37 (line ++ after) e in
+      let w : Here directive_line = whole_by s 37 (line ++ after) e in
       let first = directive_begins s.step.piece w.0 w.1 in
-      let left : first.0 ++ next ≡ line ++ after = rest_of a separation rest here s 37 first.0 (line ++ after) first.1 e in
-      let clean : has_no_nul (first.0 ++ next) ≡ true = ap has_no_nul left ∙ no_nul_more (line ++ after) (sym (ap has_no_nul e) ∙ s.is_clean) in
-      let same : first.0 ≡ line = one_line first.0 next line after left ((and_parts (not (is_break 37)) (has_no_break first.0) (sym (ap has_no_break first.1) ∙ w.2)).1) (clean_end next w.3 (no_nul_after first.0 next clean)) one ends in
+      let left : first.0 ++ s.next ≡ line ++ after = rest_of s 37 first.0 (line ++ after) first.1 e in
+      let clean : has_no_nul (first.0 ++ s.next) ≡ true = ap has_no_nul left ∙ no_nul_more (line ++ after) (sym (ap has_no_nul e) ∙ s.is_clean) in
+      let same : first.0 ≡ line = one_line first.0 s.next line after left ((and_parts (not (is_break 37)) (has_no_break first.0) (sym (ap has_no_break first.1) ∙ w.2)).1) (grind (arith, (no_nul_after first.0 s.next clean))) one ends in
       cc (none, ap (λ r. directive_of (37 ∷ r)) (sym same), ap directive_of (sym first.1), w.1)
 
   block_here : (style : BlockStyle) (more : List ℕ) → is_in_flow a.entries ≡ false → rest ≡ indicator_of style ∷ more → Here block_scalar
   unfolding is_blank_or_end is_blank is_break is_nul is_flow
   block_here style more out e =
       let block_kind : (style : BlockStyle) (fl adjacent : Bool) (column : ℕ) → fl ≡ false → kind_at fl adjacent column (indicator_of style ∷ more) ≡ block_scalar = λ a fl adjacent column h. grind (arith, nat_tests, eqb-true) in
-      subst Here (block_kind style (pieces.is_in_flow (acct a separation rest here s)) (is_adjacent (acct a separation rest here s).before) (acct a separation rest here s).position.col (flow_is a separation rest here s ∙ out)) (whole_by a separation rest here s (indicator_of style) more e)
+      subst Here (block_kind style (pieces.is_in_flow (acct s)) (is_adjacent (acct s).before) (acct s).position.col (flow_is s ∙ out)) (whole_by s (indicator_of style) more e)
 
   pub no_block_header : (style : BlockStyle) (line after : List ℕ) → is_in_flow a.entries ≡ false → rest ≡ indicator_of style ∷ (line ++ after) → is_in_line line ≡ true → ends_line after ≡ true → header_of (indicator_of style ∷ line) ≡ None → ⊥
   no_block_header style line after out e inner ends none =
       let w : Here block_scalar = block_here style (line ++ after) out e in
-      let clean : has_no_nul next ≡ true = no_nul_after s.step.piece next (ap has_no_nul s.text_is ∙ s.is_clean) in
+      let clean : has_no_nul s.next ≡ true = no_nul_after s.step.piece s.next (ap has_no_nul s.text_is ∙ s.is_clean) in
       let own : up_to_break s.step.piece ≡ indicator_of style ∷ line =
-      sym (piece_line (pieces.collection_column (acct a separation rest here s)) s.step.piece next w.0 clean w.1) ∙ (ap up_to_break (s.text_is ∙ e) ∙ (ap (λ b. if b then [] else indicator_of style ∷ up_to_break (line ++ after)) (unbroken style) ∙ ap (λ r. indicator_of style ∷ r) (first_of line after inner ends))) in
-      has_header (pieces.collection_column (acct a separation rest here s)) ((split s.step.piece).complete) ((split s.step.piece).last) next (is_at_end next) w.0 w.1 (ap header_of (line_is s.step.piece ∙ own) ∙ none)
+      sym (piece_line (pieces.collection_column (acct s)) s.step.piece s.next w.0 clean w.1) ∙ (ap up_to_break (s.text_is ∙ e) ∙ (ap (λ b. if b then [] else indicator_of style ∷ up_to_break (line ++ after)) (unbroken style) ∙ ap (λ r. indicator_of style ∷ r) (first_of line after inner ends))) in
+      has_header (pieces.collection_column (acct s)) ((split s.step.piece).complete) ((split s.step.piece).last) s.next (is_at_end s.next) w.0 w.1 (ap header_of (line_is s.step.piece ∙ own) ∙ none)
 
   -- a TAB begins the line after the header
   pub no_block_tab : (own header more : List ℕ) (h : Header) → is_in_flow a.entries ≡ false → rest ≡ own ++ 9 ∷ more → split own ≡ of_lines (header ∷ []) [] → header_of header ≡ Some h → ⊥
   no_block_tab own header more h out e one is =
-      let same_end_by : (style : BlockStyle) (text : List ℕ) → may_precede (is_in_flow s.account.entries) (written.At s.account s.step next).blocks (block_token style text) s.step.piece next ≡ block_may_end (written.At s.account s.step next).blocks s.step.piece next = λ a b. grind (arith, nat_tests, eqb-true) in
+      let same_end_by : (style : BlockStyle) (text : List ℕ) → may_precede (is_in_flow s.account.entries) (written.At s.account s.step s.next).blocks (block_token style text) s.step.piece s.next ≡ block_may_end (written.At s.account s.step s.next).blocks s.step.piece s.next = λ a b. grind (arith, nat_tests, eqb-true) in
       let first = first_char own header h (sym (line_is own) ∙ ap (λ z. first_line z.complete z.last) one) is in
       let w : Here block_scalar = block_here first.0 (first.1 ++ 9 ∷ more) out (e ∙ ap (λ p. p ++ 9 ∷ more) first.2) in
-      let clean : has_no_nul next ≡ true = no_nul_after s.step.piece next (ap has_no_nul s.text_is ∙ s.is_clean) in
-      no_end_here a separation rest here s (ap (λ t. may_precede (is_in_flow s.account.entries) (written.At s.account s.step next).blocks t s.step.piece next) w.3 ∙
-      (same_end_by w.0.style w.0.text ∙ tab_follows (pieces.collection_column (acct a separation rest here s)) header more own s.step.piece next (written.At s.account s.step next).blocks w.0 (s.text_is ∙ e) one clean w.1))
+      let clean : has_no_nul s.next ≡ true = no_nul_after s.step.piece s.next (ap has_no_nul s.text_is ∙ s.is_clean) in
+      no_end_here s (ap (λ t. may_precede (is_in_flow s.account.entries) (written.At s.account s.step s.next).blocks t s.step.piece s.next) w.3 ∙
+      (same_end_by w.0.style w.0.text ∙ tab_follows (pieces.collection_column (acct s)) header more own s.step.piece s.next (written.At s.account s.step s.next).blocks w.0 (s.text_is ∙ e) one clean w.1))
 
   -- ---- quoted scalars
 
-  single_here : (more : List ℕ) → rest ≡ 39 ∷ more → Here in_single_quotes
+  quoted_here : (single : Bool) (more : List ℕ) → rest ≡ quote_of single ∷ more → Here (if single then in_single_quotes else in_double_quotes)
   unfolding is_blank_or_end is_blank is_break is_nul is_flow
-  single_here more e = whole_by a separation rest here s 39 more e
-
-  double_here : (more : List ℕ) → rest ≡ 34 ∷ more → Here in_double_quotes
-  unfolding is_blank_or_end is_blank is_break is_nul is_flow
-  double_here more e = whole_by a separation rest here s 34 more e
+  quoted_here true more e = whole_by s 39 more e
+  quoted_here false more e = whole_by s 34 more e
 
   pub no_quoted_text : (single : Bool) (more : List ℕ) → rest ≡ quote_of single ∷ more → HasNoQuoted single rest → ⊥
-  no_quoted_text true more e none = let w = single_here more e in none s.step.piece next (sym s.text_is) (w.0, w.1)
-  no_quoted_text false more e none = let w = double_here more e in none s.step.piece next (sym s.text_is) (w.0, w.1)
+  no_quoted_text true more e none = let w = quoted_here true more e in none s.step.piece s.next (sym s.text_is) (w.0, w.1)
+  no_quoted_text false more e none = let w = quoted_here false more e in none s.step.piece s.next (sym s.text_is) (w.0, w.1)
 
   pub no_quoted_lines : (single : Bool) (more : List ℕ) → rest ≡ quote_of single ∷ more → AreNotIndented single (least_column (site_at_place a here).blocks (site_at_place a here).awaits) rest → ⊥
-  no_quoted_lines true more e none = let w = single_here more e in no_lines_there a separation rest here s (scalar single_quoted w.0) w.2 refl (none s.step.piece next (sym s.text_is) (w.0, w.1))
-  no_quoted_lines false more e none = let w = double_here more e in no_lines_there a separation rest here s (scalar double_quoted w.0) w.2 refl (none s.step.piece next (sym s.text_is) (w.0, w.1))
+  no_quoted_lines true more e none = let w = quoted_here true more e in no_lines_there s (scalar single_quoted w.0) w.2 refl (none s.step.piece s.next (sym s.text_is) (w.0, w.1))
+  no_quoted_lines false more e none = let w = quoted_here false more e in no_lines_there s (scalar double_quoted w.0) w.2 refl (none s.step.piece s.next (sym s.text_is) (w.0, w.1))

@@ -1,8 +1,34 @@
--- Facts where a piece begins: lines and positions, the open key outside flow, and levels of indentation.
-use Rattle.proof_scanner.proofs.Common.{AreAround, AreLevels, AreNumbered, Bool, Entry, FlowLevel, Held, Indent, IsNotRight, Key, Line, List, MayChoose, None, Option, Position, Previous, ScannerState, SoFar, Some, [], ap, arith, begins_free_line, begins_separation, chosen, columns, false, has_break, in_flow, innermost, is_break, is_empty, is_in_column, is_waiting, length, line_past_separation, must_be_key, not, not_ended, outside_key, position_after, suc, tokens_up_to, true, ℕ, ◌++◌, ◌+◌, ◌==◌, ◌∙◌, ◌∷◌, ◌≡◌, ◌≤◌, eqb-true, nat_tests}
+-- What lets a piece stand: four tests, and its column in flow.
+use Rattle.proof_scanner.proofs.Common.{[], After, ap, append-nil, AreAround, AreLevels, AreNumbered, arith, awaits_past, begins_free_line, begins_separation, Bool, chosen, columns, Entry, false, FlowLevel, has_break, Held, in_flow, Indent, innermost, is_break, is_deep_enough, is_empty, is_in_column, is_waiting, IsLive, IsNotRight, IsOpenHere, IsOpenOutside, Key, least_column, least_for, length, Line, line_by, line_past_separation, List, MayChoose, must_be_key, nat_le, None, not, not_ended, NotBefore, Option, or_true, outside_key, Position, position_after, Previous, ScannerState, Site, SoFar, Some, subst, suc, sym, taken, Tok, tokens_up_to, true, ℕ, ◌&&◌, ◌++◌, ◌+◌, ◌==◌, ◌∙◌, ◌∷◌, ◌≡◌, ◌≤◌, Act, act_of, begun_by, previous_by, shown_position, further_lines_stand, may_precede}
+use Rattle.defs_token.specs.Indentation.{awaits_in_block, awaits_in_flow}
 use Rattle.proof_scanner.proofs.Cut.Pieces.Inserted.{no_break_on_line}
 use Rattle.proof_scanner.proofs.Cut.Nodes.{IsDeep}
-use Rattle.proof_scanner.proofs.Sound.Sides.{with_entries, ArrivesBy}
+use Rattle.proof_scanner.proofs.Sound.Sides.{ArrivesBy, with_entries}
+use Rattle.proof_scanner.proofs.Cut.Positions.{after_then, not_before_after, not_before_then, weaker}
+use Rattle.proof_scanner.proofs.Sound.OutOfFlow.{no_waiting}
+
+-- whether a value is awaited stays as it was after a token that says nothing of it
+pub awaits_kept : (tok : Tok) → ((b : Bool) → awaits_in_flow tok b ≡ b) → ((bs : List ℕ) (b : Bool) (next : List ℕ) → awaits_in_block tok bs b next ≡ (b && true)) →
+    (fl : Bool) (bs : List ℕ) (b : Bool) (next : List ℕ) → awaits_past fl tok bs b next ≡ b
+awaits_kept tok inside outside a bs b next = grind arith
+
+-- What is said of a token whose piece stands where the token is shown, and not left of the least column: what the piece does, what it begins and what it was;
+-- when its further lines and the text after it let it stand, and whether a value is awaited then.
+pub record IsToken (tok : Tok) (k : Act) (es : List Entry) (before : Previous) (stand : ℕ → List ℕ → Bool) (follow : Bool → (piece next : List ℕ) → Bool) (await : Bool → List ℕ → Bool → Bool) : Type 0 where
+  pub act : act_of tok ≡ k
+  pub begun : begun_by tok ≡ es
+  pub previous : previous_by tok ≡ before
+  pub shown : (s : Site) (piece next : List ℕ) → shown_position s piece tok next ≡ s.position
+  pub least : (s : Site) → least_for tok s ≡ least_column s.blocks s.awaits
+  pub lines : (column : ℕ) (piece : List ℕ) → further_lines_stand column tok piece ≡ stand column piece
+  pub precedes : (fl : Bool) (bs piece next : List ℕ) → may_precede fl bs tok piece next ≡ follow fl piece next
+  pub awaits : (fl : Bool) (bs : List ℕ) (b : Bool) (next : List ℕ) → awaits_past fl tok bs b next ≡ await fl bs b
+
+-- a piece that is no plain scalar, in the least column or deeper
+pub deep_for : (fl : Bool) (tok : Tok) (x : Site) → least_for tok x ≡ least_column x.blocks x.awaits → nat_le (least_column x.blocks x.awaits) x.position.col ≡ true → is_deep_enough fl tok x ≡ true
+deep_for a tok x least h = grind (arith, or_true)
+
+-- ---- facts where a piece begins: lines and positions, the open key outside flow, and levels of indentation
 
 -- ---- texts
 
@@ -54,7 +80,7 @@ numbered_more m n (Some k ∷ ks) h a = (omega (arith, h, a.0), a.1)
 
 -- the keys around one are numbered too
 pub numbered_around : (m : ℕ) (k : Option Key) (ks : List (Option Key)) → AreNumbered m (k ∷ ks) → AreNumbered m ks
-numbered_around m b ks a = grind (arith, nat_tests, eqb-true, numbered_more)
+numbered_around m b ks a = grind (arith, numbered_more)
 
 -- ---- rows
 
@@ -65,11 +91,44 @@ pub completes_at : (text : List ℕ) (t : ScannerState) (fs : List FlowLevel) (k
 completes_at text t fs ks es a r q e f strict c cs may = grind arith
 
 pub many_around : (fs : List FlowLevel) (ks : List (Option Key)) (es : List Entry) → AreAround fs ks es → length fs ≡ length es
-many_around [] ks a h = grind arith
-many_around (f ∷ fs) [] es h = absurd h
-many_around (f ∷ fs) (k ∷ ks) [] h = absurd h
 many_around (f ∷ fs) (k ∷ ks) (e ∷ es) h = ap suc (many_around fs ks es h.2)
+many_around fs ks es h = grind arith
 
 -- a text that is not empty has a character
 pub not_none : (l : List ℕ) → is_empty l ≡ false → 1 ≤ length l
 not_none a h = grind arith
+
+-- ---- a piece in flow, and the open key outside flow: while that is live, no break stands before the piece or in it
+
+module _ (text : List ℕ) (t : ScannerState) (f : FlowLevel) (fs : List FlowLevel) (k : Option Key) (ks : List (Option Key)) (e : Entry) (es : List Entry) (a : ArrivesBy text t (f ∷ fs) (k ∷ ks) (e ∷ es)) where
+  pub line_taken : a.line ≡ taken
+  line_taken = line_kept (begins_free_line a.site.before a.separation) a.line a.line_here a.no_key a.is_line ∙ a.line_is
+
+  pub tokens_before : t.held.tokens ≡ a.tokens
+  tokens_before = a.tokens_are ∙ append-nil a.tokens
+
+  last_before : NotBefore a.site.position t.held.position
+  last_before = subst (λ x. NotBefore a.site.position x) (sym a.position_is) (not_before_after a.site.position a.separation t.rest)
+
+  around_of : (x : Key) → outside_key es ks ≡ Some x → After x.position a.site.position × (IsLive x t.held.position t.rest → IsOpenHere x t.held.position a.site.blocks)
+  around_of x i = subst (λ y. IsOpenOutside y a.site.position t.held.position t.rest a.site.blocks) i a.is_open
+
+  around_before : (x : Key) → outside_key es ks ≡ Some x → NotBefore x.position t.held.position
+  around_before x i = not_before_then x.position a.site.position t.held.position (weaker x.position a.site.position (around_of x i).0) last_before
+
+  -- to a later position, where other text is left
+  module _ (some : is_empty t.rest ≡ false) (end : Position) (rest : List ℕ) (later : NotBefore t.held.position end) where
+    live_inside : (x : Key) → IsLive x end rest → IsLive x t.held.position t.rest
+    live_inside x l = (omega (arith, later.0, l.0), some)
+
+    pub unbroken_around : (strict c : Bool) → MayChoose strict c (outside_key es ks) end rest → line_past_separation true (begins_free_line a.site.before a.separation) (line_by c (outside_key es ks) a.line) ≡ Some (line_by c (outside_key es ks) a.line)
+    unbroken_around strict c may = grind (arith, live_inside, not_free, unbroken, around_of, (a.is_line ∙ ap (λ l. Some l) (sym (line_kept (begins_free_line a.site.before a.separation) a.line a.line_here a.no_key a.is_line))))
+
+    pub one_around : (piece : List ℕ) → (is_empty rest ≡ false → end.line ≤ t.held.position.line → has_break piece ≡ false) → (strict c : Bool) → MayChoose strict c (outside_key es ks) end rest → (has_break piece && is_waiting (line_by c (outside_key es ks) a.line)) ≡ false
+    one_around piece one strict c may = grind (arith, no_waiting, around_before)
+
+    pub may_around : (strict c : Bool) → MayChoose strict c (outside_key es ks) end rest → MayChoose strict c (outside_key es ks) t.held.position t.rest
+    may_around strict c may = grind arith
+
+    pub open_around : (q : Position) → NotBefore t.held.position q → IsOpenOutside (outside_key es ks) q end rest a.site.blocks
+    open_around q a = grind (arith, around_of, after_then, not_before_then, last_before, live_inside)

@@ -1,19 +1,86 @@
--- From what holds between two fetches to what holds where the next piece begins, or at the text's end.
-use Rattle.proof_scanner.proofs.Common.{AreLevels, Arrives, Bool, Fault, Held, Holds, IsLine, IsLineHere, IsNear, Key, Levels, Line, List, Option, Position, Result, ScannerState, Some, Stands, [], ap, append-nil, arith, before_by, before_past, begins_free_line, begins_separation, begins_token, blocks, chained, columns, ends_here, false, free, has_open_level, is_adjacent, is_at_comment_or_end, is_empty, is_indented_by_spaces, line_past_separation, not, not-false, on_held, outside_key, refl, site_here, skip_to_next_token, stale, subst, sym, taken, tried, true, try_held, unroll_indent, unrolled, with_levels, ℕ, ◌++◌, ◌+◌, ◌==◌, ◌>>=◌, ◌∙◌, ◌∷◌, ◌≡◌}
-use Rattle.proof_scanner.proofs.Cut.Unrolls.{unrolled_in_flow, unrolled_outside}
-use Rattle.proof_scanner.proofs.Sound.Ended.{Ended, levels_end}
+-- The block collections that end where a piece begins: the levels that go on are those of the row, and each end has its token.
+use Rattle.proof_scanner.proofs.Common.{[], ap, append-nil, append_assoc, AreCollections, AreLevels, arith, Arrives, before_by, before_past, begins_free_line, begins_separation, begins_token, block_end, blocks, Bool, chained, columns, end_level, ends_at, ends_here, false, Fault, free, has_open_level, Held, Holds, if◌then◌else◌, Indent, is_adjacent, is_at_comment_or_end, is_deeper, is_empty, is_indented_by_spaces, IsLine, IsLineHere, IsNear, IsTopLevel, Key, length, Levels, Line, line_past_separation, List, nat_lt, not, not-false, not_ended, on_held, Option, outside_key, Position, put, refl, replicate, Result, ScannerState, site_here, skip_to_next_token, Some, stale, Stands, subst, suc, sym, taken, Token, tried, true, try_held, unroll_indent, unrolled, with_levels, ℕ, ◌&&◌, ◌++◌, ◌+◌, ◌-◌, ◌==◌, ◌>>=◌, ◌∙◌, ◌∷◌, ◌≡◌}
+use Rattle.proof_scanner.proofs.Sound.Common.{shorter, unrolled_in_flow, unrolled_outside}
 use Rattle.proof_scanner.proofs.Sound.Stales.{Nearer, stale_stands}
 use Rattle.proof_scanner.proofs.Sound.ToToken.{passed_stands}
 use Rattle.proof_row.proofs.Inserted.{before_again}
 use Rattle.proof_scanner.specs.Arrives.{ArrivesAmong}
 
--- ---- what may begin here
+-- what goes on, of levels whose columns are these, and the tokens with the ends
+pub record Ended (p : Position) (cols : List ℕ) (awaits : Bool) (ts : List Token) (u : Levels) : Type 0 where
+  pub columns_are : not_ended p.col cols ≡ columns u.indent u.indents
+  pub open_is : (awaits && is_deeper p.col cols) ≡ has_open_level u.indents
+  pub are_levels : AreLevels u.indent u.indents
+  pub tokens_are : u.tokens ≡ ts ++ ends_at p cols (not_ended p.col cols)
+
+-- the same of collections alone
+record EndedAlone (p : Position) (cols : List ℕ) (ts : List Token) (u : Levels) : Type 0 where
+  pub columns_are : not_ended p.col cols ≡ columns u.indent u.indents
+  pub are : AreCollections u.indent u.indents
+  pub tokens_are : u.tokens ≡ ts ++ ends_at p cols (not_ended p.col cols)
+
+no_ends : (p : Position) (bs : List ℕ) (ts : List Token) → ts ≡ ts ++ ends_at p bs bs
+no_ends p bs ts = let none : length bs - length bs ≡ 0 = omega arith in sym (ap (λ n. ts ++ replicate n (put p block_end)) none ∙ append-nil ts)
+
+deeper_now : (col i : ℕ) (b : Bool) → nat_lt (col + 1) i ≡ b → nat_lt col (i - 1) ≡ b
+deeper_now col i a e = grind arith
+
+-- one end more
+one_end : (p : Position) (n : ℕ) (cs : List ℕ) (ts us : List Token) → us ≡ (ts ++ put p block_end ∷ []) ++ ends_at p cs (not_ended p.col cs) → us ≡ ts ++ ends_at p (n ∷ cs) (not_ended p.col cs)
+one_end p n cs ts us e = grind (arith, shorter, append_assoc)
+
+collections_end : (p : Position) (i : ℕ) (ds : List Indent) (ts : List Token) → AreCollections i ds → EndedAlone p (columns i ds) ts (unrolled (p.col + 1) p i ds ts)
+unfolding unrolled
+collections_end p i [] ts a = record { columns_are = refl; are = a; tokens_are = no_ends p [] ts }
+collections_end p i (d ∷ ds) ts a =
+    subst (λ b. EndedAlone p (if b then (i - 1) ∷ columns d.indent ds else columns d.indent ds) ts (if nat_lt (p.col + 1) i then unrolled (p.col + 1) p d.indent ds (end_level b p ts) else record { indent = i; indents = d ∷ ds; tokens = ts })) (sym a.0)
+    (by (nat_lt (p.col + 1) i) refl (collections_end p d.indent ds (ts ++ put p block_end ∷ []) a.2))
+  where
+    cs : List ℕ
+    cs = columns d.indent ds
+
+    by : (b : Bool) → nat_lt (p.col + 1) i ≡ b → EndedAlone p cs (ts ++ put p block_end ∷ []) (unrolled (p.col + 1) p d.indent ds (ts ++ put p block_end ∷ [])) →
+        EndedAlone p ((i - 1) ∷ cs) ts (if b then unrolled (p.col + 1) p d.indent ds (ts ++ put p block_end ∷ []) else record { indent = i; indents = d ∷ ds; tokens = ts })
+    by true e h =
+        let ends : not_ended p.col ((i - 1) ∷ cs) ≡ not_ended p.col cs = ap (λ b. if b then not_ended p.col cs else (i - 1) ∷ cs) (deeper_now p.col i true e) in
+        record {
+          columns_are = ends ∙ h.columns_are;
+          are = h.are;
+          tokens_are = one_end p (i - 1) cs ts (unrolled (p.col + 1) p d.indent ds (ts ++ put p block_end ∷ [])).tokens h.tokens_are ∙ ap (λ x. ts ++ ends_at p ((i - 1) ∷ cs) x) (sym ends);
+        }
+    by false e h = grind (arith, cs, deeper_now, no_ends)
+
+alone : (p : Position) (cols : List ℕ) (awaits : Bool) (ts : List Token) (u : Levels) → (awaits && is_deeper p.col cols) ≡ false → EndedAlone p cols ts u → Ended p cols awaits ts u
+alone p cols awaits ts u e h = grind arith
+
+-- Outside flow the levels that are deeper than a position end there.
+pub levels_end : (p : Position) (i : ℕ) (ds : List Indent) (ts : List Token) → AreLevels i ds → Ended p (columns i ds) (has_open_level ds) ts (unrolled (p.col + 1) p i ds ts)
+unfolding unrolled
+levels_end p i [] ts a = record { columns_are = refl; open_is = refl; are_levels = a; tokens_are = no_ends p [] ts }
+levels_end p i (d ∷ ds) ts a = by d.needs_block_end refl a.0
+  where
+    first : (o : ℕ) (es : List Indent) → AreCollections o es → is_empty es ≡ false → (n : ℕ) × (ns : List ℕ) × (columns o es ≡ n ∷ ns) × (o ≡ suc n)
+    first o [] a e = absurd (cc e)
+    first o (x ∷ es) a e = (o - 1, columns x.indent es, ap (λ b. if b then (o - 1) ∷ columns x.indent es else columns x.indent es) a.0, omega (arith, a.1))
+
+    by : (b : Bool) → d.needs_block_end ≡ b → IsTopLevel b i d.indent ds → Ended p (columns i (d ∷ ds)) (not d.needs_block_end) ts (unrolled (p.col + 1) p i (d ∷ ds) ts)
+    by true e h = alone p (columns i (d ∷ ds)) (not d.needs_block_end) ts (unrolled (p.col + 1) p i (d ∷ ds) ts) (ap (λ b. not b && is_deeper p.col (columns i (d ∷ ds))) e) (collections_end p i (d ∷ ds) ts (e, h, a.1))
+    by false e h =
+        let z = first d.indent ds a.1 h.1 in
+        subst (λ b. Ended p (if b then (i - 1) ∷ columns d.indent ds else columns d.indent ds) (not b) ts
+        (if nat_lt (p.col + 1) i then unrolled (p.col + 1) p d.indent ds (end_level b p ts) else record { indent = i; indents = d ∷ ds; tokens = ts })) (sym e)
+        (two z.0 z.1 z.2 z.3 (nat_lt (p.col + 1) i) refl)
+      where
+        two : (n : ℕ) (ns : List ℕ) → columns d.indent ds ≡ n ∷ ns → d.indent ≡ suc n → (b : Bool) → nat_lt (p.col + 1) i ≡ b →
+            Ended p (columns d.indent ds) true ts (if b then unrolled (p.col + 1) p d.indent ds ts else record { indent = i; indents = d ∷ ds; tokens = ts })
+        two n ns c k true f = alone p (columns d.indent ds) true ts (unrolled (p.col + 1) p d.indent ds ts) (ap (λ x. is_deeper p.col x) c ∙ (grind arith)) (collections_end p d.indent ds ts a.1)
+        two n ns c k false f = grind (arith, no_ends)
+
+-- ---- from what holds between two fetches to what holds where the next piece begins, or at the text's end
 
 -- the line at the piece
 abbrev here_by : (fl broken : Bool) → Line → Line
-here_by true broken l = taken
-here_by false true l = free
-here_by false false l = l
+here_by fl broken l = (if fl then taken else (if broken then free else l))
 
 past_line : (fl broken allowed : Bool) (p : Position) (rest : List ℕ) (k : Option Key) (l : Line) → IsLine fl allowed broken p rest k l → line_past_separation fl broken l ≡ Some (here_by fl broken l)
 past_line a b allowed p rest k l h = grind arith
@@ -51,54 +118,37 @@ arrives_with : (text : List ℕ) (v : ScannerState) (s : Stands text v) → begi
     (site_here (not (is_empty v.held.flow)) v.held.position s.base.site).blocks ≡ columns u.indent u.indents →
     (site_here (not (is_empty v.held.flow)) v.held.position s.base.site).awaits ≡ has_open_level u.indents → AreLevels u.indent u.indents →
     u.tokens ≡ v.held.tokens ++ ends_here (not (is_empty v.held.flow)) v.held.position s.base.site.blocks → Arrives text (with_ends v u)
-arrives_with text v s solid near u blocks awaits levels tokens = ended
-  where
-    ended : Arrives text (with_ends v u)
-    ended = record {
-      base = s.base;
-      known =
-          let line = past_line (not (is_empty v.held.flow)) (begins_free_line s.base.site.before s.separation) v.held.key_allowed v.held.position v.rest (outside_key s.base.entries v.held.keys) s.base.line s.line_is in
-          let among : ArrivesAmong (with_ends v u) v.held.flow s.base.site s.base.line = search (line, s.is_filled, s, tokens, indented text v s solid, adjacent text v s solid) in
-          let near_now : is_empty v.held.flow ≡ true → IsNear (outside_key s.base.entries v.held.keys) v.held.position = λ out. (grind arith) in
-          let line_then = line_here (not (is_empty v.held.flow)) (begins_free_line s.base.site.before s.separation) v.held.key_allowed v.held.position v.rest (outside_key s.base.entries v.held.keys) s.base.line (λ e. near_now (not-false (is_empty v.held.flow) e)) s.line_is in
-          record { among = among; one_each = s.one_each; are_entries = s.are_entries; line_is = line_then; is_open = s.is_open; is_near = near_now; are_numbered = s.are_numbered; carries = s.carries; completes = s.completes };
-      knows = s.knows;
-    }
-
--- The levels and tokens after the ends of block collections, and what holds then.
-record EndedAt (text : List ℕ) (v : ScannerState) : Type 0 where
-  levels : Levels
-  is_state : on_held (λ s. unroll_indent (s.position.col + 1) s) v ≡ with_ends v levels
-  arrives : Arrives text (with_ends v levels)
+arrives_with text v s solid near u blocks awaits levels tokens = record {
+  base = s.base;
+  known =
+      let k : Option Key = outside_key s.base.entries v.held.keys in
+      let line = past_line (not (is_empty v.held.flow)) (begins_free_line s.base.site.before s.separation) v.held.key_allowed v.held.position v.rest k s.base.line s.line_is in
+      let among : ArrivesAmong (with_ends v u) v.held.flow s.base.site s.base.line = search (line, s.is_filled, s, tokens, indented text v s solid, adjacent text v s solid) in
+      let near_now : is_empty v.held.flow ≡ true → IsNear k v.held.position = λ out. (grind arith) in
+      let line_then = line_here (not (is_empty v.held.flow)) (begins_free_line s.base.site.before s.separation) v.held.key_allowed v.held.position v.rest k s.base.line (λ e. near_now (not-false (is_empty v.held.flow) e)) s.line_is in
+      record { among = among; one_each = s.one_each; are_entries = s.are_entries; line_is = line_then; is_open = s.is_open; is_near = near_now; are_numbered = s.are_numbered; carries = s.carries; completes = s.completes };
+  knows = s.knows;
+}
 
 -- Where the next piece begins the block collections that are deeper end.
-ended_at : (text : List ℕ) (v : ScannerState) → (s : Stands text v) → begins_separation v.rest ≡ false → HasNearKey v → EndedAt text v
-ended_at text v s solid near = by (is_empty v.held.flow) refl
+pub arrives_now : (text : List ℕ) (v : ScannerState) → Stands text v → begins_separation v.rest ≡ false → HasNearKey v → Arrives text (on_held (λ s. unroll_indent (s.position.col + 1) s) v)
+arrives_now text v s solid near = by (is_empty v.held.flow) refl
   where
     p : Position
     p = v.held.position
 
-    by : (out : Bool) → is_empty v.held.flow ≡ out → EndedAt text v
-    by false e = record {
-      levels = record { indent = v.held.indent; indents = v.held.indents; tokens = v.held.tokens };
-      is_state = ap (λ h. record v { held = h }) (unrolled_in_flow (p.col + 1) v.held e);
-      arrives = arrives_with text v s solid near (record { indent = v.held.indent; indents = v.held.indents; tokens = v.held.tokens })
-          (ap (λ b. (site_here (not b) p s.base.site).blocks) e ∙ s.blocks_are) (ap (λ b. (site_here (not b) p s.base.site).awaits) e ∙ s.awaits_is) s.are_levels
-          (sym (append-nil v.held.tokens) ∙ ap (λ b. v.held.tokens ++ ends_here (not b) p s.base.site.blocks) (sym e));
-    }
+    by : (out : Bool) → is_empty v.held.flow ≡ out → Arrives text (on_held (λ s. unroll_indent (s.position.col + 1) s) v)
+    by false e =
+        subst (λ h. Arrives text (record v { held = h })) (sym (unrolled_in_flow (p.col + 1) v.held e))
+        (arrives_with text v s solid near (record { indent = v.held.indent; indents = v.held.indents; tokens = v.held.tokens })
+        (ap (λ b. (site_here (not b) p s.base.site).blocks) e ∙ s.blocks_are) (ap (λ b. (site_here (not b) p s.base.site).awaits) e ∙ s.awaits_is) s.are_levels
+        (sym (append-nil v.held.tokens) ∙ ap (λ b. v.held.tokens ++ ends_here (not b) p s.base.site.blocks) (sym e)))
     by true e =
         let u : Levels = unrolled (p.col + 1) p v.held.indent v.held.indents v.held.tokens in
-        let z : Ended p s.base.site.blocks s.base.site.awaits v.held.tokens u = subst (λ bs. Ended p bs s.base.site.awaits v.held.tokens u) (sym s.blocks_are)
-        (subst (λ a. Ended p (columns v.held.indent v.held.indents) a v.held.tokens u) (sym s.awaits_is) (levels_end p v.held.indent v.held.indents v.held.tokens s.are_levels)) in
-        record {
-          levels = u;
-          is_state = ap (λ h. record v { held = h }) (unrolled_outside (p.col + 1) v.held e);
-          arrives = arrives_with text v s solid near u (ap (λ b. (site_here (not b) p s.base.site).blocks) e ∙ z.columns_are) (ap (λ b. (site_here (not b) p s.base.site).awaits) e ∙ z.open_is) z.are_levels
-              (z.tokens_are ∙ ap (λ b. v.held.tokens ++ ends_here (not b) p s.base.site.blocks) (sym e));
-        }
-
-pub arrives_now : (text : List ℕ) (v : ScannerState) → Stands text v → begins_separation v.rest ≡ false → HasNearKey v → Arrives text (on_held (λ s. unroll_indent (s.position.col + 1) s) v)
-arrives_now text v s solid near = let e : EndedAt text v = ended_at text v s solid near in subst (λ u. Arrives text u) (sym e.is_state) e.arrives
+        let z : Ended p s.base.site.blocks s.base.site.awaits v.held.tokens u = rw (s.blocks_are, s.awaits_is) (levels_end p v.held.indent v.held.indents v.held.tokens s.are_levels) in
+        subst (λ h. Arrives text (record v { held = h })) (sym (unrolled_outside (p.col + 1) v.held e))
+        (arrives_with text v s solid near u (ap (λ b. (site_here (not b) p s.base.site).blocks) e ∙ z.columns_are) (ap (λ b. (site_here (not b) p s.base.site).awaits) e ∙ z.open_is) z.are_levels
+        (z.tokens_are ∙ ap (λ b. v.held.tokens ++ ends_here (not b) p s.base.site.blocks) (sym e)))
 
 -- with stale keys dropped the open key outside flow is near
 pub near_key : (text : List ℕ) (u : ScannerState) (h : Held) → Nearer text u h → HasNearKey (record u { held = h })

@@ -1,8 +1,10 @@
 -- Blanks and a comment after a piece, within its line: what the model reads there is all of them, and it stands where they end.
 use Rattle.std.proofs.lemmas.List.{append-nil}
-use Rattle.proof_scanner.proofs.Common.{At, Bool, Err, Fault, Holds, List, No, Ok, Position, Read, Result, ScannerState, Whitespace, Yes, [], after, after_spaces, ap, append_assoc, arith, begins_with, blanks_and_comment, comment_after, comment_of, eqb-true, false, has_no_break, if◌then◌else◌, in_line_position, is_blank, is_break, is_line, is_on_line, is_one_of, is_separation, leading, lexed, nat_tests, not, or_false, or_true, past, past_blanks_and_comment, past_comment, past_line_rest, position_after, position_append, position_in_line, refl, refused, same_break, skip_spaces, skip_while, space, space_step, spaces_end, span_cut, subst, sym, true, walk, went, with_found, ℕ, ◌&&◌, ◌++◌, ◌==◌, ◌||◌, ◌∙◌, ◌∷◌, ◌≡◌}
-use Rattle.yaml_tokens.specs.declared.problem.Problem.TheVariants as problem
+use Rattle.proof_scanner.proofs.Common.{[], after, after_spaces, ap, append_assoc, arith, At, begins_line, begins_with, blanks_and_comment, Bool, comment_after, comment_of, eqb-true, Err, false, Fault, follows_plain, has_no_break, has_tab_within, Holds, if◌then◌else◌, in_line_position, is_blank, is_break, is_indented_by_spaces, is_line, is_on_line, is_one_of, is_separation, last_line, leading, least_column, lexed, List, No, not, Ok, or_false, or_true, pass_indicator, past, past_blanks_and_comment, past_comment, past_line_rest, Position, position_after, position_append, position_in_line, Previous, Read, refl, refused, Result, same_break, ScannerState, skip_indicator, skip_spaces, skip_while, space, space_step, spaces_end, span_cut, subst, sym, true, walk, went, Whitespace, with_found, Yes, ℕ, ◌&&◌, ◌++◌, ◌==◌, ◌||◌, ◌∙◌, ◌∷◌, ◌≡◌}
 use Rattle.proof_scanner.proofs.Cut.Pieces.Separations.{no_break_append}
+use Rattle.model_scanner.specs.State.{after as after_first}
+use Rattle.proof_scanner.proofs.Cut.Documents.{past_indicator}
+use Rattle.yaml_tokens.specs.declared.problem.Problem.TheVariants as problem
 
 -- ---- positions
 
@@ -19,7 +21,7 @@ with_blanks w l = record { found_tabs = w.found_tabs || is_one_of l 9; has_valid
 pub no_break_in_blanks : (a : List ℕ) → has_no_break (leading is_blank a) ≡ true
 unfolding is_blank is_break
 no_break_in_blanks [] = refl
-no_break_in_blanks (c ∷ a) = grind (arith, nat_tests, eqb-true, no_break_in_blanks a)
+no_break_in_blanks (c ∷ a) = grind (arith, no_break_in_blanks a)
 
 blanks_walked : (a : List ℕ) (p : Position) (w : Whitespace) →
     walk (space_step Yes) a (record { position = p; found = w }) ≡ record { rest = after is_blank a; state = record { position = position_after p (leading is_blank a) []; found = with_blanks w (leading is_blank a) } }
@@ -32,16 +34,16 @@ blanks_walked (c ∷ a) p w = grind (arith, blanks_walked a)
 
 pub no_break_in_line : (a : List ℕ) → has_no_break (leading is_on_line a) ≡ true
 no_break_in_line [] = refl
-no_break_in_line (c ∷ a) = grind (arith, nat_tests, eqb-true, no_break_in_line a)
+no_break_in_line (c ∷ a) = grind (arith, no_break_in_line a)
 
 comment_passed : (a : List ℕ) (p : Position) → skip_while is_line a p ≡ record { rest = after is_on_line a; position = position_after p (leading is_on_line a) []; value = tt }
 comment_passed [] p = refl
-comment_passed (c ∷ a) p = grind (arith, nat_tests, eqb-true, same_break, in_line_position, comment_passed a (past p))
+comment_passed (c ∷ a) p = grind (arith, same_break, in_line_position, comment_passed a (past p))
 
 -- ---- both
 
 pub line_rest_in_line : (a : List ℕ) → has_no_break (blanks_and_comment a) ≡ true
-line_rest_in_line a = grind (arith, nat_tests, eqb-true, no_break_append, no_break_in_blanks, no_break_in_line)
+line_rest_in_line a = grind (arith, no_break_append, no_break_in_blanks, no_break_in_line)
 
 -- blanks and a comment, and the text after them, are the text
 pub line_rest_cut : (a : List ℕ) → a ≡ blanks_and_comment a ++ past_blanks_and_comment a
@@ -52,17 +54,17 @@ line_rest_cut a = span_cut is_blank a ∙ (ap (λ r. leading is_blank a ++ r) (c
     comment_cut (c ∷ b) = by (c == 35) (span_cut is_on_line (c ∷ b))
       where
         by : (x : Bool) → c ∷ b ≡ leading is_on_line (c ∷ b) ++ after is_on_line (c ∷ b) → c ∷ b ≡ (if x then leading is_on_line (c ∷ b) else []) ++ (if x then after is_on_line (c ∷ b) else c ∷ b)
-        by a e = grind (arith, nat_tests, eqb-true)
+        by a e = grind arith
 
 comment_fills : (a : List ℕ) → is_separation true (leading is_on_line a) (after is_on_line a) ≡ true
 comment_fills [] = refl
-comment_fills (c ∷ a) = grind (arith, nat_tests, eqb-true, comment_fills a)
+comment_fills (c ∷ a) = grind (arith, comment_fills a)
 
 -- They are a separation.
 pub line_rest_fills : (a : List ℕ) → is_separation false (blanks_and_comment a) (past_blanks_and_comment a) ≡ true
 unfolding is_blank is_break
 line_rest_fills [] = refl
-line_rest_fills (c ∷ a) = grind (arith, nat_tests, eqb-true, comment_fills, line_rest_fills a)
+line_rest_fills (c ∷ a) = grind (arith, comment_fills, line_rest_fills a)
 
 -- whether a text begins with no blank and no comment
 abbrev pub is_clear : List ℕ → Bool
@@ -76,10 +78,10 @@ past_rest_is_clear (c ∷ a) = by (c == 32) (c == 9) refl refl (past_rest_is_cle
   where
     line_end : (b : List ℕ) → is_clear (after is_on_line b) ≡ true
     line_end [] = refl
-    line_end (d ∷ b) = grind (arith, nat_tests, eqb-true, line_end b)
+    line_end (d ∷ b) = grind (arith, line_end b)
 
     by : (x y : Bool) → (c == 32) ≡ x → (c == 9) ≡ y → is_clear (past_blanks_and_comment a) ≡ true → is_clear (past_comment (if (x || y) then after is_blank a else c ∷ a)) ≡ true
-    by b y e f h = grind (arith, nat_tests, line_end, eqb-true)
+    by b y e f h = grind (arith, line_end, eqb-true)
 
 -- ---- what the model reads
 
@@ -95,17 +97,17 @@ pub data IsSpaced (a : List ℕ) (p : Position) (x : Result (Read Whitespace) Fa
 -- where blanks stand, a text begins with no comment
 blank_first : (a : List ℕ) → (is_one_of (leading is_blank a) 9 || is_one_of (leading is_blank a) 32) ≡ true → begins_with 35 a ≡ false
 unfolding is_blank
-blank_first b h = grind (arith, nat_tests, eqb-true)
+blank_first b h = grind arith
 
 -- where none stands, it begins after them
 no_blank_first : (a : List ℕ) → (is_one_of (leading is_blank a) 9 || is_one_of (leading is_blank a) 32) ≡ false → after is_blank a ≡ a
 unfolding is_blank
 no_blank_first [] h = refl
-no_blank_first (c ∷ a) h = grind (arith, nat_tests, eqb-true, or_true)
+no_blank_first (c ∷ a) h = grind (arith, or_true)
 
 clear_first : (a : List ℕ) → begins_with 35 (after is_blank a) ≡ false → begins_with 35 a ≡ false
 unfolding is_blank
-clear_first b h = grind (arith, nat_tests, eqb-true)
+clear_first b h = grind arith
 
 pub spaced_exactly : (a : List ℕ) (p : Position) → IsSpaced a p (space Yes a p)
 unfolding space
@@ -121,11 +123,11 @@ spaced_exactly a p = subst (λ x. IsSpaced a p (spaces_end x)) (sym (blanks_walk
     at r x = Ok (record { rest = r; position = x; value = found_in l })
 
     of : (b : List ℕ) → after is_blank a ≡ b → IsSpaced a p (after_spaces b (record { position = q; found = found_in l }))
-    of [] e = parted (clear_first a (ap (begins_with 35) e)) (grind (arith, nat_tests, eqb-true, q, append-nil, l))
+    of [] e = parted (clear_first a (ap (begins_with 35) e)) (grind (arith, q, append-nil, l))
     of (c ∷ b) e = by (c == 35) refl
       where
         by : (x : Bool) → (c == 35) ≡ x → IsSpaced a p (if x then comment_after (found_in l) (c ∷ b) q else at (c ∷ b) q)
-        by false f = parted (clear_first a (ap (begins_with 35) e ∙ f)) (grind (arith, nat_tests, eqb-true, q, append-nil, l))
+        by false f = parted (clear_first a (ap (begins_with 35) e ∙ f)) (grind (arith, q, append-nil, l))
         by true f = found (is_one_of l 9 || is_one_of l 32) refl
           where
             found : (x : Bool) → (is_one_of l 9 || is_one_of l 32) ≡ x → IsSpaced a p (if x then Ok (with_found (found_in l) (skip_while is_line (c ∷ b) q)) else Err (At problem.CommentNotSeparated q))
@@ -135,7 +137,7 @@ spaced_exactly a p = subst (λ x. IsSpaced a p (spaces_end x)) (sym (blanks_walk
 
 -- where no comment stands directly, they are read
 pub spaced_parted : (a : List ℕ) (p : Position) → begins_with 35 a ≡ false → space Yes a p ≡ Ok (record { rest = past_blanks_and_comment a; position = past_line_rest p a; value = found_in (leading is_blank a) })
-spaced_parted a p none = grind (arith, nat_tests, eqb-true, spaced_exactly)
+spaced_parted a p none = grind (arith, spaced_exactly)
 
 -- the state after blanks and a comment
 abbrev pub past_rest : ScannerState → ScannerState
@@ -143,7 +145,7 @@ past_rest t = record { rest = past_blanks_and_comment t.rest; held = record t.he
 
 pub rest_read : (t : ScannerState) (go : Whitespace → ScannerState → Result ScannerState Fault) (P : ScannerState → Type 0) → (begins_with 35 t.rest ≡ false → Holds P (go (found_in (leading is_blank t.rest)) (past_rest t))) →
     Holds P (lexed (space Yes t.rest t.held.position) t.held go)
-rest_read t go a f = grind (arith, nat_tests, eqb-true, spaced_exactly, parted, glued, refused)
+rest_read t go a f = grind (arith, spaced_exactly, parted, glued, refused)
 
 -- TABs and spaces, and a comment, are skipped, and that is all of them.
 pub rest_skipped : (t : ScannerState) → Holds (λ u. (u ≡ past_rest t) × (begins_with 35 t.rest ≡ false)) (skip_spaces Yes t)
@@ -153,4 +155,27 @@ rest_skipped t = rest_read t (λ w u. Ok u) _ (λ h. went (refl, h))
 -- after them no further spaces are skipped
 pub none_skipped : (t : ScannerState) → is_clear t.rest ≡ true → skip_spaces No t ≡ Ok t
 unfolding skip_spaces space is_blank
-none_skipped t h = grind (arith, nat_tests, eqb-true)
+none_skipped t h = grind arith
+
+-- ---- an indicator of one character, and the blanks and the comment after it
+
+-- the scanner after an indicator, blanks and a comment
+abbrev pub past_it : ScannerState → (more : List ℕ) → ScannerState
+past_it u more = record { rest = past_blanks_and_comment more; held = record u.held { position = past_line_rest (past u.held.position) more; leading = false } }
+
+-- All blanks and a comment after it are read; the comment does not stand directly there.
+pub indicator_passed : (u : ScannerState) (more : List ℕ) → after_first u.rest ≡ more → Holds (λ v. (v ≡ past_it u more) × (begins_with 35 more ≡ false)) (pass_indicator u)
+unfolding pass_indicator
+indicator_passed u more e = subst (λ r. Holds (λ v. (v ≡ past_it u r) × (begins_with 35 r ≡ false)) (pass_indicator u)) e (rest_skipped (skip_indicator u))
+
+-- the position after an indicator
+pub past_one : (p : Position) (c : ℕ) (next : List ℕ) → is_break c ≡ false → position_after p (c ∷ []) next ≡ past p
+past_one p c next e = past_indicator p c next e
+
+-- the position after all of it
+pub indicator_end : (p : Position) (c : ℕ) (more : List ℕ) → is_break c ≡ false → past_line_rest (past p) more ≡ position_after (position_after p (c ∷ []) more) (blanks_and_comment more) (past_blanks_and_comment more)
+indicator_end p c more e = grind (arith, past_one, same_in_line, line_rest_in_line)
+
+-- no TAB indents a line, where no line begins
+pub none_indents : (before : Previous) (bs : List ℕ) (awaits : Bool) (f : List ℕ) → begins_line before f ≡ false → is_indented_by_spaces before bs awaits f ≡ true
+none_indents before bs awaits f h = ap (λ b. not b || not (has_tab_within (least_column bs (awaits || follows_plain before f)) (last_line f))) h

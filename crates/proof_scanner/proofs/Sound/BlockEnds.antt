@@ -61,7 +61,7 @@ spaces_col p (c ∷ a) = grind (arith, nat_tests, eqb-true, space_past, spaces_c
 none_from : (column : ℕ) (ls : List Line) (p : Position) → AreLines ls [] → are_empty column (texts ls) ≡ true → p.col ≡ 0 → first_content column false p (spell ls []) ≡ None
 unfolding is_empty_line
 none_from column [] p a h z = refl
-none_from column (l ∷ ls) p a h z = grind (arith, nat_tests, eqb-true, and_parts, first_empty, none_from column ls (after_line l p) a.2)
+none_from column (l ∷ ls) p a h z = grind (arith, and_parts, first_empty, none_from column ls (after_line l p) a.2)
 
 -- ---- what follows
 
@@ -70,9 +70,6 @@ abbrev pub IsLeast : (indent : ℕ) → List ℕ → Type 0
 IsLeast indent bs = (collection_of indent ≡ innermost bs) × (least_column bs true ≡ indent)
 
 module _ (indent column : ℕ) (p : Position) (b : BlockRead) (piece next : List ℕ) (bs : List ℕ) where
-  clear_by : (empty : Bool) → (k : ℕ) → least_column bs true ≡ indent → (empty ≡ true → (nat_le indent k && nat_lt k column) ≡ false) → (not empty || nat_lt k (least_column bs true) || nat_le column k) ≡ true
-  clear_by a k l h = grind arith
-
   -- before further text
   read_clear : IsLeast indent bs → block_read (collection_of indent) piece next ≡ Some b → is_at_end next ≡ false → is_tabbed piece next ≡ false → is_shallow indent p b piece next ≡ false → b.column ≡ column → read_may_end bs (block_read (innermost bs) piece next) piece next ≡ true
   read_clear l h e untabbed clear same =
@@ -85,7 +82,7 @@ module _ (indent column : ℕ) (p : Position) (b : BlockRead) (piece next : List
       let at : (further_position p piece next).col ≡ leading_spaces next = omega (arith, margin, spaces) in
       let not_shallow : are_empty column ls ≡ true → (nat_le indent (leading_spaces next) && nat_lt (leading_spaces next) column) ≡ false =
       λ empty.
-      let none : first_content b.column true p piece ≡ None = (grind (arith, nat_tests, eqb-true, first_header, none_from)) in
+      let none : first_content b.column true p piece ≡ None = (grind (arith, first_header, none_from)) in
       ap (λ c. nat_le indent (leading_spaces next) && nat_lt (leading_spaces next) c) (sym same) ∙
       (ap (λ k. nat_le indent k && nat_lt k b.column) (sym at) ∙
       (ap (λ o. ((not false && is_none o) && nat_le indent (further_position p piece next).col) && nat_lt (further_position p piece next).col b.column) (sym none) ∙
@@ -94,7 +91,7 @@ module _ (indent column : ℕ) (p : Position) (b : BlockRead) (piece next : List
       (ap (λ x. lines_may_end bs b.column x next) lines ∙
       (ap (λ c. lines_may_end bs c (w.header.text ∷ ls) next) same ∙
       both_hold (not (is_empty ls && begins_with tab next)) (not (are_empty column ls) || nat_lt (leading_spaces next) (least_column bs true) || nat_le column (leading_spaces next))
-      (grind arith) (clear_by (are_empty column ls) (leading_spaces next) l.1 not_shallow)))
+      (grind arith) (grind (arith, nat_tests, eqb-true))))
     where
       both_hold : (x y : Bool) → x ≡ true → y ≡ true → (x && y) ≡ true
       both_hold x y e f = rw (e, f) refl

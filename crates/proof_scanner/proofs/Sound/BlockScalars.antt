@@ -1,27 +1,14 @@
 -- Block scalars: what holds where one begins holds between two fetches after it. No key waits over it, and after it a key may begin.
-use Rattle.proof_scanner.proofs.Common.{Act, Arrives, Block, BlockStyle, Bool, HasNoTabs, Holds, IsLive, IsPiece, IsReadOn, IsTakenBy, Key, KnowsKey, Levels, Line, List, MayChoose, None, NotBefore, Ok, Option, Outside, Position, Previous, Read, ScannerState, Site, SoFar, Some, Stands, Tok, Token, [], act_of, allow_key, ap, append-nil, append_assoc, arith, awaits_past, before_by, begins_line, begun_by, block, block_may_end, block_position, block_read, block_scalar, block_style, chosen, collection_of, content_position, false, fetch_block_scalar, folded, free, further_lines_stand, further_position, gives_block_scalar, has_break, has_no_nul, has_tab_within, if◌then◌else◌, inl, innermost, inr, is_break, is_empty, is_in_column, is_indented_by_spaces, is_literal, is_one_of, is_separation, least_column, least_for, lexed, line_past, literal, may_precede, may_stand, nat_tests, no_nul_after, not, on_held, position_after, previous_by, push, read, read_block, refl, seen, shown_position, site_at, site_here, site_in, site_past, subst, suc, sym, take, taken, token, tokens_up_to, true, unroll_non_block_indents, went, without_open, without_spaces, zero, ℕ, ◌&&◌, ◌++◌, ◌||◌, ◌∙◌, ◌∷◌, ◌≡◌, ◌⊎◌, eqb-true}
+use Rattle.proof_scanner.proofs.Common.{Act, Arrives, Block, BlockStyle, Bool, HasNoTabs, Holds, IsLive, IsPiece, IsReadOn, IsTakenBy, Key, KnowsKey, Levels, Line, List, MayChoose, None, NotBefore, Ok, Option, Outside, Position, Previous, Read, ScannerState, Site, SoFar, Some, Stands, Tok, Token, [], act_of, allow_key, ap, append-nil, append_assoc, arith, awaits_past, before_by, begins_line, begun_by, block, block_may_end, block_position, block_read, block_scalar, block_style, chosen, collection_of, content_position, false, fetch_block_scalar, folded, free, further_lines_stand, further_position, gives_block_scalar, has_break, has_no_nul, has_tab_within, if◌then◌else◌, inl, innermost, inr, is_break, is_empty, is_in_column, is_indented_by_spaces, is_literal, is_one_of, is_separation, least_column, least_for, lexed, line_past, literal, may_precede, may_stand, nat_tests, no_nul_after, not, on_held, position_after, previous_by, push, read, refl, seen, shown_position, site_at, site_here, site_in, site_past, subst, suc, sym, take, taken, token, tokens_up_to, true, unroll_non_block_indents, went, without_open, without_spaces, ℕ, ◌&&◌, ◌++◌, ◌||◌, ◌∙◌, ◌∷◌, ◌≡◌, ◌⊎◌, eqb-true}
 use Rattle.model_scanner.specs.declared.kind.BlockStyle as kind
 use Rattle.model_scanner.specs.declared.kind.BlockStyle.TheVariants.{Literal, Folded}
 use Rattle.defs_token.specs.Account as pieces
-use Rattle.proof_scanner.proofs.Cut.Nodes.{IsDeep}
-use Rattle.proof_scanner.proofs.Cut.Positions.{not_before_after, not_before_then, not_before_same, after_piece, weaker}
-use Rattle.proof_scanner.proofs.Cut.Saved.{saved_keys, saved_is}
+use Rattle.proof_scanner.proofs.Sound.Steps.{adjacent_kept, after_piece, AreClosed, by_sides, ArrivesBy, is_of_node, IsDeep, knows_saved, last_whole, no_waiting, not_before_after, not_before_same, not_before_then, outer_completes, outer_then, outer_tokens, Reads, saved, saved_is, saved_keys, some_rest, stands_so, tokens_then, weaker, with_entries, without_is}
 use Rattle.proof_scanner.proofs.Cut.Pieces.Blocks.{spaces_of, spaces_cut, spaces_fill, spaces_position, some_piece, token_of, IsBelow, below}
-use Rattle.proof_scanner.proofs.Known.Read.{knows_saved}
-use Rattle.proof_scanner.proofs.Known.Steps.{is_of_node}
-use Rattle.proof_scanner.proofs.Sound.Arrivals.{some_rest}
 use Rattle.proof_scanner.proofs.Sound.BlockEnds.{IsLeast, BlockAs, block_as, ends_at_margin}
-use Rattle.proof_scanner.proofs.Sound.LastLines.{last_whole}
-use Rattle.proof_scanner.proofs.Sound.NodeSteps.{saved}
-use Rattle.proof_scanner.proofs.Sound.Outsides.{must_be_here, numbered_past, open_node}
-use Rattle.proof_scanner.proofs.Sound.KeyStarts.{new_key, keys_saved}
-use Rattle.proof_scanner.proofs.Sound.Sides.{with_entries, ArrivesBy, ArrivesOutside, ArrivesInside, arrives_side}
+use Rattle.proof_scanner.proofs.Sound.Outsides.{must_be_here, numbered_past, open_node, new_key, keys_saved}
 use Rattle.proof_scanner.proofs.Sound.Stales.{none_completes}
-use Rattle.proof_scanner.proofs.Sound.OutOfFlow as out
-use Rattle.proof_scanner.proofs.Sound.OutOfFlow.{tokens_then, no_waiting}
-use Rattle.proof_scanner.proofs.Sound.WithoutOpen.{AreClosed, without_is}
 use Rattle.proof_scanner.proofs.Sound.PlainKeeps.{same_innermost}
-use Rattle.proof_scanner.proofs.Sound.Reads.{Reads, stands_so, adjacent_kept}
 
 -- ---- spaces
 
@@ -31,14 +18,13 @@ spaces_in_line [] = refl
 spaces_in_line (c ∷ r) = grind (arith, spaces_in_line r)
 
 no_tab_in : (n : ℕ) (t : List ℕ) → is_one_of (take n (spaces_of t)) 9 ≡ false
-no_tab_in zero t = refl
-no_tab_in (suc n) [] = grind arith
 no_tab_in (suc n) (c ∷ r) = grind (arith, no_tab_in n r)
+no_tab_in n t = grind arith
 
 -- ---- its token
 
 -- what is said of the token of a block scalar
-pub record IsBlockToken (style : BlockStyle) (text : List ℕ) (tok : Tok) : Type 0 where
+pub record IsBlockToken (tok : Tok) : Type 0 where
   pub act : act_of tok ≡ gives_block_scalar
   pub begun : begun_by tok ≡ []
   pub before : previous_by tok ≡ block_scalar
@@ -46,7 +32,6 @@ pub record IsBlockToken (style : BlockStyle) (text : List ℕ) (tok : Tok) : Typ
   pub precedes : (bs piece next : List ℕ) → may_precede false bs tok piece next ≡ block_may_end bs piece next
   pub awaits : (bs : List ℕ) (b : Bool) (next : List ℕ) → awaits_past false tok bs b next ≡ false
   pub shown : (s : Site) (piece next : List ℕ) → shown_position s piece tok next ≡ content_position (block_read (innermost s.blocks) piece next) s.position piece next
-  pub is_same : tok ≡ token_of style text
 
 -- ---- the step
 
@@ -54,10 +39,31 @@ pub record IsBlockToken (style : BlockStyle) (text : List ℕ) (tok : Tok) : Typ
 after_by : (must : Bool) (here : Position) (bs : List ℕ) (k : Act) (l : Line) → k ≡ gives_block_scalar → ((l ≡ free) × (must ≡ false)) ⊎ (l ≡ taken) → line_past must here bs k false l ≡ Some (record { line = free; blocks = bs })
 after_by must a bs k l e b = grind arith
 
+-- what the scanner holds after a block scalar, as the model has it
+abbrev pub read_state : ScannerState → Levels → BlockStyle → Read Block → ScannerState
+read_state t w style x = record {
+  rest = x.rest;
+  held = record t.held {
+    position = x.position;
+    tokens = w.tokens ++ token x.value.position (token_of style x.value.text) ∷ [];
+    keys = saved_keys t.held;
+    indents = w.indents;
+    indent = w.indent;
+    key_allowed = true;
+    leading = true;
+  };
+}
+
 module _ (text : List ℕ) (t : ScannerState) (k : Option Key) (a : ArrivesBy text t [] (k ∷ []) []) (within : t.held.flow ≡ []) (keys : t.held.keys ≡ k ∷ []) (deep : IsDeep t.held) (w : Levels) (closed : AreClosed t.held.indent t.held.indents t.held.tokens w)
-    (style : BlockStyle) (x : Read Block) (r : BlockAs style w.indent t.held.position t.rest x) (tok : Tok) (n : IsBlockToken style r.scalar.text tok) where
+    (style : BlockStyle) (x : Read Block) (r : BlockAs style w.indent t.held.position t.rest x) where
   abbrev p : Position
   p = t.held.position
+
+  abbrev tok : Tok
+  tok = token_of style r.scalar.text
+
+  n : IsBlockToken tok
+  n = grind arith
 
   abbrev here : Site
   here = site_here false p a.site
@@ -94,7 +100,7 @@ module _ (text : List ℕ) (t : ScannerState) (k : Option Key) (a : ArrivesBy te
   seen_here = seen (with_entries a.site a.line []) here a.separation
 
   is_piece : IsPiece seen_here r.piece r.next None (shown_position here r.piece tok r.next) tok
-  is_piece = grind (arith, nat_tests, eqb-true, (n.shown here r.piece r.next ∙ ap (λ o. content_position o p r.piece r.next) (ap (λ c. block_read c r.piece r.next) (sym least.0) ∙ r.is_read)), (ap (λ c. block_read c r.piece r.next) (same_innermost here.blocks ∙ sym least.0) ∙ (r.is_read ∙ ap (λ z. Some (record { style = z; column = r.scalar.column; text = r.scalar.text })) r.style_is)))
+  is_piece = grind (arith, (n.shown here r.piece r.next ∙ ap (λ o. content_position o p r.piece r.next) (ap (λ c. block_read c r.piece r.next) (sym least.0) ∙ r.is_read)), (ap (λ c. block_read c r.piece r.next) (same_innermost here.blocks ∙ sym least.0) ∙ (r.is_read ∙ ap (λ z. Some (record { style = z; column = r.scalar.column; text = r.scalar.text })) r.style_is)))
 
   stands : may_stand false a.site here a.separation r.piece tok r.next ≡ true
   stands = rw (a.is_indented some, n.lines (least_for tok here) r.piece, n.precedes here.blocks r.piece r.next, r.may_end here.blocks least) refl
@@ -129,13 +135,13 @@ module _ (text : List ℕ) (t : ScannerState) (k : Option Key) (a : ArrivesBy te
   rows : (strict : Bool) → LineHere strict → MayChoose strict false k t.held.position t.rest → SoFar strict text (gap ++ rest) (with_entries site_then free []) (λ ws last. t.held.tokens ++ own ∷ [])
   rows strict line may =
       let after : Outside = record { line = free; blocks = here.blocks } in
-      let all : SoFar strict text r.next (out.outer_then text a.site a.separation r.piece r.next tok here same_site after) (λ ws last. a.tokens ++ tokens_then a.site here r.piece tok r.next a.line_here) =
-      out.outer_completes text a.site a.separation r.piece r.next tok here same_site strict false a.line a.line_here after (λ ws last. a.tokens) (λ ws last. a.tokens ++ tokens_then a.site here r.piece tok r.next a.line_here)
+      let all : SoFar strict text r.next (outer_then text a.site a.separation r.piece r.next tok here same_site after) (λ ws last. a.tokens ++ tokens_then a.site here r.piece tok r.next a.line_here) =
+      outer_completes text a.site a.separation r.piece r.next tok here same_site strict false a.line a.line_here after (λ ws last. a.tokens) (λ ws last. a.tokens ++ tokens_then a.site here r.piece tok r.next a.line_here)
       (assumption ((subst (λ l. is_separation false a.separation l ≡ true) r.is_text a.is_filled), is_solid, is_piece, stands, a.is_line, after_by (strict && is_in_column p.col here.blocks) p here.blocks (act_of tok) a.line_here n.act line, no_waiting (has_break r.piece) false refl))
-      (λ ws last h. out.outer_tokens text a.site a.separation r.piece r.next tok here same_site a.line a.line_here a.is_line a.tokens ws last h) (subst (λ l. SoFar strict text (a.separation ++ l) (with_entries a.site a.line []) (λ ws last. a.tokens)) r.is_text (none_completes strict text (a.separation ++ t.rest) (with_entries a.site a.line []) (k ∷ []) a.tokens a.no_key refl (a.completes strict false [] may))) in
+      (λ ws last h. outer_tokens text a.site a.separation r.piece r.next tok here same_site a.line a.line_here a.is_line a.tokens ws last h) (subst (λ l. SoFar strict text (a.separation ++ l) (with_entries a.site a.line []) (λ ws last. a.tokens)) r.is_text (none_completes strict text (a.separation ++ t.rest) (with_entries a.site a.line []) (k ∷ []) a.tokens a.no_key refl (a.completes strict false [] may))) in
       subst (λ l. SoFar strict text l (with_entries site_then free []) (λ ws last. t.held.tokens ++ own ∷ [])) (spaces_cut r.next)
       (subst (λ es. SoFar strict text r.next (with_entries site_then free es) (λ ws last. t.held.tokens ++ own ∷ [])) n.begun
-      (subst (λ ts. SoFar strict text r.next (with_entries site_then free (begun_by tok)) (λ ws last. ts)) (grind (arith, nat_tests, eqb-true, append-nil, (n.shown here r.piece r.next ∙ ap (λ o. content_position o p r.piece r.next) (ap (λ c. block_read c r.piece r.next) (sym least.0) ∙ r.is_read)), append_assoc)) all))
+      (subst (λ ts. SoFar strict text r.next (with_entries site_then free (begun_by tok)) (λ ws last. ts)) (grind (arith, append-nil, (n.shown here r.piece r.next ∙ ap (λ o. content_position o p r.piece r.next) (ap (λ c. block_read c r.piece r.next) (sym least.0) ∙ r.is_read)), append_assoc)) all))
 
   -- what may begin at it
   line_by_allowed : (strict b : Bool) (y : Option Key) → t.held.key_allowed ≡ b → k ≡ y → MayChoose strict false (saved b (new_key t) y) end rest → LineHere strict × MayChoose strict false k t.held.position t.rest
@@ -144,23 +150,18 @@ module _ (text : List ℕ) (t : ScannerState) (k : Option Key) (a : ArrivesBy te
   abbrev key_now : Option Key
   key_now = saved t.held.key_allowed (new_key t) k
 
-  abbrev Then : Bool → Option Key → Bool → List Bool → Type 0
-  Then strict y c cs = SoFar strict text (gap ++ rest) (chosen c cs (y ∷ []) (with_entries site_then free [])) (tokens_up_to (chosen c cs (y ∷ []) (with_entries site_then free [])) (y ∷ []) (t.held.tokens ++ own ∷ []))
-
   -- the saved or open key is not after the position
   before_it : (y : Key) → key_now ≡ Some y → NotBefore y.position p
-  before_it y e = grind (arith, nat_tests, eqb-true, not_before_same, not_before_then, weaker, not_before_after)
+  before_it y e = grind (arith, not_before_same, not_before_then, weaker, not_before_after)
 
-  then_rows : (strict c : Bool) (cs : List Bool) (y : Option Key) → key_now ≡ y → MayChoose strict c y end rest → Then strict y c cs
-  then_rows strict c cs None e may = grind (arith, nat_tests, eqb-true, line_by_allowed, rows)
+  then_rows : (strict c : Bool) (cs : List Bool) (y : Option Key) → key_now ≡ y → MayChoose strict c y end rest →
+      SoFar strict text (gap ++ rest) (chosen c cs (y ∷ []) (with_entries site_then free [])) (tokens_up_to (chosen c cs (y ∷ []) (with_entries site_then free [])) (y ∷ []) (t.held.tokens ++ own ∷ []))
+  then_rows strict c cs None e may = grind (arith, line_by_allowed, rows)
   then_rows true true cs (Some y) e may = absurd (dead y (before_it y e) may)
   then_rows false true cs (Some y) e may = absurd may
-  then_rows true false cs (Some y) e may =
-      let q = line_by_allowed true t.held.key_allowed k refl refl (subst (λ o. MayChoose true false o end rest) (sym e) may) in
-      rows true q.0 q.1
-  then_rows false false cs (Some y) e may =
-      let q = line_by_allowed false t.held.key_allowed k refl refl (subst (λ o. MayChoose false false o end rest) (sym e) tt) in
-      rows false q.0 q.1
+  then_rows strict false cs (Some y) e may =
+      let q = line_by_allowed strict t.held.key_allowed k refl refl (subst (λ o. MayChoose strict false o end rest) (sym e) may) in
+      rows strict q.0 q.1
 
   taken_by : (y : Option Key) → key_now ≡ y → IsTakenBy true end rest y free
   taken_by None e = tt
@@ -184,45 +185,24 @@ module _ (text : List ℕ) (t : ScannerState) (k : Option Key) (a : ArrivesBy te
     one_each = refl;
     are_entries = tt;
     line_is = (inl refl, refl, taken_by key_now refl);
-    is_open = open_node text t k a within deep some end rest (grind (arith, nat_tests, eqb-true, place, not_before_then, not_before_after)) (position_after p r.piece r.next) (after_piece p r.piece r.next is_solid);
+    is_open = open_node text t k a within deep some end rest (grind (arith, place, not_before_then, not_before_after)) (position_after p r.piece r.next) (after_piece p r.piece r.next is_solid);
     no_key = refl;
     are_numbered = numbered_past text t k a within deep own t.held.key_allowed;
     carries = λ cs x key m inside some. absurd (cc inside);
-    knows = knows_saved text t r.piece r.next tok r.is_text end gap rest place (spaces_cut r.next) k a (grind (arith, nat_tests, eqb-true, (subst (λ l. is_separation false a.separation l ≡ true) r.is_text a.is_filled), is_solid, same_site, is_piece)) within deep (ap is_of_node n.act) known;
+    knows = knows_saved text t r.piece r.next tok r.is_text end gap rest place (spaces_cut r.next) k a (
+      (subst (λ l. is_separation false a.separation l ≡ true) r.is_text a.is_filled),
+      (ap not is_solid, subst (λ y. IsPiece (seen (with_entries a.site a.line []) y a.separation) r.piece r.next None (shown_position y r.piece tok r.next) tok) (sym same_site) is_piece),
+    ) within deep (ap is_of_node n.act) known;
     completes = λ strict c cs may. then_rows strict c cs key_now refl may;
   })
 
+  -- What stands after a block scalar that was read; the spaces after it are the separation.
+  pub block_stands : KnowsKey text (a.separation ++ t.rest) t.held.position k → Stands text (read_state t w style x)
+  block_stands known =
+      subst (λ z. Stands text (read_state t w style z)) (sym r.is)
+      (subst (λ ts. Stands text (record after_it { held = record after_it.held { tokens = ts ++ own ∷ [] } })) (sym closed.same_tokens) (scalar_stands known))
+
 -- ---- the function
-
--- what the scanner holds after a block scalar, as the model has it
-abbrev pub read_state : ScannerState → Levels → BlockStyle → Read Block → ScannerState
-read_state t w style x = record {
-  rest = x.rest;
-  held = record t.held {
-    position = x.position;
-    tokens = w.tokens ++ token x.value.position (token_of style x.value.text) ∷ [];
-    keys = saved_keys t.held;
-    indents = w.indents;
-    indent = w.indent;
-    key_allowed = true;
-    leading = true;
-  };
-}
-
--- the levels of indentation then
-abbrev pub levels_then : ScannerState → Levels
-levels_then t = without_open t.held.indent t.held.indents t.held.tokens
-
--- What stands after a block scalar that was read, with its account; the spaces after it are the separation.
-pub block_stands : (text : List ℕ) (style : BlockStyle) (t : ScannerState) → IsDeep t.held → (o : ArrivesOutside text t) → (w : Levels) → AreClosed t.held.indent t.held.indents t.held.tokens w → (x : Read Block) → (r : BlockAs style w.indent t.held.position t.rest x) →
-    Stands text (read_state t w style x)
-block_stands text style t deep o w closed x r =
-    let tok : Tok = token_of style r.scalar.text in
-    let y : Read Block = read_block t.held.position r.scalar r.piece r.next in
-    let stands : Stands text (record { rest = y.rest; held = record t.held { position = y.position; tokens = t.held.tokens ++ token y.value.position tok ∷ []; keys = saved_keys t.held; indents = w.indents; indent = w.indent; key_allowed = true; leading = true } }) =
-    scalar_stands text t o.key o.here o.flow_is o.keys_are deep w closed style x r tok (grind arith) o.knows in
-    subst (λ z. Stands text (read_state t w style z)) (sym r.is)
-    (subst (λ ts. Stands text (record { rest = y.rest; held = record t.held { position = y.position; tokens = ts ++ token y.value.position tok ∷ []; keys = saved_keys t.held; indents = w.indents; indent = w.indent; key_allowed = true; leading = true } })) (sym closed.same_tokens) stands)
 
 -- A block scalar is read as in the row.
 pub block_keeps : (text : List ℕ) (style : kind.BlockStyle) (t : ScannerState) (more : List ℕ) → t.rest ≡ (if is_literal style then 124 else 62) ∷ more → is_empty t.held.flow ≡ true → IsDeep t.held → Arrives text t → Holds (Stands text) (fetch_block_scalar style t)
@@ -230,13 +210,17 @@ unfolding fetch_block_scalar unroll_non_block_indents
 block_keeps text style t more e out deep arrives =
     subst (λ h. Holds (Stands text) (lexed (block (is_literal style) (unroll_non_block_indents (allow_key true h)).indent t.rest t.held.position) (unroll_non_block_indents (allow_key true h))
     (λ b u. Ok (on_held (λ v. push b.position (Tok.scalar (block_style style) b.text) (record v { leading = true })) u)))) (sym (saved_is t.held))
-    (read (unroll_non_block_indents (allow_key true (record t.held { keys = saved_keys t.held }))) (block (is_literal style) w.indent t.rest t.held.position) _ (λ x i. went (by style e x i (arrives_side text t arrives))))
+    (read (unroll_non_block_indents (allow_key true (record t.held { keys = saved_keys t.held }))) (block (is_literal style) w.indent t.rest t.held.position) _ (λ x i. went (of style e x i)))
   where
     w : Levels
-    w = levels_then t
+    w = without_open t.held.indent t.held.indents t.held.tokens
 
-    by : (style : kind.BlockStyle) → t.rest ≡ (if is_literal style then 124 else 62) ∷ more → (x : Read Block) → block (is_literal style) w.indent t.rest t.held.position ≡ Ok x → ArrivesOutside text t ⊎ ArrivesInside text t →
+    by : (style : BlockStyle) (x : Read Block) → BlockAs style w.indent t.held.position t.rest x → Stands text (read_state t w style x)
+    by style x r =
+        by_sides text t (λ v. is_empty v.held.flow ≡ true → Stands text (read_state v w style x)) arrives
+        (λ k a n o. block_stands text _ k a refl refl deep w (without_is t.held.indent t.held.indents t.held.tokens arrives.are_levels) style x r n) (λ f fs k ks y es a o. absurd (cc o)) out
+
+    of : (style : kind.BlockStyle) → t.rest ≡ (if is_literal style then 124 else 62) ∷ more → (x : Read Block) → block (is_literal style) w.indent t.rest t.held.position ≡ Ok x →
         Stands text (record { rest = x.rest; held = record t.held { position = x.position; tokens = w.tokens ++ token x.value.position (Tok.scalar (block_style style) x.value.text) ∷ []; keys = saved_keys t.held; indents = w.indents; indent = w.indent; key_allowed = true; leading = true } })
-    by style e x i (inr inside) = absurd (cc (out, ap is_empty inside.flow_is))
-    by Literal e x i (inl o) = block_stands text literal t deep o w (without_is t.held.indent t.held.indents t.held.tokens arrives.are_levels) x (grind (arith, nat_tests, eqb-true, clean, no_nul_after, block_as))
-    by Folded e x i (inl o) = block_stands text folded t deep o w (without_is t.held.indent t.held.indents t.held.tokens arrives.are_levels) x (grind (arith, nat_tests, eqb-true, clean, no_nul_after, block_as))
+    of Literal e x i = by literal x (grind (arith, clean, no_nul_after, block_as))
+    of Folded e x i = by folded x (grind (arith, clean, no_nul_after, block_as))

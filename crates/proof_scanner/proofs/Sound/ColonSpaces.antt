@@ -1,10 +1,9 @@
 -- What the model reads after a colon: where a TAB stands next, the blanks and a comment; else nothing.
-use Rattle.proof_scanner.proofs.Common.{arith, At, Bool, Held, Holds, List, Ok, Position, ScannerState, Yes, [], after, begins_with, begins_with_alpha, blanks_and_comment, check_after_tab, check_value_space, checked, colon_may_precede, eqb-true, false, has_no_break, if◌then◌else◌, is_blank, is_break, is_one_of, is_separation, leading, lexed, not, or_parts, pair_position, past, past_blanks_and_comment, past_comment, past_line_rest, peek, position_after, refl, same_alpha, space, subst, sym, tab, true, went, ℕ, ◌&&◌, ◌++◌, ◌==◌, ◌||◌, ◌∙◌, ◌∷◌, ◌≡◌, nat_tests}
+use Rattle.proof_scanner.proofs.Common.{arith, At, Bool, Held, Holds, List, Ok, ScannerState, Yes, [], after, begins_with, begins_with_alpha, blanks_and_comment, check_after_tab, check_value_space, checked, colon_may_precede, eqb-true, false, has_no_break, if◌then◌else◌, is_blank, is_one_of, is_separation, leading, lexed, not, or_parts, pair_position, past_blanks_and_comment, past_comment, past_line_rest, peek, refl, same_alpha, space, subst, sym, tab, true, went, ℕ, ◌&&◌, ◌++◌, ◌==◌, ◌||◌, ◌∙◌, ◌≡◌}
 use Rattle.yaml_chars.specs.Class.{is_alpha}
 use Rattle.defs_text.specs.Classes as classes
 use Rattle.yaml_tokens.specs.declared.problem.Problem.TheVariants as problem
-use Rattle.proof_scanner.proofs.Sound.Blanks.{same_in_line, line_rest_cut, line_rest_fills, line_rest_in_line, past_rest, rest_read}
-use Rattle.proof_scanner.proofs.Sound.Indicated.{past_one}
+use Rattle.proof_scanner.proofs.Sound.Blanks.{line_rest_cut, line_rest_fills, line_rest_in_line, past_rest, rest_read}
 use Rattle.proof_scanner.proofs.Cut.Fetched.{begins_here}
 
 -- what is read after a colon, and the text after that
@@ -18,17 +17,12 @@ past_gap more = (if begins_with tab more then past_blanks_and_comment more else 
 pub gap_is : (more : List ℕ) → (more ≡ colon_gap more ++ past_gap more) × (is_separation false (colon_gap more) (past_gap more) ≡ true) × (has_no_break (colon_gap more) ≡ true)
 gap_is more = grind (arith, line_rest_cut, line_rest_fills, line_rest_in_line)
 
--- where the start of a single pair stands, the gap ends
-pub gap_end : (p : Position) (more : List ℕ) → pair_position (past p) more ≡ position_after (position_after p (58 ∷ []) more) (colon_gap more) (past_gap more)
-unfolding is_break
-gap_end p more = grind (arith, nat_tests, eqb-true, past_one, same_in_line, line_rest_in_line)
-
 -- ---- what the model checks
 
 -- a letter after the blanks stands after the comment too, since there is none
 no_letter : (b : List ℕ) → ((peek (past_comment b) == 45) || is_alpha (peek (past_comment b))) ≡ false → begins_with_alpha b ≡ false
 unfolding classes.is_alpha classes.is_decimal_digit classes.is_letter
-no_letter a h = grind (arith, nat_tests, eqb-true, same_alpha, or_parts)
+no_letter a h = grind (arith, eqb-true, same_alpha, or_parts)
 
 -- the state after a colon and what is read after it
 abbrev pub past_colon : (more : List ℕ) → Held → ScannerState
@@ -45,7 +39,7 @@ colon_spaced more h = by (begins_with tab more) refl
     Ends b u = (u ≡ record { rest = (if b then past_blanks_and_comment more else more); held = record h { position = (if b then past_line_rest h.position more else h.position) } }) × (not (b && not (is_one_of (leading is_blank more) 32) && begins_with_alpha (after is_blank more)) ≡ true)
 
     letter : (x y z : Bool) → (x && y) ≡ false → (y ≡ false → z ≡ false) → not (true && x && z) ≡ true
-    letter a y z e f = grind (arith, nat_tests, eqb-true)
+    letter a y z e f = grind arith
 
     by : (b : Bool) → begins_with tab more ≡ b → Holds (λ u. (u ≡ past_colon more h) × (colon_may_precede more ≡ true)) (if peek more == 9 then lexed (space Yes more h.position) h check_after_tab else Ok t)
     by true e =

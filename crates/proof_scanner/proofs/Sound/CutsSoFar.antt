@@ -1,5 +1,5 @@
 -- The tokens so far are a cut of the text up to the last piece, and the position is that after the text that was passed.
-use Rattle.proof_scanner.proofs.Common.{Account, Arrives, IsCutUpTo, IsPositionIn, Key, List, MayChoose, Option, Position, ScannerState, Stands, Token, [], ap, append_assoc, false, first_position, is_renewed, outside_key, position_after, position_append, refl, sym, up_to_nul, ℕ, ◌++◌, ◌∙◌, ◌≡◌, nat_tests, eqb-true, arith}
+use Rattle.proof_scanner.proofs.Common.{Account, Arrives, IsCutUpTo, IsPositionIn, Key, List, MayChoose, Option, Position, ScannerState, Stands, Token, [], ap, append_assoc, false, first_position, is_renewed, outside_key, position_after, position_append, refl, sym, up_to_nul, ℕ, ◌++◌, ◌∙◌, ◌≡◌, arith}
 use Rattle.defs_token.specs.Account.{first_account}
 use Rattle.defs_token.specs.Cut.{spelled}
 use Rattle.proof_scanner.proofs.Cut.RowPositions.{row_position, spelled_before}
@@ -7,7 +7,7 @@ use Rattle.proof_scanner.proofs.Sound.Stales.{none_completes}
 use Rattle.proof_scanner.proofs.Sound.StreamEnds.{entries_no_key}
 
 no_choice : (k : Option Key) (p : Position) (rest : List ℕ) → MayChoose false false k p rest
-no_choice a p rest = grind (arith, nat_tests, eqb-true)
+no_choice a p rest = grind arith
 
 -- between two fetches
 pub stands_cut : (text : List ℕ) (t : ScannerState) → (s : Stands text t) → IsCutUpTo text (s.separation ++ t.rest) s.base t.held.tokens

@@ -1,19 +1,13 @@
 -- Document markers and directives: what holds where they begin holds between two fetches after them.
-use Rattle.proof_scanner.proofs.Common.{AreLevels, Arrives, At, Bool, Entry, Err, FlowLevel, HasNoTabs, Held, Holds, IsLeading, IsPiece, IsReadOn, Key, Levels, List, None, Ok, Option, Position, ScannerState, Site, Stands, Tok, Token, [], act_of, ap, append-nil, append_assoc, arith, awaits_past, before_by, begin_line, begins_free_line, begins_line, begun_by, begun_inside, closed_key, columns, entries_past, false, further_lines_stand, gives_marker, has_break, has_open_level, if◌then◌else◌, in_flow, inl, inr, is_closed, is_empty, is_in_column, is_indented_by_spaces, is_renewed, is_required, is_separation, least_for, length, may_precede, not, other, pair_position, position_after, previous_by, put, refl, refused, remove_implicit_key, replicate-append-replicate, seen, settled, shown_position, site_in, subst, sym, taken, takes_pair, top_key, true, unroll_indent, went, with_top, ℕ, ◌++◌, ◌∙◌, ◌∷◌, ◌≡◌, ◌≤◌, ◌⊎◌, eqb-true, nat_tests}
-use Rattle.proof_scanner.proofs.Sound.OutOfFlow.{tokens_then}
-use Rattle.yaml_tokens.specs.declared.problem.Problem.TheVariants as problem
+use Rattle.proof_scanner.proofs.Common.{[], act_of, and_false, and_parts, ap, append-nil, append_assoc, AreLevels, arith, Arrives, At, awaits_past, before_by, begin_line, begins_free_line, begins_line, begins_with, begun_by, begun_inside, blanks_and_comment, Bool, chained, check_document_end, closed_key, columns, Directive, directive_of, directives_end, either, entries_past, Entry, eqb-true, Err, false, fetch_directive, fetch_document_end, fetch_document_marker, first_break, FlowLevel, further_lines_stand, gives_marker, has_break, has_no_break, has_no_nul, has_open_level, HasNoTabs, Held, Holds, if◌then◌else◌, in_flow, inr, is_at_gap, is_break, is_breakz, is_closed, is_empty, is_in_column, is_indented_by_spaces, is_renewed, is_required, is_separation, IsDirectiveRead, IsLeading, IsPiece, IsReadOn, Key, least_for, length, Levels, line_is_done, List, may_precede, no_nul_after, None, Ok, on_held, Option, or_true, other, pair_position, past, past_blanks_and_comment, past_line_rest, peek, Position, position_after, position_append, previous_by, push, put, read, read_as, refl, refused, remove_implicit_key, replicate-append-replicate, ScannerState, seen, settled, shown_position, Site, site_in, skip_indicator, Some, Stands, subst, sym, taken, takes_pair, Tok, Token, token_of, top_key, tried, true, unroll_indent, went, whole_directive, with_top, ℕ, ◌++◌, ◌∙◌, ◌∷◌, ◌≡◌, ◌≤◌}
+use Rattle.proof_scanner.proofs.Sound.Steps.{adjacent_kept, all_levels, by_sides, ArrivesBy, at_end_of, begins_key, ends_of, goes_inside, is_done, key_gone, line_rest_cut, line_rest_fills, line_rest_in_line, none_indents, past_rest, read_outside, Reads, rest_skipped, same_in_line, shorter, some_rest, three_past, tokens_before, tokens_then, unrolled_in_flow, with_entries, same_has_break}
 use Rattle.defs_token.specs.Account.{Account as PieceAccount}
 use Rattle.defs_token.specs.Key.{line_past as line_of_piece}
-use Rattle.proof_scanner.proofs.Known.Steps.{begins_key}
-use Rattle.proof_scanner.proofs.Sound.Around.{tokens_before}
-use Rattle.proof_scanner.proofs.Sound.Arrivals.{some_rest}
-use Rattle.proof_scanner.proofs.Sound.EntryPieces.{goes_inside}
-use Rattle.proof_scanner.proofs.Sound.Gone.{key_gone}
-use Rattle.proof_scanner.proofs.Sound.OutsidePieces.{read_outside}
-use Rattle.proof_scanner.proofs.Sound.Sides.{with_entries, ArrivesBy, ArrivesOutside, ArrivesInside, arrives_side}
-use Rattle.proof_scanner.proofs.Sound.StreamEnds.{ends_of, all_levels, shorter}
-use Rattle.proof_scanner.proofs.Cut.Unrolls.{unrolled_in_flow}
-use Rattle.proof_scanner.proofs.Sound.Reads.{Reads, adjacent_kept}
+use Rattle.model_scanner.specs.Directive.{directive}
+use Rattle.proof_lexers.specs.DirectiveEnds.{ends_line, next_line}
+use Rattle.proof_scanner.proofs.Cut.Pieces.Directives.{break_cut, break_is_separation, percent_in_line, piece_of}
+use Rattle.yaml_tokens.specs.declared.problem.Problem.TheVariants as problem
+use Rattle.model_scanner.specs.Machine as machine
 
 -- What is said of the token of a document marker or a directive.
 pub record IsDocumentToken (tok : Tok) : Type 0 where
@@ -110,18 +104,14 @@ line_stands text t d a r flow keys =
     own = put t.held.position d.tok
 
     tokens : (t.held.tokens ++ ends_of (length (columns t.held.indent t.held.indents)) t.held.position) ++ (own ∷ []) ≡ a.tokens ++ tokens_then a.site x d.piece d.tok (next_of d) a.line_here
-    tokens = grind (arith, nat_tests, bs, append_assoc, eqb-true, shorter, replicate-append-replicate, x, own, append-nil)
+    tokens = grind (arith, bs, append_assoc, eqb-true, shorter, replicate-append-replicate, x, own, append-nil)
 
 -- ---- in flow
-
--- no key of the entry waits after it, and none may begin
-abbrev pub entry_settled : Entry → Entry
-entry_settled e = record { kind = e.kind; pair = e.pair; had = settled }
 
 line_goes : (text : List ℕ) (t : ScannerState) (d : Read) (f : FlowLevel) (fs : List FlowLevel) (k : Option Key) (ks : List (Option Key)) (e : Entry) (es : List Entry) (a : ArrivesBy text t (f ∷ fs) (k ∷ ks) (e ∷ es)) → IsRead t d → t.held.flow ≡ f ∷ fs → with_top None t.held.keys ≡ None ∷ ks →
     Stands text (line_past t (begun_from t.held) d)
 line_goes text t d f fs k ks e es a r flow keys =
-    goes_inside text t (line_past t (begun_from t.held) d) f f fs k ks e (entry_settled e) es a d.piece (next_of d) d.tok d.gap
+    goes_inside text t (line_past t (begun_from t.held) d) f f fs k ks e (record { kind = e.kind; pair = e.pair; had = settled }) es a d.piece (next_of d) d.tok d.gap
     (line_reads t d (begun_from t.held) _ r refl refl a.blocks_are (r.token.awaits_inside a.site.blocks a.site.awaits (next_of d) ∙ a.awaits_is) a.are_levels a.was_adjacent (refl, refl, refl)) (record {
       flow_is = flow;
       keys_are = keys;
@@ -151,18 +141,94 @@ pub record Begins (text : List ℕ) (t : ScannerState) : Type 0 where
   pub stands : (d : Read) → IsRead t d → is_required (top_key held.keys) ≡ false → Stands text (line_past t (begun_from held) d)
 
 pub begins : (text : List ℕ) (t : ScannerState) → is_empty t.rest ≡ false → Arrives text t → Begins text t
-begins text t some a = by (arrives_side text t a)
+begins text t some a =
+    by_sides text t (Begins text) a (λ k x n. record {
+      held = all_ended (record t.held { flow = []; keys = k ∷ [] });
+      rolled = unrolled_outside (record t.held { flow = []; keys = k ∷ [] }) refl x.are_levels;
+      same_position = refl;
+      stands = λ d r none. line_stands text _ d (key_gone text _ k x some (grind arith)) r refl refl;
+    }) (λ f fs k ks e es x. record {
+      held = record t.held { flow = f ∷ fs; keys = k ∷ ks };
+      rolled = unrolled_in_flow 0 (record t.held { flow = f ∷ fs; keys = k ∷ ks }) refl;
+      same_position = refl;
+      stands = λ d r none. line_goes text _ d f fs k ks e es x r refl refl;
+    })
+
+-- ---- the functions of the model that read document markers and directives keep what holds where they begin
+
+-- ---- `---`
+
+start_token : IsDocumentToken Tok.document_start
+start_token = record { act = refl; begun = refl; shown = λ s p n. refl; lines = λ c p. refl; awaits_inside = λ bs b n. refl; awaits_outside = λ bs b n. and_false b; before = refl }
+
+abbrev pub start_read : (more : List ℕ) → Position → Read
+start_read more p = record { tok = Tok.document_start; piece = 45 ∷ 45 ∷ 45 ∷ []; gap = []; rest = more; end = past (past (past p)); leading = false }
+
+-- `---`
+pub document_start_keeps : (text more : List ℕ) (t : ScannerState) → Arrives text t → t.rest ≡ 45 ∷ 45 ∷ 45 ∷ more → is_at_gap more ≡ true → t.held.position.col ≡ 0 → Holds (Stands text) (fetch_document_marker Tok.document_start t)
+unfolding fetch_document_marker is_break
+document_start_keeps text more t a e gap col =
+    let b : Begins text t = begins text t (ap is_empty e) a in
+    chained {P = λ u. (is_required (top_key b.held.keys) ≡ false) × (u ≡ record t { held = begun_from b.held })} (tried t (begin_line t.held) (line_begun t.held b.held b.rolled) (λ h d. (d.0, ap (λ y. record t { held = y }) d.1))) (λ u d.
+    went (subst (λ y. Stands text (on_held (push t.held.position Tok.document_start) (skip_indicator (skip_indicator (skip_indicator y))))) (sym d.1)
+    (subst (λ r. Stands text (on_held (push t.held.position Tok.document_start) (skip_indicator (skip_indicator (skip_indicator (record { rest = r; held = begun_from b.held })))))) (sym e)
+    (b.stands (start_read more b.held.position) (assumption (start_token, e, gap, col, ap (λ q. past (past (past q))) b.same_position ∙ three_past t.held.position 45 more refl)) d.0))))
+
+-- ---- `...`
+
+end_token : IsDocumentToken Tok.document_end
+end_token = record { act = refl; begun = refl; shown = λ s p n. refl; lines = λ c p. refl; awaits_inside = λ bs b n. refl; awaits_outside = λ bs b n. and_false b; before = refl }
+
+abbrev pub end_read : (more : List ℕ) → Position → Read
+end_read more p = record { tok = Tok.document_end; piece = 46 ∷ 46 ∷ 46 ∷ []; gap = blanks_and_comment more; rest = past_blanks_and_comment more; end = past_line_rest (past (past (past p))) more; leading = false }
+
+pub end_is_read : (t : ScannerState) (more : List ℕ) (p : Position) → p ≡ t.held.position → t.rest ≡ 46 ∷ 46 ∷ 46 ∷ more → is_at_gap more ≡ true → t.held.position.col ≡ 0 → line_is_done (blanks_and_comment more ++ past_blanks_and_comment more) ≡ true → IsRead t (end_read more p)
+unfolding is_break
+end_is_read t more p same e a col done = grind (arith, line_rest_in_line, three_past, same_in_line, none_indents, end_token, line_rest_cut, line_rest_fills)
+
+-- the state after the marker
+abbrev pub marked : ScannerState → Held → (rest : List ℕ) → ScannerState
+marked t h r = on_held (push t.held.position Tok.document_end) (skip_indicator (skip_indicator (skip_indicator (record { rest = r; held = begun_from h }))))
+
+-- `...`, after which the line holds no more
+pub document_end_keeps : (text more : List ℕ) (t : ScannerState) → Arrives text t → t.rest ≡ 46 ∷ 46 ∷ 46 ∷ more → is_at_gap more ≡ true → t.held.position.col ≡ 0 → Holds (Stands text) (fetch_document_end t)
+unfolding fetch_document_end fetch_document_marker check_document_end
+document_end_keeps text more t a e gap col =
+    let b : Begins text t = begins text t (ap is_empty e) a in
+    let clean : has_no_nul more ≡ true = no_nul_after (46 ∷ 46 ∷ 46 ∷ []) more (subst (λ l. has_no_nul l ≡ true) e a.is_clean) in
+    chained {P = λ u. (is_required (top_key b.held.keys) ≡ false) × (u ≡ marked t b.held (46 ∷ 46 ∷ 46 ∷ more))}
+    (chained {P = λ u. (is_required (top_key b.held.keys) ≡ false) × (u ≡ record t { held = begun_from b.held })} (tried t (begin_line t.held) (line_begun t.held b.held b.rolled) (λ h d. (d.0, ap (λ y. record t { held = y }) d.1))) (λ u d.
+    went (d.0, ap (λ y. on_held (push t.held.position Tok.document_end) (skip_indicator (skip_indicator (skip_indicator y)))) d.1 ∙ ap (marked t b.held) e)))
+    (λ u d. chained (rest_skipped u) (λ v s. either (is_breakz (peek v.rest)) (λ yes. went (
+    let is : v ≡ past_rest (marked t b.held (46 ∷ 46 ∷ 46 ∷ more)) = s.0 ∙ ap past_rest d.1 in
+    let ends : is_breakz (peek (past_blanks_and_comment more)) ≡ true = ap (λ y. is_breakz (peek y.rest)) (sym is) ∙ yes in
+    let hash : begins_with 35 more ≡ false = ap (λ y. begins_with 35 y.rest) (sym d.1) ∙ s.1 in
+    subst (Stands text) (sym is) (b.stands (end_read more b.held.position) (end_is_read t more b.held.position b.same_position e gap col (grind (arith, blanks_and_comment, is_done, line_rest_fills, same_has_break, line_rest_in_line, at_end_of, no_nul_after, line_rest_cut, begins_with, eqb-true))) d.0)
+    )) (λ no. refused)))
+
+-- ---- directives
+
+abbrev pub directive_read : (line next : List ℕ) → Directive → Position → Read
+directive_read line next d p = record { tok = token_of d; piece = 37 ∷ line; gap = first_break next; rest = next_line next; end = position_after p ((37 ∷ line) ++ first_break next) (next_line next); leading = true }
+
+pub directive_is_read : (t : ScannerState) (line next : List ℕ) (d : Directive) → t.rest ≡ 37 ∷ (line ++ next) → has_no_break line ≡ true → ends_line next ≡ true → directive_of (37 ∷ line) ≡ Some d → t.held.position.col ≡ 0 → IsRead t (directive_read line next d t.held.position)
+unfolding is_break
+directive_is_read t line next d e no_break ends is col = grind (arith, and_false, break_cut, percent_in_line, break_is_separation, position_append, piece_of, and_parts, or_true, has_break)
+
+-- the scanner after a directive
+abbrev pub after_it : ScannerState → machine.Read Tok → Held → ScannerState
+after_it t x h = record { rest = x.rest; held = record h { position = x.position; leading = true; tokens = (push t.held.position x.value h).tokens } }
+
+-- `%`
+pub directive_keeps : (text more : List ℕ) (t : ScannerState) → Arrives text t → t.rest ≡ 37 ∷ more → t.held.position.col ≡ 0 → Holds (Stands text) (fetch_directive t)
+unfolding fetch_directive
+directive_keeps text more t a e col =
+    let b : Begins text t = begins text t (ap is_empty e) a in
+    chained {P = λ u. (is_required (top_key b.held.keys) ≡ false) × (u ≡ record t { held = begun_from b.held })} (tried t (begin_line t.held) (line_begun t.held b.held b.rolled) (λ h d. (d.0, ap (λ y. record t { held = y }) d.1))) (λ u d.
+    read u.held (directive u.rest u.held.position) _ (λ x is. went (
+    let at_place : directive (37 ∷ more) t.held.position ≡ Ok x = ap (λ p. directive (37 ∷ more) p) (sym b.same_position) ∙ (ap (λ r. directive r b.held.position) (sym e) ∙ (ap (λ y. directive y.rest y.held.position) (sym d.1) ∙ is)) in
+    subst (λ y. Stands text (after_it t x y.held)) (sym d.1) (by b d.0 x (read_as at_place (directives_end more t.held.position))))))
   where
-    by : ArrivesOutside text t ⊎ ArrivesInside text t → Begins text t
-    by (inl o) = record {
-      held = all_ended t.held;
-      rolled = unrolled_outside t.held (ap (λ fs. not (is_empty fs)) o.flow_is) o.here.are_levels;
-      same_position = refl;
-      stands = λ d r none. (line_stands text t d (key_gone text t o.key o.here some (grind (arith, nat_tests, eqb-true))) r o.flow_is (ap (with_top None) o.keys_are));
-    }
-    by (inr i) = record {
-      held = t.held;
-      rolled = unrolled_in_flow 0 t.held (ap is_empty i.flow_is);
-      same_position = refl;
-      stands = λ d r none. (line_goes text t d i.level i.levels i.key i.keys i.entry i.entries i.here r i.flow_is (ap (with_top None) i.keys_are));
-    }
+    by : (b : Begins text t) → is_required (top_key b.held.keys) ≡ false → (x : machine.Read Tok) → IsDirectiveRead t.held.position more x → Stands text (after_it t x (begun_from b.held))
+    by b none x (whole_directive line next d cut no_break ends is) =
+        b.stands (directive_read line next d t.held.position) (directive_is_read t line next d (e ∙ ap (λ l. 37 ∷ l) cut) no_break ends is col) none

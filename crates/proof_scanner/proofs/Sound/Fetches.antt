@@ -3,21 +3,16 @@ use Rattle.proof_scanner.proofs.Common.{Arrives, Fares, FetchKeeps, Holds, IsAtE
 use Rattle.model_scanner.specs.State.{after}
 use Rattle.proof_scanner.proofs.Cut.Dispatch.{token_holds, content_holds}
 use Rattle.proof_scanner.proofs.Cut.Fetched.{no_end, goes_on_here}
-use Rattle.proof_scanner.proofs.Cut.Documents.{whole_text}
+use Rattle.proof_scanner.proofs.Sound.Common.{stream_ended, whole_text}
 use Rattle.proof_scanner.proofs.Sound.CutsSoFar.{arrives_cut, cut_position}
 use Rattle.proof_scanner.proofs.Sound.Stales.{fares_stale}
-use Rattle.proof_scanner.proofs.Sound.StreamEnds.{stream_ended}
 use Rattle.proof_scanner.proofs.Sound.Arriving.{arrived}
 use Rattle.proof_scanner.proofs.Sound.BlockScalars.{block_keeps}
-use Rattle.proof_scanner.proofs.Sound.Closers.{closing_bracket, closing_brace}
-use Rattle.proof_scanner.proofs.Sound.Dashes.{dash_keeps}
-use Rattle.proof_scanner.proofs.Sound.DocumentMarks.{document_start_keeps, document_end_keeps, directive_keeps}
-use Rattle.proof_scanner.proofs.Sound.FlowMarks.{comma_keeps, closing_keeps}
-use Rattle.proof_scanner.proofs.Sound.FlowStarts.{opening_keeps}
-use Rattle.proof_scanner.proofs.Sound.Openers.{opening_bracket, opening_brace}
+use Rattle.proof_scanner.proofs.Sound.FlowMarks.{closing_bracket, closing_brace, comma_keeps, closing_keeps, opening_keeps, opening_bracket, opening_brace}
+use Rattle.proof_scanner.proofs.Sound.Questions.{dash_keeps, key_keeps}
+use Rattle.proof_scanner.proofs.Sound.DocumentLines.{document_start_keeps, document_end_keeps, directive_keeps}
 use Rattle.proof_scanner.proofs.Sound.PlainKeeps.{plain_keeps}
 use Rattle.proof_scanner.proofs.Sound.Properties.{anchor_keeps, tag_keeps}
-use Rattle.proof_scanner.proofs.Sound.Questions.{key_keeps}
 use Rattle.proof_scanner.proofs.Sound.QuotedKeeps.{quoted_keeps}
 use Rattle.proof_scanner.proofs.Sound.Values.{value_keeps}
 
@@ -34,30 +29,20 @@ content_kept text t a some =
           (search (anchor_keeps, tag_keeps, plain_keeps, quoted_keeps, block_keeps, dash_keeps, key_keeps, value_keeps, opening_keeps, opening_bracket, opening_brace, closing_keeps, closing_bracket, closing_brace, comma_keeps, refused)) some);
     })
 
--- after a token, or after the stream's end
-abbrev Kept : List ℕ → ScannerState → Type 0
-Kept text t = Stands text t ⊎ ((t.held.ended ≡ true) × IsRead text t.held.tokens × IsAtEnd text t.held)
-
-here_kept : (text : List ℕ) → has_no_nul text ≡ true → (t : ScannerState) → Arrives text t → Holds (Kept text) (fetch_here t)
+-- a token is read, or the stream ends
+here_kept : (text : List ℕ) → has_no_nul text ≡ true → (t : ScannerState) → Arrives text t → Holds (λ u. Stands text u ⊎ ((u.held.ended ≡ true) × IsRead text u.held.tokens × IsAtEnd text u.held)) (fetch_here t)
 unfolding fetch_here
 here_kept text nul t a =
-    either (peek t.rest == 0) (λ e. let none : t.rest ≡ [] = no_end t.rest a.is_clean e in weakened (λ u x. inr (
-      x.0,
-      x.1,
-      record {
-        began = x.2 ∙ a.started;
-        position = x.3 ∙ ap next_line
-            (((subst (λ r. IsPositionIn text r t.held.position) none (cut_position text a.separation t.rest a.base a.tokens t.held.position (whole_text text nul) a.position_is (arrives_cut text t a))).is_position ∙ ap (λ b. position_after first_position b [])
-            (sym (append-nil (subst (λ r. IsPositionIn text r t.held.position) none (cut_position text a.separation t.rest a.base a.tokens t.held.position (whole_text text nul) a.position_is (arrives_cut text t a))).before) ∙ sym
-            (subst (λ r. IsPositionIn text r t.held.position) none (cut_position text a.separation t.rest a.base a.tokens t.held.position (whole_text text nul) a.position_is (arrives_cut text t a))).is_text)));
-      },
-    )) (stream_ended text t a none)) (λ e. weakened (λ u x. inl x) (content_kept text t a (goes_on_here t.rest e)))
-
-next_kept : (text : List ℕ) → has_no_nul text ≡ true → (t : ScannerState) → Stands text t → Holds (Fares text) (fetch_next t)
-unfolding fetch_next
-next_kept text nul t s = arrived text t (λ v. fetch_here v >>= λ w. try_held stale w) (Fares text) s (λ v a. chained (here_kept text nul v a) (λ w x. fares_stale text w x))
+    either (peek t.rest == 0) (λ e.
+    let none : t.rest ≡ [] = no_end t.rest a.is_clean e in
+    let at : IsPositionIn text [] t.held.position =
+    subst (λ r. IsPositionIn text r t.held.position) none (cut_position text a.separation t.rest a.base a.tokens t.held.position (whole_text text nul) a.position_is (arrives_cut text t a)) in
+    let here : t.held.position ≡ position_after first_position text [] = at.is_position ∙ ap (λ b. position_after first_position b []) (sym (append-nil at.before) ∙ sym at.is_text) in
+    weakened (λ u x. inr (x.0, x.1, record { began = x.2 ∙ a.started; position = x.3 ∙ ap next_line here })) (stream_ended text t a none)) (λ e. weakened (λ u x. inl x) (content_kept text t a (goes_on_here t.rest e)))
 
 -- Each fetch what holds, if the function of each token it.
 pub fetch_keeps : FetchKeeps
-unfolding fetch
-fetch_keeps text t u nul s e = held_of u (either t.held.started (λ _. next_kept text nul t s) (λ n. absurd (cc (n, s.started)))) e
+unfolding fetch fetch_next
+fetch_keeps text t u nul s e =
+    held_of u (either t.held.started (λ _. arrived text t (λ v. fetch_here v >>= λ w. try_held stale w) (Fares text) s (λ v a. chained (here_kept text nul v a) (λ w x. fares_stale text w x)))
+    (λ n. absurd (cc (n, s.started)))) e

@@ -1,13 +1,14 @@
 -- The first of a text's tokens are a cut of a beginning of it.
-use Rattle.proof_scanner.proofs.Common.{Fares, IsCut, IsCutOfBeginning, IsCutUpTo, IsRow, List, None, Option, Position, Reaches, ScannerState, Some, Tok, Token, Written, [], ap, arith, begins, end_token, eqb-true, first_position, has_no_nul, inl, inr, nat_tests, over, refl, rows_are_cuts, spelled_append, start, start_token, stream_end, subst, sym, tokens_of, true, up_to_nul, ℕ, ◌++◌, ◌∙◌, ◌∷◌, ◌≡◌, ◌⊎◌}
+use Rattle.proof_scanner.proofs.Common.{[], ap, arith, begins, end_token, Fares, first_position, has_no_nul, inl, inr, is_empty, IsCut, IsCutOfBeginning, IsCutUpTo, IsRow, IsWhere, List, None, Option, over, Position, Reaches, refl, rows_are_cuts, ScannerState, Some, spelled_append, start, start_token, stream_end, subst, sym, Tok, Token, tokens_of, true, up_to_nul, Written, ℕ, ◌++◌, ◌∙◌, ◌∷◌, ◌≡◌, ◌⊎◌}
 use Rattle.defs_token.specs.Account.{Account, first_account}
-use Rattle.defs_token.specs.Cut.{IsWritten, spelled, account_past}
+use Rattle.defs_token.specs.Cut.{account_past, IsWritten, spelled}
 use Rattle.proof_scanner.specs.Laws.{TokensAreACut}
 use Rattle.proof_scanner.specs.StandsInRow.{goes}
-use Rattle.proof_scanner.proofs.Sound.CutsSoFar.{stands_cut}
+use Rattle.proof_scanner.proofs.Sound.CutsSoFar.{cut_position, stands_cut}
 use Rattle.proof_scanner.proofs.Sound.Sound.{tokens_are_of_a_row}
 use Rattle.proof_scanner.proofs.Sound.Fetches.{fetch_keeps}
 use Rattle.proof_scanner.proofs.Sound.Runs.{reached}
+use Rattle.proof_scanner.proofs.Cut.Documents.{whole_text}
 
 -- the first of a list, or else another
 abbrev first_or : Token → List Token → Token
@@ -21,7 +22,7 @@ rest_of (x ∷ xs) = xs
 -- a row up to one of its tokens
 row_first : (a : Account) (ws vs : List Written) (f : List ℕ) (last : Option Tok) → IsRow a (ws ++ vs) f last → IsRow a ws (spelled vs f) None
 row_first a [] vs f last r = tt
-row_first a (w ∷ []) vs f last r = ((r.0.0, grind (arith, nat_tests, eqb-true)), tt)
+row_first a (w ∷ []) vs f last r = ((r.0.0, grind arith), tt)
 row_first a (w ∷ v ∷ ws) vs f last r =
     let same : spelled ((v ∷ ws) ++ vs) f ≡ spelled (v ∷ ws) (spelled vs f) = spelled_append (v ∷ ws) vs f in
     subst (λ t. IsWritten a w t (Some v.token.tok) × IsRow (account_past a w t) (v ∷ ws) (spelled vs f) None) same
@@ -96,3 +97,20 @@ first_tokens_are_cut text given more t nul run e = by (reached fetch_keeps text 
 -- The tokens that the model gives a text are a cut of it.
 pub tokens_are_cut : TokensAreACut
 tokens_are_cut text ts nul h = rows_are_cuts text ts (tokens_are_of_a_row text ts nul h)
+
+-- ---- where a run has come to in a text, and whether it met the stream's start
+
+pub run_is_where : (text : List ℕ) (t : ScannerState) → has_no_nul text ≡ true → Reaches (start text) t → IsWhere text t
+run_is_where text t nul run = by (reached fetch_keeps text nul (start text) t run (begins refl))
+  where
+    by : Fares text t → IsWhere text t
+    by (begins e) = grind (arith, over)
+    by (goes s) =
+        let c : IsCutUpTo text (s.separation ++ t.rest) s.base t.held.tokens = stands_cut text t s in
+        record {
+          going = λ _. cut_position text s.separation t.rest s.base t.held.tokens t.held.position (whole_text text nul) s.position_is c;
+          over = λ f. absurd (cc (f, s.going));
+          none = λ f. absurd (cc (f, s.started));
+          some = λ _. (ap is_empty c.are_tokens);
+        }
+    by (over f r n) = grind (arith, rows_are_cuts)

@@ -1,13 +1,8 @@
 -- A piece in flow was read: if the definition and the scanner agree on its entries and tokens, what holds where it begins holds between two fetches after it.
-use Rattle.proof_scanner.proofs.Common.{Account, AreEntries, AreNumbered, BeginsButForKey, Bool, Entry, FlowLevel, IsLine, IsOpenOutside, IsPiece, Key, KnowsKey, Line, List, MayChoose, None, NotBefore, Option, Position, ScannerState, Site, SoFar, Some, Stands, Step, Tok, account_past, act_of, ap, begins_free_line, begun_by, chosen, entries_by, entries_past, entry_by, false, has_break, is_empty, is_renewed, is_separation, is_waiting, length, line_by, line_past_separation, may_stand, not, outside_key, position_after, previous_by, refl, seen, shown_position, site_here, site_past, spelled, subst, suc, sym, tokens_at, tokens_of_step, tokens_up_to, true, with_keys, ℕ, ◌&&◌, ◌++◌, ◌∙◌, ◌∷◌, ◌≡◌, ◌≤◌, arith, nat_tests, eqb-true}
-use Rattle.proof_scanner.proofs.Cut.Positions.{not_before_then, not_before_after}
-use Rattle.proof_scanner.proofs.Known.Read.{knows_inside}
-use Rattle.proof_scanner.proofs.Sound.Around.{unbroken_around, one_around, may_around, open_around}
-use Rattle.proof_scanner.proofs.Sound.Arrivals.{some_rest, completes_at, unbroken}
-use Rattle.proof_scanner.proofs.Sound.Completed.{but_for_key_past, goes_past}
+use Rattle.proof_scanner.proofs.Common.{[], Account, account_past, act_of, ap, AreEntries, AreNumbered, arith, begins_free_line, BeginsButForKey, begun_by, begun_inside, Bool, chosen, Colon, colon_of, columns, entries_by, entries_past, Entry, entry_by, false, FlowLevel, had_by, has_break, HasHadHere, is_empty, is_renewed, is_separation, is_waiting, IsEntryOf, IsLine, IsOpenOutside, IsPiece, Key, key_end, KnowsKey, least_column, length, length-append, Line, line_by, line_past_separation, List, may_stand, MayChoose, nat_le, None, not, NotBefore, Option, outside_key, pair_position, pop, Position, position_after, previous_by, put, refl, ScannerState, seen, shown_position, Site, site_here, site_past, SoFar, Some, spelled, Stands, Step, subst, suc, sym, takes_pair, Tok, Token, tokens_at, tokens_of_step, tokens_up_to, true, with_had, with_keys, ℕ, ◌&&◌, ◌++◌, ◌∙◌, ◌∷◌, ◌≡◌, ◌≤◌}
+use Rattle.proof_scanner.proofs.Sound.Common.{among, ArrivesBy, but_for_key_past, completes_at, first_among, goes_past, had_as_it_was, IsDeep, keys_along, keys_first, line_taken, may_around, not_before_after, not_before_then, numbered_around, numbered_more, one_around, open_around, past_step, same_levels, some_rest, unbroken, unbroken_around, with_entries}
+use Rattle.proof_scanner.proofs.Known.Steps.{keyless, knows_inside}
 use Rattle.proof_scanner.proofs.Sound.Reads.{Reads, stands_so}
-use Rattle.proof_scanner.proofs.Sound.Sides.{with_entries, ArrivesBy}
-use Rattle.proof_scanner.proofs.Sound.NodeTokens.{past_step, same_levels}
 
 module _ (text : List ℕ) (t u : ScannerState) (f : FlowLevel) (fs : List FlowLevel) (k : Option Key) (ks : List (Option Key)) (e : Entry) (es : List Entry) (a : ArrivesBy text t (f ∷ fs) (k ∷ ks) (e ∷ es)) (piece next : List ℕ) (tok : Tok) (ls : List (Option Key)) (es2 : List Entry) where
   -- the sites at the piece and after it, and the account after it in which no open key is one
@@ -64,8 +59,8 @@ module _ (text : List ℕ) (t u : ScannerState) (f : FlowLevel) (fs : List FlowL
     are_numbered = g.are_numbered;
     carries = λ cs key own must inside more. subst (λ l. BeginsButForKey text l key.position (chosen false cs ls (account_then t.held.position))) r.is_rest
         (subst (λ p. BeginsButForKey text next key.position (chosen false cs ls (account_then p))) (sym place)
-        (but_for_key_past text (a.separation ++ (piece ++ next)) key.position (before false cs) (chosen false cs ls (account_then piece_here)) (flow_step (n.bit cs)) next refl (grind (arith, nat_tests, eqb-true, same_levels))
-        (account false cs (grind arith) (grind (arith, nat_tests, eqb-true)))
+        (but_for_key_past text (a.separation ++ (piece ++ next)) key.position (before false cs) (chosen false cs ls (account_then piece_here)) (flow_step (n.bit cs)) next refl (grind (arith, same_levels))
+        (account false cs (grind arith) (grind arith))
         (subst (λ x. BeginsButForKey text (a.separation ++ x) key.position (chosen false (n.choice cs ∷ n.outer cs) (k ∷ ks) (with_entries a.site a.line (e ∷ es)))) r.cut (a.carries (n.choice cs ∷ n.outer cs) key (sym g.same_key ∙ own) must refl some))));
     knows = subst (λ y. KnowsKey text (gap ++ u.rest) u.held.position y) (sym g.same_key) (knows_inside text t piece next tok r.cut u.held.position gap u.rest r.position_is r.is_rest f fs k ks e es a ((subst (λ l. is_separation false a.separation l ≡ true) r.cut a.is_filled), (ap not r.is_solid, n.is_piece)));
     completes = λ strict c cs may.
@@ -73,7 +68,7 @@ module _ (text : List ℕ) (t u : ScannerState) (f : FlowLevel) (fs : List FlowL
         subst (λ l. SoFar strict text l (chosen c cs ls (account_then t.held.position)) (tokens_up_to (chosen c cs ls (account_then t.held.position)) ls u.held.tokens)) r.is_rest
         (subst (λ p. SoFar strict text next (chosen c cs ls (account_then p)) (tokens_up_to (chosen c cs ls (account_then p)) ls u.held.tokens)) (sym place)
         (goes_past strict text (a.separation ++ (piece ++ next)) (before c cs) (chosen c cs ls (account_then piece_here)) (tokens_up_to (before c cs) (k ∷ ks) a.tokens) (tokens_up_to (chosen c cs ls (account_then piece_here)) ls u.held.tokens)
-        (flow_step (n.bit cs)) next refl (grind (arith, nat_tests, eqb-true, same_levels))
+        (flow_step (n.bit cs)) next refl (grind (arith, same_levels))
         (account c cs (unbroken_around text t f fs k ks e es a some u.held.position u.rest later strict c was) (one_around text t f fs k ks e es a some u.held.position u.rest later piece g.in_line strict c was))
         (λ _ i. ap (λ y. is_waiting (line_by c y a.line)) g.same_key ∙ i) (tokens c cs)
         (completes_at text t (f ∷ fs) (k ∷ ks) (e ∷ es) a (piece ++ next) piece_here r.cut place strict c (n.choice cs ∷ n.outer cs)
@@ -84,7 +79,7 @@ module _ (text : List ℕ) (t u : ScannerState) (f : FlowLevel) (fs : List FlowL
       some = some_rest t.rest piece next r.cut r.is_solid
 
       later : NotBefore t.held.position u.held.position
-      later = grind (arith, nat_tests, eqb-true, not_before_then, not_before_after)
+      later = grind (arith, not_before_then, not_before_after)
 
       before : Bool → List Bool → Account
       before c cs = chosen c (n.choice cs ∷ n.outer cs) (k ∷ ks) (with_entries a.site a.line (e ∷ es))
@@ -95,8 +90,84 @@ module _ (text : List ℕ) (t u : ScannerState) (f : FlowLevel) (fs : List FlowL
 
       tokens : (c : Bool) (cs : List Bool) (ws : List Step) (last : List ℕ) → spelled ws last ≡ next →
           tokens_up_to (before c cs) (k ∷ ks) a.tokens (flow_step (n.bit cs) ∷ ws) last ++ tokens_of_step (before c cs) (flow_step (n.bit cs)) ws last ≡ tokens_up_to (chosen c cs ls (account_then piece_here)) ls u.held.tokens ws last
-      tokens c cs ws last h = grind (arith, nat_tests, eqb-true)
+      tokens c cs ws last h = grind arith
 
   -- What holds where the piece begins holds between two fetches after it.
   pub steps_in_flow : (gs : List FlowLevel) (gap : List ℕ) → Reads t u (flow_past t.held.position) piece next gap → Enters gs gap → Steps t.held.position → Stands text u
-  steps_in_flow gs gap r g n = grind (arith, nat_tests, eqb-true, steps_there)
+  steps_in_flow gs gap r g n = grind (arith, steps_there)
+
+-- ---- a piece in flow with which its entry goes on, and before and after which no key of the entry waits: `?`, a colon without a key, and a line for the document. What holds where it begins holds between two fetches after it
+
+-- where a piece begins deep enough, the least column is not right of it
+pub low_enough : (text : List ℕ) (t : ScannerState) (f : FlowLevel) (fs : List FlowLevel) (ks : List (Option Key)) (es : List Entry) (a : ArrivesBy text t (f ∷ fs) ks es) → IsDeep t.held → nat_le (least_column a.site.blocks a.site.awaits) t.held.position.col ≡ true
+low_enough text t f fs ks es a deep = grind (arith, columns)
+
+-- the tokens of the step: the start of a single pair, and the token that the piece shows
+abbrev pub tokens_inside : Site → (piece : List ℕ) → Tok → (next : List ℕ) → Entry → List Token
+tokens_inside x piece tok next e =
+    let own : Position = pair_position (position_after x.position piece next) next in
+    begun_inside (takes_pair e.kind e.pair) e.pair x.position own own (act_of tok) false e.had ++ (put (shown_position x piece tok next) tok ∷ [])
+
+-- what an entry and the open keys around it ask of the tokens
+pub numbered_then : (before after : List Token) (k : Option Key) (ks : List (Option Key)) (own : List Token) → after ≡ before ++ own → AreNumbered (length before) (k ∷ ks) → AreNumbered (length after) ks
+numbered_then before after k ks own e h = grind (arith, length-append, numbered_more, numbered_around)
+
+-- the tokens of such a step, before a key around the entry has its colon
+module _ (text : List ℕ) (t : ScannerState) (f : FlowLevel) (fs : List FlowLevel) (k : Option Key) (ks : List (Option Key)) (e : Entry) (es : List Entry) (a : ArrivesBy text t (f ∷ fs) (k ∷ ks) (e ∷ es)) (piece next : List ℕ) (tok : Tok) (cut : t.rest ≡ piece ++ next) where
+  abbrev at_text : List ℕ → Site
+  at_text y = site_here true (position_after a.site.position a.separation (piece ++ y)) a.site
+
+  pub keyless_tokens : (l : Line) (xs : List Entry) (ws : List Step) (last : List ℕ) → spelled ws last ≡ next →
+      (let w : Step = keyless a.separation piece tok in tokens_up_to (with_entries a.site l (entry_by false k e ∷ xs)) (k ∷ ks) a.tokens (w ∷ ws) last ++ tokens_at a.site (at_text (spelled ws last)) w ws last l (entry_by false k e ∷ xs) ≡
+      with_keys 1 a.site.position (w ∷ ws) last a.site.blocks l xs ks (a.tokens ++ tokens_inside (site_here true t.held.position a.site) piece tok next e))
+  keyless_tokens l xs ws last h =
+      let w : Step = keyless a.separation piece tok in
+      let p : Position = a.site.position in
+      let x : Site = at_text (spelled ws last) in
+      let own : List Token = tokens_inside (site_here true t.held.position a.site) piece tok next e in
+      let single : Bool = takes_pair e.kind e.pair in
+      let past : Position = position_after x.position piece (spelled ws last) in
+      let there : Position = pair_position past (spelled ws last) in
+      let at_end : Colon = key_end tok past ws last in
+      let first : with_had (colon_of 0 p (w ∷ ws) last) single (had_by false k e.had) k a.tokens ≡ a.tokens =
+      rw (had_as_it_was k e.had) (grind arith) in
+      let second : tokens_at a.site x w ws last l (entry_by false k e ∷ xs) ≡ own =
+      ap (λ y. y ++ (put (shown_position x piece tok (spelled ws last)) tok ∷ []))
+      ((grind arith) ∙ ap (λ y. begun_inside single e.pair x.position there there (act_of tok) false y) (had_as_it_was k e.had)) ∙
+      (ap (λ y. tokens_inside (at_text y) piece tok y e) h ∙ ap (λ q. tokens_inside (site_here true q a.site) piece tok next e) (sym (a.position_is ∙ ap (λ y. position_after p a.separation y) cut))) in
+      ap (λ y. with_keys 1 p (w ∷ ws) last a.site.blocks l xs ks y ++ tokens_at a.site x w ws last l (entry_by false k e ∷ xs)) first ∙
+      (ap (λ y. with_keys 1 p (w ∷ ws) last a.site.blocks l xs ks a.tokens ++ y) second ∙
+      sym (keys_first 1 p (w ∷ ws) last a.site.blocks l xs ks a.tokens own (first_among (length a.tokens) k ks (among (length a.tokens) (k ∷ ks) a.are_numbered)).1))
+
+module _ (text : List ℕ) (t u : ScannerState) (f g : FlowLevel) (fs : List FlowLevel) (k : Option Key) (ks : List (Option Key)) (e e2 : Entry) (es : List Entry) (a : ArrivesBy text t (f ∷ fs) (k ∷ ks) (e ∷ es)) (piece next : List ℕ) (tok : Tok) where
+  abbrev at_piece : Site
+  at_piece = site_here true t.held.position a.site
+
+  -- What is to be known of such a piece; no colon of a key around the entry is this piece, and it opens or closes no collection.
+  pub record GoesInside (gap : List ℕ) : Type 0 where
+    pub flow_is : u.held.flow ≡ g ∷ fs
+    pub keys_are : u.held.keys ≡ None ∷ ks
+    pub entry_is : IsEntryOf g None e2
+    pub has_had : HasHadHere u.held.key_allowed (is_renewed (previous_by tok) gap) None e2.had
+    pub in_line : has_break piece ≡ false
+    pub begun : begun_by tok ≡ []
+    pub is_piece : IsPiece (seen (with_entries a.site a.line (e ∷ es)) at_piece a.separation) piece next None (shown_position at_piece piece tok next) tok
+    pub stands : may_stand true a.site at_piece a.separation piece tok next ≡ true
+    pub entry_past : (xs : List Entry) → entries_past t.held.position (is_renewed a.site.before a.separation) (act_of tok) [] false e xs ≡ Some (e2 ∷ xs)
+    pub colons : (n : ℕ) (p : Position) (ws : List Step) (last : List ℕ) → let w : Step = keyless a.separation piece tok in colon_of (suc n) p (w ∷ ws) last ≡ colon_of (suc n) (past_step p w ws last) ws last
+    pub tokens_are : u.held.tokens ≡ a.tokens ++ tokens_inside at_piece piece tok next e
+
+  pub goes_inside : (gap : List ℕ) → Reads t u (flow_past text t u f fs k ks e es a piece next tok (None ∷ ks) (e2 ∷ es) t.held.position) piece next gap → GoesInside gap → Stands text u
+  goes_inside gap r n =
+      steps_in_flow text t u f fs k ks e es a piece next tok (None ∷ ks) (e2 ∷ es) (g ∷ fs) gap r (assumption (n, a, line_taken text t f fs k ks e es a, numbered_then a.tokens u.held.tokens k ks (tokens_inside at_piece piece tok next e) n.tokens_are a.are_numbered)) (record {
+        is_piece = n.is_piece;
+        stands = n.stands;
+        choice = λ cs. false;
+        outer = pop;
+        bit = λ cs. false;
+        entry_past = λ cs. rw (n.begun, had_as_it_was k e.had) (n.entry_past (entries_by (pop cs) ks es));
+        tokens_are = λ cs l ws last h. keyless_tokens text t f fs k ks e es a piece next tok r.cut l (entries_by (pop cs) ks es) ws last h ∙
+            (keys_along (λ m. suc m) (λ m. suc m) (λ m. refl) (λ m. refl) 0 a.site.position (past_step a.site.position (keyless a.separation piece tok) ws last) (keyless a.separation piece tok) ws last
+            (λ m. n.colons m a.site.position ws last) a.site.blocks l (entries_by (pop cs) ks es) ks (a.tokens ++ tokens_inside at_piece piece tok next e) ∙
+            ap (λ ts. with_keys 1 (past_step a.site.position (keyless a.separation piece tok) ws last) ws last a.site.blocks l (entries_by (pop cs) ks es) ks ts) (sym n.tokens_are));
+      })

@@ -1,5 +1,5 @@
 -- The last line of a text as the text grows, and the column after it.
-use Rattle.proof_scanner.proofs.Common.{Bool, List, Position, [], and_parts, ap, arith, eqb-true, false, has_break, has_no_break, has_tab_within, if◌then◌else◌, inl, inr, is_at_line_end, is_before_line_feed, is_break, is_empty, is_one_of, is_separation, last_line, length, nat_tests, not, not-true, or-true, position_after, position_past, put_first, refl, split, split_by, suc, take, take-append-le, true, zero, ℕ, ◌&&◌, ◌++◌, ◌+◌, ◌==◌, ◌||◌, ◌∙◌, ◌∷◌, ◌≡◌, ◌≤◌, ◌⊎◌}
+use Rattle.proof_scanner.proofs.Common.{[], and_parts, ap, arith, Bool, eqb-true, false, has_break, has_no_break, has_tab_within, if◌then◌else◌, inl, inr, is_at_line_end, is_before_line_feed, is_break, is_empty, is_one_of, is_separation, last_line, length, List, nat_lt, nat_tests, not, not-true, or-true, Position, position_after, position_past, put_first, refl, split, split_by, suc, take, take-append-le, true, zero, ℕ, ◌&&◌, ◌++◌, ◌+◌, ◌-◌, ◌==◌, ◌||◌, ◌∙◌, ◌∷◌, ◌≡◌, ◌≤◌, ◌⊎◌}
 
 -- ---- breaks in a text and one character more
 
@@ -22,21 +22,21 @@ complete_is (c ∷ r) = by (is_break c) (is_before_line_feed c r) refl (complete
     kept a last = grind arith
 
     by : (x y : Bool) → is_before_line_feed c r ≡ y → is_empty (split r).complete ≡ has_no_break r → is_empty (split_by x y c (split r)).complete ≡ (not x && has_no_break r)
-    by b a e h = grind (arith, nat_tests, eqb-true, not-true, feed_breaks, kept)
+    by b a e h = grind (arith, not-true, feed_breaks, kept)
 
 -- one character more at its start
 pub last_first : (c : ℕ) (r : List ℕ) → last_line (c ∷ r) ≡ (if is_break c || has_break r then last_line r else c ∷ last_line r)
-last_first c r = (grind (arith, nat_tests, eqb-true)) ∙ ap (λ b. if is_break c || not b then last_line r else c ∷ last_line r) (complete_is r)
+last_first c r = (grind arith) ∙ ap (λ b. if is_break c || not b then last_line r else c ∷ last_line r) (complete_is r)
 
 -- one character more at its end
 pub last_more : (g : List ℕ) (c : ℕ) → last_line (g ++ c ∷ []) ≡ (if is_break c then [] else last_line g ++ c ∷ [])
 last_more [] c = grind arith
-last_more (d ∷ g) c = grind (arith, nat_tests, eqb-true, last_first, break_append, last_more g c)
+last_more (d ∷ g) c = grind (arith, last_first, break_append, last_more g c)
 
 -- a text of one line is its last line
 pub last_whole : (g : List ℕ) → has_break g ≡ false → last_line g ≡ g
 last_whole [] h = refl
-last_whole (c ∷ g) h = grind (arith, nat_tests, eqb-true, last_first, last_whole g)
+last_whole (c ∷ g) h = grind (arith, last_first, last_whole g)
 
 -- ---- the column after it
 
@@ -56,9 +56,6 @@ column_after p (c ∷ g) a h = grind (arith, nat_tests, eqb-true, last_first, fe
 
 -- ---- no `#` in it, outside comments
 
-in_no_comment : (d : ℕ) (l : List ℕ) → (35 == d) ≡ false → is_one_of l 35 ≡ false → is_one_of (d ∷ l) 35 ≡ false
-in_no_comment d l e f = rw (e, f) refl
-
 -- where a separation ends within a line, and not in a comment, its last line has no `#`
 pub no_comment_in_last : (g rest : List ℕ) → is_separation false g rest ≡ true → is_at_line_end rest ≡ false → is_one_of (last_line g) 35 ≡ false
 no_comment_in_last g rest h ends = (both g).0 h
@@ -67,8 +64,8 @@ no_comment_in_last g rest h ends = (both g).0 h
     Both g = (is_separation false g rest ≡ true → is_one_of (last_line g) 35 ≡ false) × (is_separation true g rest ≡ true → (has_break g ≡ true) × (is_one_of (last_line g) 35 ≡ false))
 
     both : (g : List ℕ) → Both g
-    both [] = grind (arith, nat_tests, eqb-true)
-    both (c ∷ g) = grind (arith, nat_tests, Both, last_first, or-true, in_no_comment, eqb-true, both g)
+    both [] = grind arith
+    both (c ∷ g) = grind (arith, nat_tests, Both, last_first, or-true, eqb-true, both g)
 
 -- ---- TABs in its first columns
 
@@ -82,5 +79,17 @@ tab_within_more n l c (inl other) h = go n l h
     go (suc n) [] h = rw other (none n)
       where
         none : (n : ℕ) → is_one_of (take n []) 9 ≡ false
-        none a = grind (arith, nat_tests, eqb-true)
+        none a = grind arith
     go (suc n) (x ∷ l) h = grind (arith, go n l)
+
+-- ---- tABs among the blanks of a line, left of a column
+
+pub take_none : (n : ℕ) → ◌≡◌ {A = List ℕ} (take n []) []
+take_none a = grind arith
+
+pub none_before : (column : ℕ) → column - 0 ≡ column
+none_before column = omega arith
+
+-- A blank in a column, before others: no TAB stands left of a later column if none does there, and the blank is no TAB left of it.
+pub blank_more : (k column c : ℕ) (bs : List ℕ) → ((c == 9) && nat_lt k column) ≡ false → has_tab_within (column - suc k) bs ≡ false → has_tab_within (column - k) (c ∷ bs) ≡ false
+blank_more k column c bs h others = grind arith

@@ -1,5 +1,5 @@
 -- A step outside flow: if the definition and the scanner agree on what may begin after it and on its tokens, whatever completes the row after it completes it from before.
-use Rattle.proof_scanner.proofs.Common.{Account, Bool, IsCutUpTo, IsPiece, IsWritten, Line, List, None, Outside, Site, SoFar, Some, Step, Tok, Token, [], act_of, ap, arith, begins_free_line, begun_by, begun_outside, cut_past_no_key, ends_at, eqb-true, false, has_break, is_deeper, is_empty, is_in_column, is_separation, is_waiting, line_past, line_past_separation, may_stand, nat_tests, not, past_by, past_outside, past_site, put, refl, seen, shown_position, site_at, site_past, spelled, subst, sym, tokens_of_step, true, ℕ, ◌&&◌, ◌++◌, ◌∙◌, ◌∷◌, ◌≡◌}
+use Rattle.proof_scanner.proofs.Common.{Account, Bool, IsCutUpTo, IsPiece, IsWritten, Line, List, None, Outside, Site, SoFar, Some, Step, Tok, Token, [], act_of, ap, arith, begins_free_line, begun_by, begun_outside, cut_past_no_key, ends_at, false, has_break, is_deeper, is_empty, is_in_column, is_separation, is_waiting, line_past, line_past_separation, may_stand, not, past_by, past_outside, past_site, put, refl, seen, shown_position, site_at, site_past, spelled, subst, sym, tokens_of_step, true, ℕ, ◌&&◌, ◌++◌, ◌∙◌, ◌∷◌, ◌≡◌}
 use Rattle.proof_scanner.proofs.Sound.Completed.{completed_past}
 
 -- an account outside flow
@@ -7,7 +7,7 @@ abbrev pub Outer : Site → Line → Account
 Outer s l = record { site = s; line = l; entries = [] }
 
 pub no_waiting : (b w : Bool) → w ≡ false → (b && w) ≡ false
-no_waiting a w h = grind (arith, nat_tests, eqb-true)
+no_waiting a w h = grind arith
 
 -- the tokens of a step without a key: ends of block collections, the start of one, and the token that the piece shows
 abbrev pub tokens_then : Site → Site → (piece : List ℕ) → Tok → (next : List ℕ) → Line → List Token
@@ -52,4 +52,4 @@ module _ (text : List ℕ) (s : Site) (separation piece next : List ℕ) (tok : 
   -- the tokens after a step without a key
   pub outer_tokens : (l m : Line) → line_past_separation false (begins_free_line s.before separation) l ≡ Some m → (ts : List Token) (ws : List Step) (last : List ℕ) → spelled ws last ≡ next →
       ts ++ tokens_of_step (Outer s l) (outer_step false) ws last ≡ ts ++ tokens_then s x piece tok next m
-  outer_tokens l m line_is ts ws last h = grind (arith, nat_tests, eqb-true)
+  outer_tokens l m line_is ts ws last h = grind arith

@@ -1,13 +1,10 @@
 -- A piece outside flow before and after which no key waits: what holds where it begins holds between two fetches after it.
 use Rattle.std.proofs.lemmas.List.{append-nil}
-use Rattle.proof_scanner.proofs.Common.{Account, Bool, Completes, IsCarriedOn, IsLine, IsLineHere, IsPiece, IsWritten, Key, Line, List, MayChoose, None, Option, Outside, Position, ScannerState, Site, SoFar, Some, Stands, Tok, Token, [], act_of, ap, append_assoc, arith, begins_free_line, begun_by, columns, false, free, has_break, if◌then◌else◌, is_deeper, is_in_column, is_separation, is_waiting, line_past, may_stand, not_ended, opened, placed, position_after, previous_by, refl, seen, shown_position, site_at, site_in, site_past, start_if, subst, sym, token, true, ℕ, ◌++◌, ◌∙◌, ◌∷◌, ◌≡◌, eqb-true, nat_tests}
-use Rattle.proof_scanner.proofs.Known.Read.{keyless, knows_none}
-use Rattle.proof_scanner.proofs.Known.Steps.{begins_key}
-use Rattle.proof_scanner.proofs.Sound.Sides.{with_entries, ArrivesBy}
-use Rattle.proof_scanner.proofs.Sound.Completed.{goes_of}
-use Rattle.proof_scanner.proofs.Sound.OutOfFlow as out
-use Rattle.proof_scanner.proofs.Sound.OutOfFlow.{tokens_then, no_waiting}
+use Rattle.proof_scanner.proofs.Common.{[], Account, act_of, ap, append_assoc, arith, begins_free_line, begun_by, Bool, columns, Completes, false, free, has_break, if◌then◌else◌, is_deeper, is_empty, is_in_column, is_separation, is_waiting, IsCarriedOn, IsLine, IsLineHere, IsPiece, IsWritten, Key, Line, line_past, List, may_stand, MayChoose, None, not_ended, opened, Option, Outside, placed, Position, position_after, previous_by, refl, ScannerState, seen, shown_position, Site, site_at, site_in, site_past, SoFar, Some, Stands, start_if, subst, sym, Tok, Token, token, true, ℕ, ◌++◌, ◌∙◌, ◌∷◌, ◌≡◌}
+use Rattle.proof_scanner.proofs.Known.Steps.{keyless, knows_none, begins_key}
+use Rattle.proof_scanner.proofs.Sound.Common.{ArrivesBy, goes_of, is_written, may_be_no_key, no_waiting, outer_completes, outer_tokens, tokens_then, with_entries}
 use Rattle.proof_scanner.proofs.Sound.Reads.{Reads, stands_so}
+use Rattle.proof_scanner.proofs.Sound.Stales.{none_completes}
 
 -- what may begin after an indicator that begins a block collection, if none has begun there
 abbrev pub begun_after : (here : Position) → List ℕ → Outside
@@ -52,12 +49,12 @@ pub record ReadOutside (text : List ℕ) (t u : ScannerState) (a : ArrivesBy tex
 pub read_outside : (text : List ℕ) (t u : ScannerState) (a : ArrivesBy text t [] (None ∷ []) []) (piece next gap : List ℕ) (tok : Tok) (after : Outside) (x : Site) → site_in false (act_of tok) t.held.position a.site ≡ x →
     Reads t u (site_then x piece tok next after) piece next gap → EndsOutside u tok after.line gap → ReadOutside text t u a piece next tok after x → Stands text u
 read_outside text t u a piece next gap tok after x same r m n =
-    ends_outside text t u None a piece next gap tok after x (ap (λ y. y.position) same) r m (out.is_written text a.site a.separation piece next tok x here true false a.line a.line_here after (assumption (ap (λ l. is_separation false a.separation l) (sym r.cut) ∙ a.is_filled, r, n, a, no_waiting (has_break piece) (is_waiting after.line) m.no_key, m))) n.begins_none
+    ends_outside text t u None a piece next gap tok after x (ap (λ y. y.position) same) r m (is_written text a.site a.separation piece next tok x here true false a.line a.line_here after (assumption (ap (λ l. is_separation false a.separation l) (sym r.cut) ∙ a.is_filled, r, n, a, no_waiting (has_break piece) (is_waiting after.line) m.no_key, m))) n.begins_none
     (λ strict. goes_of strict text next (with_entries (site_then x piece tok next after) after.line []) u.held.tokens (rw m.no_key refl) m.no_key
     (subst (λ ts. Completes text next (with_entries (site_then x piece tok next after) after.line []) (λ ws last. ts)) (sym n.tokens_are)
     (subst (λ es. Completes text next (with_entries (site_then x piece tok next after) after.line es) (λ ws last. a.tokens ++ tokens_then a.site x piece tok next a.line_here)) n.begun
-    (out.outer_completes text a.site a.separation piece next tok x here true false a.line a.line_here after (λ ws last. a.tokens) (λ ws last. a.tokens ++ tokens_then a.site x piece tok next a.line_here) (assumption (ap (λ l. is_separation false a.separation l) (sym r.cut) ∙ a.is_filled, r, n, a, no_waiting (has_break piece) (is_waiting after.line) m.no_key, m))
-    (λ ws last h. out.outer_tokens text a.site a.separation piece next tok x here a.line a.line_here a.is_line a.tokens ws last h)
+    (outer_completes text a.site a.separation piece next tok x here true false a.line a.line_here after (λ ws last. a.tokens) (λ ws last. a.tokens ++ tokens_then a.site x piece tok next a.line_here) (assumption (ap (λ l. is_separation false a.separation l) (sym r.cut) ∙ a.is_filled, r, n, a, no_waiting (has_break piece) (is_waiting after.line) m.no_key, m))
+    (λ ws last h. outer_tokens text a.site a.separation piece next tok x here a.line a.line_here a.is_line a.tokens ws last h)
     (subst (λ l. Completes text (a.separation ++ l) (with_entries a.site a.line []) (λ ws last. a.tokens)) r.cut (a.completes true false [] tt))))))
   where
     here : site_at false a.site a.separation piece tok next ≡ x
@@ -72,4 +69,16 @@ line_free allowed rest l e h = grind arith
 -- the tokens of a piece with which a block collection may begin
 pub started_tokens : (begins : Bool) (ts before ends : List Token) (p : Position) (start : Tok) (own : Token) → ts ≡ before ++ ends →
     (if begins then placed None (token p start) ts else ts) ++ own ∷ [] ≡ before ++ ((ends ++ start_if begins p start) ++ (own ∷ []))
-started_tokens begins ts before ends p start own e = grind (arith, nat_tests, eqb-true, append_assoc, append-nil)
+started_tokens begins ts before ends p start own e = grind (arith, append_assoc, append-nil)
+
+-- ---- an open key that need not be one is dropped where a piece begins
+
+-- Outside flow what holds where a piece begins holds without the open key, unless that must be one.
+unfoldable pub key_gone : (text : List ℕ) (t : ScannerState) (k : Option Key) → ArrivesBy text t [] (k ∷ []) [] → is_empty t.rest ≡ false → MayChoose true false k t.held.position t.rest → ArrivesBy text t [] (None ∷ []) []
+key_gone text t k a some may =
+    let base : Account = with_entries a.site a.line [] in
+    let carries : IsCarriedOn text (a.separation ++ t.rest) t.rest (None ∷ []) base = λ cs x key m inside some. absurd (cc inside) in
+    let completes : (strict c : Bool) (cs : List Bool) → MayChoose strict c None t.held.position t.rest → SoFar strict text (a.separation ++ t.rest) base (λ ws last. a.tokens) =
+    λ strict c cs _. none_completes strict text (a.separation ++ t.rest) base (k ∷ []) a.tokens a.no_key refl (a.completes strict false [] (may_be_no_key strict k t.held.position t.rest may)) in
+    let line : IsLineHere false t.held.key_allowed t.rest None a.line_here = grind arith in
+    record { site = a.site; line = a.line; known = search (a.among, line, carries, completes); knows = λ e. absurd (cc e) }

@@ -1,23 +1,13 @@
 -- Plain scalars: what holds between two fetches holds after them.
-use Rattle.proof_scanner.proofs.Common.{Arrives, Bool, Context, Entry, FlowLevel, HasNoTabs, Held, Holds, IsPiece, IsPlainRead, Key, Levels, List, None, Ok, Option, Plain, Position, ScannerState, Site, Some, Stands, Style, Tok, [], after_plain, allow_key, and_parts, ap, arith, awaits_past, before_by, before_past, begins_plain, begins_separation, begins_solid, begins_white, collection_column, collection_of, comes_plain, context, ends_with_content, eqb-true, false, fetch_plain_scalar, has_break, has_dash_before_flow, has_no_nul, has_open_level, in_flow, innermost, innermost_column, is_adjacent, is_blank, is_break, is_deep_enough, is_empty, is_gap, is_indented, is_no_comment, is_one_of, is_renewed, is_white, is_whole_plain, leading, least_column, lexed, map, nat_tests, not, on_held, other, plain_lines_fit, plain_scalar, plain_value, position_after, position_append, push, read, read_as, refl, scans_end, seen, subst, sym, true, unroll_non_block_indents, went, whole_plain, without_open, ℕ, ◌&&◌, ◌++◌, ◌==◌, ◌∙◌, ◌∷◌, ◌≡◌, ◌≤◌}
+use Rattle.proof_scanner.proofs.Common.{Arrives, Bool, Context, Entry, FlowLevel, HasNoTabs, Holds, IsPiece, IsPlainRead, Key, Levels, List, None, Ok, Option, Plain, Position, ScannerState, Site, Some, Stands, Style, Tok, [], after_plain, allow_key, and_parts, ap, arith, awaits_past, before_by, before_past, begins_plain, begins_separation, begins_solid, begins_white, collection_column, collection_of, comes_plain, context, ends_with_content, eqb-true, false, fetch_plain_scalar, has_break, has_dash_before_flow, has_no_nul, has_open_level, in_flow, innermost, innermost_column, is_adjacent, is_blank, is_break, is_deep_enough, is_empty, is_gap, is_indented, is_no_comment, is_one_of, is_renewed, is_white, is_whole_plain, leading, least_column, lexed, map, nat_tests, not, on_held, other, plain_lines_fit, plain_scalar, plain_value, position_after, position_append, push, read, read_as, refl, scans_end, seen, subst, sym, true, unroll_non_block_indents, went, whole_plain, without_open, ℕ, ◌&&◌, ◌++◌, ◌==◌, ◌∙◌, ◌∷◌, ◌≡◌, ◌≤◌, put}
 use Rattle.defs_token.specs.Account.{Account as PieceAccount, is_in_flow}
 use Rattle.model_scanner.specs.Machine as machine
 use Rattle.model_scanner.specs.Plain.{plain}
 use Rattle.proof_lexers.specs.PlainEnds as plains
-use Rattle.proof_scanner.proofs.Cut.Pieces.Separations.{white_is_no_hash, gap_is_separation}
+use Rattle.proof_scanner.proofs.Sound.Steps.{adjacent_kept, allowed_past, AreClosed, ArrivesBy, ends_in_line, gap_is_separation, IsDeep, IsRead, less_or, next_of, node_read, not_before_after, on_one_line, Read, same_flow, same_has_break, saved_is, saved_keys, site_of, site_then, state_after, white_is_no_hash, with_entries, without_is}
 use Rattle.proof_scanner.proofs.Cut.Pieces.Inserted.{no_break_on_line}
-use Rattle.proof_scanner.proofs.Cut.Positions.{not_before_after}
-use Rattle.proof_scanner.proofs.Cut.Saved.{saved_keys, saved_is}
-use Rattle.proof_scanner.proofs.Cut.Nodes.{IsDeep, less_or}
-use Rattle.proof_scanner.proofs.Sound.Sides.{with_entries, ArrivesBy}
-use Rattle.proof_scanner.proofs.Sound.StreamEnds.{same_flow}
-use Rattle.proof_scanner.proofs.Sound.Passed.{same_has_break}
-use Rattle.proof_scanner.proofs.Sound.QuotedEnds.{ends_in_line, on_one_line}
 use Rattle.proof_scanner.proofs.Sound.PlainLines.{PlainFits, plain_fits}
-use Rattle.proof_scanner.proofs.Sound.WithoutOpen.{AreClosed, without_is}
-use Rattle.proof_scanner.proofs.Sound.ReadNodes.{Read, next_of, site_of, site_then, allowed_past, IsRead, node_read, state_after}
 use Rattle.proof_scanner.proofs.Cut.Pieces.Plains.{begins_as_read}
-use Rattle.proof_scanner.proofs.Sound.Reads.{adjacent_kept}
 
 -- ---- what was read
 
@@ -38,18 +28,9 @@ plain_as : (ctx : Context) (p : Position) (text : List ℕ) (x : machine.Read Pl
 plain_as ctx p text x none begins indented e = by x (read_as e (scans_end ctx text p none begins indented)) e
   where
     by : (y : machine.Read Plain) → IsPlainRead ctx p text y → plain ctx text p ≡ Ok y → PlainAs ctx p text y
-    by y (whole_plain piece gap rest value cut whole white ends value_is) k = record {
-      piece = piece;
-      gap = gap;
-      cut = cut;
-      whole = whole;
-      white = white;
-      ends = ends;
-      value_is = value_is;
-      leads = same_has_break gap;
-      end_is = position_append p piece gap rest;
-      fits = plain_fits ctx p text piece gap (plains.after_plain p piece gap rest value) begins cut k;
-    }
+    by y (whole_plain piece gap rest value cut whole white ends value_is) k =
+        let fits = plain_fits ctx p text piece gap (plains.after_plain p piece gap rest value) begins cut k in
+        search (cut, whole, white, ends, value_is, same_has_break gap, position_append p piece gap rest, fits)
 
 -- ---- its piece and its gap
 
@@ -63,12 +44,7 @@ whole_solid fl a b d h = grind arith
 -- a gap has no comment
 pub no_comment : (g : List ℕ) → is_gap g ≡ true → (is_one_of g 35 ≡ false) × (leading is_no_comment g ≡ g)
 no_comment [] h = (refl, refl)
-no_comment (c ∷ g) h = grind (arith, nat_tests, eqb-true, and_parts, white_is_no_hash, no_comment g)
-
--- a gap that stays on its line has no break
-gap_in_line : (q : Position) (g rest : List ℕ) → is_empty rest ≡ false → begins_white rest ≡ false → (position_after q g rest).line ≤ q.line → has_break g ≡ false
-unfolding is_break
-gap_in_line q g a some ends h = grind (arith, nat_tests, no_break_on_line, eqb-true)
+no_comment (c ∷ g) h = grind (arith, and_parts, white_is_no_hash, no_comment g)
 
 -- what begins no separation begins with content
 pub solid_text : (text : List ℕ) → is_empty text ≡ false → begins_separation text ≡ false → begins_solid text ≡ true
@@ -115,7 +91,8 @@ module _ (text : List ℕ) (t : ScannerState) (a : Arrives text t) (deep : IsDee
     in_line = grind (arith, nat_tests, eqb-true, content_last, and_parts)
 
     one_line_of : is_empty x.rest ≡ false → x.position.line ≤ t.held.position.line → (has_break q.piece ≡ false) × (has_break q.gap ≡ false)
-    one_line_of some h = grind (arith, nat_tests, eqb-true, q, not_before_after, on_one_line, in_line, gap_in_line)
+    unfolding is_break
+    one_line_of some h = grind (arith, q, not_before_after, on_one_line, in_line, no_break_on_line)
 
     allowed_by : (fl : Bool) → x.value.leading ≡ allowed_past None fl plain_scalar q.gap
     allowed_by true = q.leads ∙ ap has_break (sym (no_comment q.gap q.white).1)
@@ -156,7 +133,7 @@ module _ (text : List ℕ) (t : ScannerState) (a : Arrives text t) (deep : IsDee
       deep_by a h = grind (arith, nat_tests, eqb-true, q, least_here)
 
       no_tabs : HasNoTabs (site_then t fs r.site d) q.gap x.rest
-      no_tabs = grind (arith, nat_tests, eqb-true, q, none_awaits, no_comment, least_here)
+      no_tabs = grind (arith, q, none_awaits, no_comment, least_here)
 
       pub is_read : IsRead t None fs r.site r.line es r.separation d
       is_read =
@@ -166,29 +143,16 @@ module _ (text : List ℕ) (t : ScannerState) (a : Arrives text t) (deep : IsDee
           let further : plain_lines_fit (least_column at.blocks true) q.piece ≡ true = ap (λ n. plain_lines_fit n q.piece) least_here ∙ q.fits.lines in
           assumption (q, closed, (whole_solid ctx.flow (collection_of ctx.indent) q.piece (q.gap ++ x.rest) q.whole), far, filled, (r.blocks_are ∙ closed.same_columns), awaits_then, no_tabs, piece_is, deep_by fl (sym (ap (λ f. not (is_empty f)) flow)), further, (ap not (ap (λ y. y && has_dash_before_flow q.piece (next_of d)) (sym (ap (λ f. not (is_empty f)) flow)) ∙ q.fits.dash)), allowed_by fl, one_line_of)
 
-    abbrev pub scalar_held : Held
-    scalar_held = record t.held {
-      position = x.position;
-      keys = saved_keys t.held;
-      indents = gone.indents;
-      indent = gone.indent;
-      tokens = gone.tokens;
-      key_allowed = false;
-    }
-
-    pub stands : Stands text (record { rest = x.rest; held = push t.held.position tok (after_plain x.value.leading scalar_held) })
+    pub stands : Stands text (record (state_after t None d) { held = record (state_after t None d).held { tokens = gone.tokens ++ put t.held.position tok ∷ [] } })
     stands =
-        subst (λ ts. Stands text (record { rest = x.rest; held = push t.held.position tok (after_plain x.value.leading (record scalar_held { tokens = ts })) })) (sym closed.same_tokens)
+        subst (λ ts. Stands text (record (state_after t None d) { held = record (state_after t None d).held { tokens = ts ++ put t.held.position tok ∷ [] } })) (sym closed.same_tokens)
         (node_read text t None d deep a (λ fs ks es f r. is_read fs ks es f r))
 
 -- a plain scalar
-pub plain_keeps_by : (text : List ℕ) (t : ScannerState) → IsDeep t.held → comes_plain (in_flow t.held) (t.held.position.index == t.held.adjacent_value_at) t.held.position.col t.rest ≡ true → Arrives text t → Holds (Stands text) (fetch_plain_scalar t)
+pub plain_keeps : (text : List ℕ) (t : ScannerState) (a : Arrives text t) → IsDeep t.held → comes_plain (in_flow t.held) (is_adjacent (before_past (before_by a.base.site.before) a.separation)) t.held.position.col t.rest ≡ true → Holds (Stands text) (fetch_plain_scalar t)
 unfolding fetch_plain_scalar unroll_non_block_indents
-plain_keeps_by text t deep comes a =
+plain_keeps text t a deep there =
+    let comes : comes_plain (in_flow t.held) (t.held.position.index == t.held.adjacent_value_at) t.held.position.col t.rest ≡ true = grind arith in
     subst (λ h. Holds (Stands text) (lexed (plain (context (unroll_non_block_indents (allow_key false h))) t.rest t.held.position) (unroll_non_block_indents (allow_key false h))
     (λ r u. Ok (on_held (λ v. push t.held.position (Tok.scalar Style.plain r.text) (after_plain r.leading v)) u)))) (sym (saved_is t.held))
     (read (unroll_non_block_indents (allow_key false (record t.held { keys = saved_keys t.held }))) (plain (ctx text t a deep comes) t.rest t.held.position) _ (λ x k. went (stands text t a deep comes x k)))
-
--- the same, as the dispatch knows it
-pub plain_keeps : (text : List ℕ) (t : ScannerState) (a : Arrives text t) → IsDeep t.held → comes_plain (in_flow t.held) (is_adjacent (before_past (before_by a.base.site.before) a.separation)) t.held.position.col t.rest ≡ true → Holds (Stands text) (fetch_plain_scalar t)
-plain_keeps text t a deep comes = plain_keeps_by text t deep (grind arith) a

@@ -1,14 +1,12 @@
 -- The scan of a plain scalar refuses TABs that indent its further lines, and in flow a dash before a flow indicator.
-use Rattle.proof_scanner.proofs.Common.{Bool, Context, Err, Fault, List, Ok, Plain, PlainState, Position, Read, Result, Stop, Turn, [], after_first, and_false, and_parts, and_then, ap, append_assoc, append_cancel_right, arith, at_break, at_char, at_dash, at_gap, begins_flow, begins_solid, ended, eqb-true, fail, false, first, has_break, has_dash_before_flow, has_tab_within, if◌then◌else◌, inl, inr, is_at_comment_or_end, is_before_line_feed, is_blanks, is_cr_lf, is_gap, joined, last_line, leading, lines_have_no_tab, nat_lt, nat_tests, not, not-true, nothing, on, or_true, plain_from, plain_lines_fit, put_first, refl, run, same_blank, same_break, split, split_by, starts, stop, subst, suc, sym, tabs, true, turn, turn_in, turned, ℕ, ◌&&◌, ◌++◌, ◌-◌, ◌==◌, ◌||◌, ◌∙◌, ◌∷◌, ◌≡◌, ◌≤◌, ◌⊎◌}
+use Rattle.proof_scanner.proofs.Common.{Bool, Context, Err, Fault, List, Ok, Plain, PlainState, Position, Read, Result, Stop, Turn, [], after_first, and_false, and_parts, and_then, ap, append_assoc, append_cancel_right, arith, at_char, at_dash, begins_flow, begins_solid, ended, eqb-true, fail, false, first, has_break, has_dash_before_flow, has_tab_within, if◌then◌else◌, inl, inr, is_at_comment_or_end, is_before_line_feed, is_blanks, is_cr_lf, is_gap, joined, last_line, leading, lines_have_no_tab, nat_lt, nat_tests, not, not-true, nothing, on, or_true, plain_from, plain_lines_fit, put_first, refl, run, same_blank, same_break, split, starts, stop, subst, suc, sym, tabs, true, turn, turn_in, turned, ℕ, ◌&&◌, ◌++◌, ◌-◌, ◌==◌, ◌||◌, ◌∙◌, ◌∷◌, ◌≡◌, ◌≤◌, ◌⊎◌}
 use Rattle.defs_text.specs.Classes as classes
 use Rattle.yaml_chars.specs.Class.{is_break, is_blank}
 use Rattle.yaml_chars.specs.Class as model_classes
-use Rattle.model_scanner.specs.Plain.{Mode, inside, between, goes_on, begun, plain}
-use Rattle.proof_scanner.proofs.Sound.LastLines.{last_first, last_whole}
-use Rattle.proof_scanner.proofs.Sound.TabsWithin.{take_none, none_before, blank_more}
+use Rattle.model_scanner.specs.Plain.{Mode, inside, between, goes_on, plain}
+use Rattle.proof_scanner.proofs.Sound.Common.{blank_more, last_first, last_whole, none_before, take_none}
 use Rattle.proof_scanner.proofs.Cut.Pieces.Plains.{same_flow_start}
 use Rattle.model_scanner.proofs.PlainLemmas.{break_leads}
-use Rattle.proof_scanner.proofs.Sound.Standing.{and_yes}
 
 -- ---- what a text says of TABs, character by character
 
@@ -75,14 +73,6 @@ IsCalm tabs l = Unit {0}
 abbrev pub IsAt : PlainState → Spot → (rest : List ℕ) → Type 0
 IsAt t x a = (spot_of t.mode t.folded.leading t.position.col ≡ x) ⊎ ((x ≡ at 0) × (begins_break a ≡ true))
 
-pub white_is_no_dash : (flow apart next : Bool) (c : ℕ) → (is_break c || is_blank c) ≡ true → (flow && apart && (c == 45) && next) ≡ false
-unfolding is_break is_blank
-white_is_no_dash flow apart next c h = grind arith
-
-solid_is_no_tab : (c : ℕ) → is_blank c ≡ false → (c == 9) ≡ false
-unfolding is_blank
-solid_is_no_tab c h = grind arith
-
 feed_breaks : (c : ℕ) (a : List ℕ) → is_cr_lf c a ≡ true → begins_break a ≡ true
 unfolding is_break
 feed_breaks c b h = grind arith
@@ -95,20 +85,11 @@ module _ (ctx : Context) (start : Position) (c : ℕ) (a : List ℕ) where
     goes : (t : PlainState) → IsCalm t.mode t.folded.leading → may_go (spot_of m s.folded.leading s.position.col) c ≡ true → IsAt t (past_spot ctx.indent (spot_of m s.folded.leading s.position.col) c) a →
         (ctx.flow && is_apart m && (c == 45) && begins_flow a) ≡ false → is_apart t.mode ≡ (is_break c || is_blank c) → Goes m s (on t)
 
-  break_goes : (m : Mode) (s : PlainState) → is_break c ≡ true → Goes m s (on (at_break c a s))
-  break_goes m s e = grind (arith, nat_tests, eqb-true, goes, feed_breaks, white_is_no_dash, between, break_leads)
-
   module _ (breaks : is_break c ≡ false) where
-    -- after content
-    blank_inside : (s : PlainState) → is_blank c ≡ true → s.folded.leading ≡ false → Goes inside s (on (at_gap ctx c a s))
-    blank_inside s f l = grind (arith, nat_tests, eqb-true, between, on, goes, white_is_no_dash)
-
-    blank_between : (s : PlainState) → is_blank c ≡ true → Goes between s (on (at_gap ctx c a s))
-    blank_between s f = grind (arith, nat_tests, eqb-true, between, on, goes, white_is_no_dash, tabs)
-
     module _ (solid : is_blank c ≡ false) where
       no_spot : (x : Spot) → may_go x c ≡ true → past_spot ctx.indent x c ≡ in_text
-      no_spot a h = grind (arith, breaks, solid, solid_is_no_tab)
+      unfolding is_blank
+      no_spot a h = grind (arith, breaks, solid)
 
       -- one more character of a line
       char_inside : (s : PlainState) → s.folded.leading ≡ false → Goes inside s (on (at_char c s.position s.folded))
@@ -120,30 +101,14 @@ module _ (ctx : Context) (start : Position) (c : ℕ) (a : List ℕ) where
 
   -- ---- a turn
 
-  white_turn : (m : Mode) (s : PlainState) (u : Turn PlainState Fault) → (is_break c ≡ false → is_blank c ≡ true → Goes m s (on (at_gap ctx c a s))) → (is_break c ≡ false → is_blank c ≡ false → Goes m s u) →
-      Goes m s (if is_break c || is_blank c then on (at_gap ctx c a s) else u)
-  white_turn m s u blank other = grind (arith, nat_tests, eqb-true, break_goes)
-
   -- the dash that is looked for before a scalar goes on
   pub dash_is : (ctx.flow && true && (c == 45) && begins_flow a) ≡ at_dash ctx.flow (c ∷ a)
   unfolding at_dash model_classes.is_flow
-  dash_is = ap (λ b. b && (c == 45) && begins_flow a) (and_yes ctx.flow) ∙ ap (λ b. ctx.flow && (c == 45) && b) (sym (same_flow_start a))
-
-  -- a scalar that goes on has no dash before a flow indicator
-  no_dash : (p : Position) → goes_on ctx (c ∷ a) p ≡ Ok true → (ctx.flow && true && (c == 45) && begins_flow a) ≡ false
-  unfolding goes_on
-  no_dash p h = grind (arith, nat_tests, eqb-true, dash_is)
-
-  -- and one that is refused there has
-  has_dash : (p : Position) (f : Fault) → goes_on ctx (c ∷ a) p ≡ Err f → (ctx.flow && true && (c == 45) && begins_flow a) ≡ true
-  unfolding goes_on
-  has_dash p f h = grind (arith, nat_tests, eqb-true, dash_is)
-
-  begun_goes : (s : PlainState) (x : Result Bool Fault) → goes_on ctx (c ∷ a) s.position ≡ x → is_break c ≡ false → is_blank c ≡ false → Goes between s (begun x c s)
-  begun_goes s a h e f = grind (arith, nat_tests, eqb-true, char_between, no_dash, stays, between, fails, has_dash)
+  dash_is = ap (λ b. b && (c == 45) && begins_flow a) (grind arith) ∙ ap (λ b. ctx.flow && (c == 45) && b) (sym (same_flow_start a))
 
   pub turn_goes : (m : Mode) (s : PlainState) → IsCalm m s.folded.leading → Goes m s (turn_in ctx start m s c a)
-  turn_goes a s l = grind (arith, nat_tests, eqb-true, white_turn, on, stop, blank_inside, char_inside, stays, blank_between, begun_goes, tabs, fail, break_goes, goes, white_is_no_dash, fails)
+  unfolding is_break is_blank goes_on
+  turn_goes a s l = grind (arith, eqb-true, on, stop, char_inside, stays, char_between, dash_is, tabs, fail, feed_breaks, between, break_leads, goes, fails)
 
 -- ---- a run
 
@@ -158,7 +123,7 @@ record Passed (column : ℕ) (flow : Bool) (x : Spot) (apart : Bool) (text rest 
 relocated : (column : ℕ) (t : PlainState) (y : Spot) (a passed rest : List ℕ) → IsAt t y a → a ≡ passed ++ rest → tabs_fit column (spot_of t.mode t.folded.leading t.position.col) passed rest ≡ true → tabs_fit column y passed rest ≡ true
 relocated column t y a passed rest (inl e) cut h = subst (λ z. tabs_fit column z passed rest ≡ true) e h
 relocated column t y a [] rest (inr b) cut h = subst (λ z. may_stop z rest ≡ true) (sym b.0) refl
-relocated column t y a (d ∷ p) rest (inr b) cut h = grind (arith, nat_tests, eqb-true, and_parts)
+relocated column t y a (d ∷ p) rest (inr b) cut h = grind (arith, and_parts)
 
 module _ (ctx : Context) (start : Position) where
   abbrev spot : PlainState → Spot
@@ -213,18 +178,14 @@ all_lines column a last = grind (arith, none_before)
 put_first_others : (c : ℕ) (ls : List (List ℕ)) (last : List ℕ) → after_first (put_first c ls last).complete (put_first c ls last).last ≡ after_first ls last
 put_first_others c a last = grind arith
 
--- a line feed ends an empty line
-feed_line : (r : List ℕ) → split_by (classes.is_break 10) (is_before_line_feed 10 r) 10 (split r) ≡ record { complete = [] ∷ (split r).complete; last = (split r).last }
-unfolding classes.is_break
-feed_line a = grind arith
-
 pub feed_first : (c : ℕ) (r : List ℕ) → is_before_line_feed c r ≡ true → first_line r ≡ []
-feed_first c a h = grind (arith, nat_tests, eqb-true, and_parts, feed_line)
+unfolding classes.is_break
+feed_first c a h = grind (arith, eqb-true, and_parts)
 
 module _ (column : ℕ) (c : ℕ) (r : List ℕ) where
   -- with a break before it
   broken_lines : classes.is_break c ≡ true → (x : Spot) → lines_are column (at 0) r ≡ true → lines_are column x (c ∷ r) ≡ true
-  broken_lines e x h = grind (arith, nat_tests, eqb-true, and_parts, feed_first, all_lines)
+  broken_lines e x h = grind (arith, and_parts, feed_first, all_lines)
 
   module _ (no_break : classes.is_break c ≡ false) where
     split_is : split (c ∷ r) ≡ put_first c (split r).complete (split r).last
@@ -263,23 +224,22 @@ IsClear column bs rest = (is_at_comment_or_end rest ≡ true) ⊎ (has_tab_withi
 
 tabbed_gap : (column : ℕ) (g rest : List ℕ) → has_break g ≡ false → tabs_fit column tabbed g rest ≡ true → is_at_comment_or_end rest ≡ true
 tabbed_gap column [] rest n h = h
-tabbed_gap column (c ∷ g) rest n h = grind (arith, nat_tests, eqb-true, and_parts, same_break, tabbed_gap column g rest)
+tabbed_gap column (c ∷ g) rest n h = grind (arith, and_parts, same_break, tabbed_gap column g rest)
 
 blanks_gap : (column k : ℕ) (g rest : List ℕ) → has_break g ≡ false → is_gap g ≡ true → tabs_fit column (at k) g rest ≡ true → IsClear (column - k) g rest
-blanks_gap column k [] rest n w h = grind (arith, nat_tests, eqb-true, take_none)
-blanks_gap column k (c ∷ g) rest n w h = grind (arith, nat_tests, eqb-true, and_parts, tabbed_gap, same_break, same_blank, blank_more, blanks_gap column (suc k) g rest)
+blanks_gap column k [] rest n w h = grind (arith, take_none)
+blanks_gap column k (c ∷ g) rest n w h = grind (arith, and_parts, tabbed_gap, same_break, same_blank, blank_more, blanks_gap column (suc k) g rest)
 
 broken_gap : (column : ℕ) (x : Spot) (g rest : List ℕ) → is_gap g ≡ true → has_break g ≡ true → tabs_fit column x g rest ≡ true → IsClear column (last_line g) rest
 broken_gap column x [] rest w b h = absurd (cc b)
-broken_gap column x (c ∷ g) rest w b h = grind (arith, nat_tests, eqb-true, and_parts, same_break, last_first, or_true, last_whole, none_before, blanks_gap, broken_gap column (past_spot column x c) g rest)
+broken_gap column x (c ∷ g) rest w b h = grind (arith, and_parts, same_break, last_first, or_true, last_whole, none_before, blanks_gap, broken_gap column (past_spot column x c) g rest)
 
 -- ---- the dash
 
 no_last_dash : (flow apart : Bool) (t g rest : List ℕ) → dashes_fit flow apart (t ++ g) rest ≡ true → (flow && has_dash_before_flow t (g ++ rest)) ≡ false
-no_last_dash flow apart [] g rest h = and_false flow
-no_last_dash flow apart (c ∷ []) g rest h = and_false flow
-no_last_dash flow apart (c ∷ d ∷ []) g rest h = grind (arith, nat_tests, eqb-true, same_break, same_blank, not-true, and_parts)
-no_last_dash flow apart (c ∷ d ∷ e ∷ r) g rest h = grind (arith, nat_tests, eqb-true, and_parts, no_last_dash flow (is_break c || is_blank c) (d ∷ e ∷ r) g rest)
+no_last_dash flow apart (c ∷ d ∷ []) g rest h = grind (arith, same_break, same_blank, not-true, and_parts)
+no_last_dash flow apart (c ∷ d ∷ e ∷ r) g rest h = grind (arith, and_parts, no_last_dash flow (is_break c || is_blank c) (d ∷ e ∷ r) g rest)
+no_last_dash flow apart t g rest h = grind (arith, and_false)
 
 -- ---- the whole scan
 
@@ -313,7 +273,7 @@ plain_fits ctx p [] piece gap r begins cut e = absurd (cc begins)
 plain_fits ctx p (c ∷ a) piece gap r begins cut e = by (starts ctx (c ∷ a) p) refl e
   where
     solid : (is_break c ≡ false) × (is_blank c ≡ false)
-    solid = grind (arith, nat_tests, same_break, same_blank, eqb-true)
+    solid = grind (arith, same_break, same_blank, eqb-true)
 
     ran : (x : Result (Stop PlainState) Fault) → run (turn ctx p) (c ∷ a) (record { mode = first; position = p; folded = nothing }) ≡ x → ended x ≡ Ok r → Passed ctx.indent ctx.flow in_text false (c ∷ a) r.rest
     ran (Ok t) f h =

@@ -1,28 +1,15 @@
 -- Anchors, aliases and tags: what holds between two fetches holds after them.
-use Rattle.proof_scanner.proofs.Common.{Arrives, Bool, Entry, FlowLevel, Holds, Key, List, NameKind, None, Option, Position, ScannerState, Site, Stands, Tok, [], act_of, allow_key, anchor_name, anchor_token, another, ap, arith, awaits_past, begins_free_line, begun_by, false, fetch_anchor, fetch_tag, further_lines_stand, gives_node, in_flow, is_empty, is_renewed, least_column, least_for, mark_of, may_precede, node_start, not, on_held, previous_by, push, read, refl, seen, shown_position, subst, sym, true, unled, went, ℕ, ◌∙◌, ◌∷◌, ◌≡◌}
+use Rattle.proof_scanner.proofs.Common.{Arrives, Entry, FlowLevel, Holds, Key, List, NameKind, None, Option, Position, ScannerState, Site, Stands, Tok, [], allow_key, anchor_name, anchor_token, another, ap, arith, begins_free_line, false, fetch_anchor, fetch_tag, gives_node, in_flow, is_empty, is_renewed, least_for, mark_of, node_start, not, on_held, previous_by, push, read, refl, seen, shown_position, subst, sym, true, unled, went, ℕ, ◌∙◌, ◌∷◌, ◌≡◌}
 use Rattle.model_scanner.specs.Tag as tags
-use Rattle.proof_scanner.proofs.Cut.Nodes.{IsDeep}
-use Rattle.proof_scanner.proofs.Cut.Saved.{saved_is}
-use Rattle.proof_scanner.proofs.Sound.StreamEnds.{same_flow}
-use Rattle.proof_scanner.proofs.Sound.Standing.{deep_for, awaits_kept}
-use Rattle.proof_scanner.proofs.Sound.Sides.{with_entries, ArrivesBy}
-use Rattle.proof_scanner.proofs.Sound.ReadNodes.{Read, site_of, allowed_past, IsRead, site_then, node_read, state_after}
+use Rattle.proof_scanner.proofs.Sound.Steps.{IsToken, allowed_past, ArrivesBy, awaits_kept, deep_for, IsDeep, IsRead, node_read, Read, reads_before_none, same_flow, saved_is, site_of, site_then, state_after, with_entries}
 use Rattle.proof_scanner.proofs.Cut.Pieces.Names.{IsProperty, name_property}
 use Rattle.proof_scanner.proofs.Cut.Pieces.Tags.{tag_property}
-use Rattle.proof_scanner.proofs.Sound.Reads.{reads_before_none}
 
 -- ---- properties
 
 -- the tokens of properties and aliases
-pub record IsPropertyToken (tok : Tok) : Type 0 where
-  pub act : act_of tok ≡ gives_node
-  pub begun : begun_by tok ≡ []
-  pub shown : (s : Site) (piece next : List ℕ) → shown_position s piece tok next ≡ s.position
-  pub before : previous_by tok ≡ another
-  pub least : (s : Site) → least_for tok s ≡ least_column s.blocks s.awaits
-  pub lines : (column : ℕ) (piece : List ℕ) → further_lines_stand column tok piece ≡ true
-  pub precedes : (fl : Bool) (bs piece next : List ℕ) → may_precede fl bs tok piece next ≡ true
-  pub awaits : (fl : Bool) (bs : List ℕ) (b : Bool) (next : List ℕ) → awaits_past fl tok bs b next ≡ b
+abbrev pub IsPropertyToken : Tok → Type 0
+IsPropertyToken tok = IsToken tok gives_node [] another (λ _ _. true) (λ _ _ _. true) (λ _ _ b. b)
 
 -- ---- the step
 
@@ -34,11 +21,11 @@ pub property_is_read : (text : List ℕ) (t : ScannerState) (tok : Tok) (rest : 
     (fs : List FlowLevel) (ks : List (Option Key)) (es : List Entry) → t.held.flow ≡ fs → (a : ArrivesBy text t fs ks es) → IsRead t None fs a.site a.line es a.separation (property_read t tok rest end r)
 property_is_read text t tok rest end r k deep fs ks es flow a =
     let x : Site = site_of t fs a.site in
-    let reads = reads_before_none t (state_after t None (property_read t tok rest end r)) (site_then t fs a.site (property_read t tok rest end r)) (r.first ∷ r.more) rest [] refl r.cut refl refl refl refl r.end_is refl k.before
+    let reads = reads_before_none t (state_after t None (property_read t tok rest end r)) (site_then t fs a.site (property_read t tok rest end r)) (r.first ∷ r.more) rest [] refl r.cut refl refl refl refl r.end_is refl k.previous
     a.blocks_are (k.awaits (not (is_empty fs)) x.blocks x.awaits rest ∙ a.awaits_is) a.are_levels a.was_adjacent (refl, refl, refl) in
     let piece_is = r.is_piece (seen (with_entries a.site a.line es) x a.separation) None refl (ap not ((grind arith) ∙ sym (same_flow t.held.key_allowed (is_renewed a.site.before a.separation) fs ks es a.are_entries) ∙ sym (ap is_empty flow))) in
-    let allowed : false ≡ allowed_past None (not (is_empty fs)) (previous_by tok) [] = subst (λ b. false ≡ allowed_past None (not (is_empty fs)) b []) (sym k.before) (grind arith) in
-    let quiet : begins_free_line (previous_by tok) [] ≡ false = subst (λ b. begins_free_line b [] ≡ false) (sym k.before) refl in
+    let allowed : false ≡ allowed_past None (not (is_empty fs)) (previous_by tok) [] = subst (λ b. false ≡ allowed_past None (not (is_empty fs)) b []) (sym k.previous) (grind arith) in
+    let quiet : begins_free_line (previous_by tok) [] ≡ false = subst (λ b. begins_free_line b [] ≡ false) (sym k.previous) refl in
     let shown : (y : Site) → shown_position y (r.first ∷ r.more) tok rest ≡ y.position = λ y. k.shown y (r.first ∷ r.more) rest in
     assumption (reads, k.act, k.begun, shown, piece_is, deep_for (not (is_empty fs)) tok x (k.least x) (rw (a.blocks_are, a.awaits_is) (grind arith)), k.lines (least_for tok x) (r.first ∷ r.more), k.precedes (not (is_empty fs)) x.blocks (r.first ∷ r.more) rest, allowed, ap not r.in_line, quiet)
 
@@ -60,4 +47,4 @@ anchor_keeps text kind t more e deep a = read (node_start t.held) (anchor_name t
 pub tag_keeps : (text : List ℕ) (t : ScannerState) (more : List ℕ) → t.rest ≡ 33 ∷ more → IsDeep t.held → Arrives text t → Holds (Stands text) (fetch_tag t)
 unfolding fetch_tag
 tag_keeps text t more e deep a = read (node_start t.held) (tags.tag (in_flow t.held) t.rest t.held.position) _ (λ x k.
-    went (property_stands text t (Tok.tag x.value.handle x.value.suffix) x.rest x.position (tag_property (in_flow t.held) t.held.position t.rest more e x k) (record { act = refl; begun = refl; shown = λ s piece next. refl; before = refl; least = λ s. refl; lines = λ c p. refl; precedes = λ f bs p n. refl; awaits = awaits_kept _ (λ b. refl) (λ bs b n. refl) }) deep a))
+    went (property_stands text t (Tok.tag x.value.handle x.value.suffix) x.rest x.position (tag_property (in_flow t.held) t.held.position t.rest more e x k) (record { act = refl; begun = refl; shown = λ s piece next. refl; previous = refl; least = λ s. refl; lines = λ c p. refl; precedes = λ f bs p n. refl; awaits = awaits_kept _ (λ b. refl) (λ bs b n. refl) }) deep a))

@@ -1,10 +1,10 @@
 -- The elements of a quoted body by their characters, and the lines that are left of one from a column on.
-use Rattle.proof_scanner.proofs.Common.{sym, ◌∙◌, Bool, Element, Lines, List, None, Option, Some, Spelled, [], ap, arith, begins_with, blank, blanks_before, break_further, content, double_quoted_element, double_quoted_value, element_of, elements, eqb-true, escape, escape_by, escaped_break, escapes, false, folded_elements, has_more, has_tab_within, if◌then◌else◌, is_empty, length, line, line_break, lines_fit, lookup, nat_le, nat_lt, not, numeric_escape, numeric_escapes, plain_element, quote_of, refl, same_blank, same_break, single_quoted_element, single_quoted_value, suc, take, true, value_of, without_last, ℕ, ◌&&◌, ◌++◌, ◌+◌, ◌-◌, ◌==◌, ◌||◌, ◌∷◌, ◌≡◌, nat_tests}
+use Rattle.proof_scanner.proofs.Common.{sym, ◌∙◌, Bool, Element, Lines, List, None, Option, Some, Spelled, [], ap, arith, begins_with, blank, blanks_before, break_further, content, double_quoted_element, double_quoted_value, element_of, elements, eqb-true, escape, escape_by, escaped_break, escapes, false, folded_elements, has_more, has_tab_within, if◌then◌else◌, is_empty, length, line, line_break, lines_fit, lookup, nat_le, nat_lt, not, numeric_escape, numeric_escapes, plain_element, quote_of, refl, same_blank, same_break, single_quoted_element, single_quoted_value, suc, true, value_of, without_last, ℕ, ◌&&◌, ◌++◌, ◌+◌, ◌-◌, ◌==◌, ◌||◌, ◌∷◌, ◌≡◌}
 use Rattle.defs_text.specs.Classes as classes
 use Rattle.defs_text.specs.FlowScalar.{last_line}
 use Rattle.yaml_chars.specs.Class.{is_break, is_blank}
 use Rattle.proof_lexers.proofs.Quoted.Turns.{spelled}
-use Rattle.proof_scanner.proofs.Sound.TabsWithin.{take_none, none_before}
+use Rattle.proof_scanner.proofs.Sound.LastLines.{take_none, none_before}
 
 -- ---- elements by their characters
 
@@ -25,11 +25,11 @@ KindOf single c b (Some s) = Kind single c b s
 
 -- either way of a choice
 kind_if : (single : Bool) (c : ℕ) (b : List ℕ) (x : Bool) (o p : Option Spelled) → (x ≡ true → KindOf single c b o) → (x ≡ false → KindOf single c b p) → KindOf single c b (if x then o else p)
-kind_if single c b a o p f g = grind (arith, nat_tests, eqb-true)
+kind_if single c b a o p f g = grind arith
 
 plain_kind : (single : Bool) (c : ℕ) (b : List ℕ) → KindOf single c b (plain_element c b)
 unfolding plain_element
-plain_kind single c b = grind (arith, nat_tests, eqb-true, kind_if, has_line, same_break, has_blank, same_blank, has_content)
+plain_kind single c b = grind (arith, kind_if, has_line, same_break, has_blank, same_blank, has_content)
 
 pub quote_white : (single : Bool) → is_white (quote_of single) ≡ false
 unfolding is_break is_blank
@@ -45,12 +45,9 @@ single_kind c b = kind_if true c b (classes.is_nul c) _ _ (λ e. tt) (λ e. kind
     kind_if true c b (begins_with 39 b) _ _ (λ g. has_content 39 1 (let same : c ≡ 39 = eqb-true c 39 f in rw same (quote_white true))) (λ g. tt)) (λ f. plain_kind true c b))
 
 module _ (c : ℕ) (b : List ℕ) (solid : is_white c ≡ false) where
-  numeric_kind : (n : ℕ) (r : List ℕ) → KindOf false c b (numeric_escape n r)
-  unfolding numeric_escape
-  numeric_kind n r = kind_if false c b (length (take n r) == n) _ _ (λ e. (grind (arith, nat_tests, eqb-true, kind_if, has_content))) (λ e. tt)
-
   escape_kind_by : (o n : Option ℕ) (r : List ℕ) → KindOf false c b (escape_by o n r)
-  escape_kind_by a n r = grind (arith, nat_tests, eqb-true, has_content, numeric_kind)
+  unfolding numeric_escape
+  escape_kind_by a n r = grind (arith, has_content)
 
 escape_kind : (b : List ℕ) → KindOf false 92 b (escape b)
 unfolding escape
@@ -63,7 +60,7 @@ double_kind c b = kind_if false c b (classes.is_nul c) _ _ (λ e. tt) (λ e. kin
     kind_if false c b (c == 92) _ _ (λ g. let same : c ≡ 92 = eqb-true c 92 g in rw same (escape_kind b)) (λ g. plain_kind false c b)))
 
 pub kind : (single : Bool) (c : ℕ) (b : List ℕ) → KindOf single c b (element_of single c b)
-kind a c b = grind (arith, nat_tests, eqb-true, single_kind, double_kind)
+kind a c b = grind (arith, single_kind, double_kind)
 
 -- ---- a line from a column on
 
@@ -75,11 +72,8 @@ abbrev pub lines_from : (at column : ℕ) → (after_escaped : Bool) → Lines �
 lines_from k column e (last_line l) = fits_from k column (not (e && is_empty l)) (blanks_before l)
 lines_from k column e (line l escaped ls) = fits_from k column (has_more l || escaped) (blanks_before l) && lines_fit column escaped ls
 
-none_more : (n : ℕ) → 0 + n ≡ n
-none_more n = omega arith
-
 pub lines_here : (column : ℕ) (e : Bool) (ls : Lines) → lines_from 0 column e ls ≡ lines_fit column e ls
-lines_here column e a = grind (arith, none_before, none_more)
+lines_here column e a = grind (arith, none_before)
 
 pub empty_here : (k column : ℕ) → fits_from k column false [] ≡ true
 empty_here k column = rw (take_none (column - k)) refl
@@ -87,9 +81,8 @@ empty_here k column = rw (take_none (column - k)) refl
 -- ---- a body
 
 pub body_between : (q : ℕ) (body : List ℕ) → without_last (body ++ q ∷ []) ≡ body
-body_between q [] = refl
-body_between q (c ∷ []) = refl
 body_between q (c ∷ d ∷ body) = ap (λ l. c ∷ l) (body_between q (d ∷ body))
+body_between q body = grind arith
 
 -- a body with a value has elements
 pub has_elements : (single : Bool) (body value : List ℕ) → value_of single body ≡ Some value → (es : List Element) × (elements (element_of single) 0 body ≡ Some es)

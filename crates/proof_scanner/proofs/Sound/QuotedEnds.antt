@@ -16,9 +16,8 @@ ends_in_line (c ∷ d ∷ r) = ends_in_line (d ∷ r)
 -- A text with a break, whose last character is none, ends on a later line.
 pub broken_later : (p : Position) (a next : List ℕ) → ends_in_line a ≡ true → has_break a ≡ true → p.line < (position_after p a next).line
 unfolding is_break
-broken_later p [] next e h = absurd (cc h)
-broken_later p (c ∷ []) next e h = grind arith
-broken_later p (c ∷ d ∷ a) next e h = grind (arith, nat_tests, not_before_after, eqb-true, and_parts, broken_later (position_past p c (d ∷ (a ++ next))) (d ∷ a) next e)
+broken_later p (c ∷ d ∷ a) next e h = grind (arith, not_before_after, eqb-true, and_parts, broken_later (position_past p c (d ∷ (a ++ next))) (d ∷ a) next e)
+broken_later p a next e h = grind arith
 
 -- on the same line there is no break
 pub on_one_line : (p : Position) (a next : List ℕ) → ends_in_line a ≡ true → (position_after p a next).line ≤ p.line → has_break a ≡ false
@@ -39,7 +38,7 @@ blanks_and_comment (c ∷ s) next f h = grind (arith, blanks_and_comment s next)
 -- before what does not end the line it is blanks alone
 pub blanks_alone : (in_comment : Bool) (s next : List ℕ) → is_separation in_comment s next ≡ true → plains.has_break s ≡ false → is_at_line_end next ≡ false → (in_comment ≡ false) × (is_blanks s ≡ true)
 blanks_alone a [] next f h e = grind arith
-blanks_alone true (c ∷ s) next f h e = grind (arith, nat_tests, eqb-true, blanks_alone true s next)
+blanks_alone true (c ∷ s) next f h e = grind (arith, blanks_alone true s next)
 blanks_alone false (c ∷ s) next f h e = (refl, by (is_blank c) (is_break c) (c == 35) f h (λ n g i. blanks_alone n s next g i e))
   where
     by : (b k n : Bool) → ((b || k || n) && is_separation n s next) ≡ true → (k || plains.has_break s) ≡ false → ((n : Bool) → is_separation n s next ≡ true → plains.has_break s ≡ false → (n ≡ false) × (is_blanks s ≡ true)) → (b && is_blanks s) ≡ true
@@ -48,7 +47,7 @@ blanks_alone false (c ∷ s) next f h e = (refl, by (is_blank c) (is_break c) (c
 -- up to the line's end
 pub leading_line : (s next : List ℕ) → plains.has_break s ≡ false → is_at_line_end next ≡ true → has_no_nul next ≡ true → leading is_on_line (s ++ next) ≡ s
 leading_line [] a h e n = grind arith
-leading_line (c ∷ s) next h e n = grind (arith, nat_tests, eqb-true, leading_line s next)
+leading_line (c ∷ s) next h e n = grind (arith, leading_line s next)
 
 -- past blanks
 pub after_blanks : (s next : List ℕ) → is_blanks s ≡ true → after is_blank (s ++ next) ≡ after is_blank next
@@ -57,7 +56,7 @@ after_blanks (c ∷ s) next h = grind (arith, after_blanks s next)
 
 -- a line with nothing but blanks and a comment, which no comment begins
 pub is_done : (s next : List ℕ) → is_separation false s next ≡ true → plains.has_break s ≡ false → is_at_line_end next ≡ true → has_no_nul next ≡ true → begins_with 35 (s ++ next) ≡ false → line_is_done (s ++ next) ≡ true
-is_done s next f h e n g = grind (arith, nat_tests, eqb-true, leading_line, blanks_and_comment)
+is_done s next f h e n g = grind (arith, leading_line, blanks_and_comment)
 
 -- ---- what is skipped
 
@@ -68,7 +67,7 @@ always (Err e) f = refused
 -- no comment stands directly where blanks are skipped
 pub unglued : (tabs : SkipTabs) (t : ScannerState) → Holds (λ u. begins_with 35 t.rest ≡ false) (skip_spaces tabs t)
 unfolding skip_spaces space
-unglued tabs t = grind (arith, nat_tests, always, eqb-true, refused)
+unglued tabs t = grind (arith, always, eqb-true, refused)
 
 -- ---- after a quoted scalar
 
@@ -92,7 +91,7 @@ unfolding model_classes.is_break
 may_end_by flow p piece s rest here in_line none f h no_hash is follows = grind (arith, nat_tests, eqb-true, is_done, at_end_of, blanks_alone, not_at_end, or_right, after_blanks, some)
   where
     same : (p.line == here.line) ≡ true → has_break piece ≡ false
-    same e = grind (arith, nat_tests, same_line, eqb-true, on_one_line)
+    same e = grind (arith, same_line, eqb-true, on_one_line)
 
     some : (r : List ℕ) → is_breakz (peek r) ≡ false → may_follow_quoted flow (p.line == here.line) (peek r) ≡ true → goes_on_quoted flow piece (after is_blank r) ≡ true
     some [] e k = absurd (cc e)

@@ -1,33 +1,16 @@
 -- Quoted scalars: what holds between two fetches holds after them.
-use Rattle.proof_scanner.proofs.Common.{list_all, is_some, Arrives, Bool, Context, Entry, Fault, FlowLevel, HasNoTabs, Held, Holds, IsPiece, IsQuotedRead, Key, List, None, Ok, Option, Position, Quotes, Result, ScannerState, Site, Some, Stands, Tok, [], act_of, adjacent_here, allow_key, and_parts, ap, append_assoc, append_cancel_right, are_single, arith, awaits_past, begins_with, begun_by, between, both_hold, chained, check_after_quoted, columns, context, element_of, ends_before, false, fetch_flow_scalar, further_lines_stand, gives_node, go_on, has_break, has_no_nul, has_open_level, in_flow, inr, is_break, is_empty, is_nul, is_separation, least_column, least_for, lexed, may_precede, no_nul_after, not, not-true, on_held, position_after, position_append, previous_by, push, quote_of, quoted, quoted_lines_fit, quoted_may_end, quoted_scalar, quoted_style, read, read_as, refl, shown_position, skip_to_next_token, subst, sym, true, unled, value_of, weakened, went, ℕ, ◌&&◌, ◌++◌, ◌-◌, ◌>>=◌, ◌||◌, ◌∙◌, ◌∷◌, ◌≡◌, ◌≤◌, eqb-true, nat_tests}
+use Rattle.proof_scanner.proofs.Common.{list_all, is_some, Arrives, Bool, Context, Entry, FlowLevel, HasNoTabs, Held, Holds, IsPiece, IsQuotedRead, Key, List, None, Ok, Option, Position, Quotes, ScannerState, Site, Some, Stands, Tok, [], adjacent_here, allow_key, and_parts, ap, append_assoc, append_cancel_right, are_single, arith, begins_with, between, both_hold, chained, check_after_quoted, columns, context, element_of, ends_before, false, fetch_flow_scalar, gives_node, go_on, has_break, has_no_nul, has_open_level, in_flow, inr, is_break, is_empty, is_nul, is_separation, least_column, lexed, no_nul_after, not, not-true, on_held, position_after, position_append, push, quote_of, quoted, quoted_lines_fit, quoted_may_end, quoted_scalar, quoted_style, read, read_as, refl, skip_to_next_token, subst, sym, true, unled, value_of, went, ℕ, ◌&&◌, ◌++◌, ◌-◌, ◌>>=◌, ◌||◌, ◌∙◌, ◌∷◌, ◌≡◌, ◌≤◌, eqb-true, nat_tests}
 use Rattle.defs_token.specs.Account.{Account as PieceAccount}
 use Rattle.model_scanner.specs.Machine as machine
 use Rattle.proof_lexers.specs.PlainEnds as plains
 use Rattle.proof_lexers.proofs.Quoted.ScanEnds.{scans_end}
 use Rattle.proof_scanner.proofs.Cut.Pieces.Quoted.{some_chars}
-use Rattle.proof_scanner.proofs.Cut.Pieces.Separations.{separation_append}
-use Rattle.proof_scanner.proofs.Cut.Positions.{not_before_after}
-use Rattle.proof_scanner.proofs.Cut.Saved.{saved_keys, saved_is}
+use Rattle.proof_scanner.proofs.Sound.Steps.{IsToken, ArrivesBy, break_append, Checked, deep_for, ends_in_line, Exact, exact, IsDeep, IsRead, least_is, next_of, node_read, not_before_after, on_one_line, quoted_checked, Read, same_has_break, saved_is, saved_keys, separation_append, site_of, site_then, some_levels, unbroken}
 use Rattle.proof_scanner.proofs.Cut.Scalars.{adjacent_quoted}
-use Rattle.proof_scanner.proofs.Cut.Nodes.{IsDeep}
 use Rattle.proof_lexers.proofs.Bridges.{or_false}
-use Rattle.proof_scanner.proofs.Sound.Standing.{deep_for}
-use Rattle.proof_scanner.proofs.Sound.Sides.{ArrivesBy}
-use Rattle.proof_scanner.proofs.Sound.Arrivals.{unbroken}
-use Rattle.proof_scanner.proofs.Sound.LastLines.{break_append}
 use Rattle.proof_scanner.proofs.Sound.Skips.{IsAt, IsLeast, Cleared, skip_clears}
-use Rattle.proof_scanner.proofs.Sound.Passed.{Exact, exact, same_has_break, least_is}
-use Rattle.proof_scanner.proofs.Sound.QuotedEnds.{ends_in_line, on_one_line, Checked, quoted_checked}
 use Rattle.proof_scanner.proofs.Sound.QuotedBreaks.{same_limit}
 use Rattle.proof_scanner.proofs.Refusals.QuotedLines.{body_read}
-use Rattle.proof_scanner.proofs.Sound.ReadNodes.{Read, next_of, state_after, site_of, site_then, IsRead, node_read}
-use Rattle.proof_scanner.proofs.Sound.Rolled.{some_levels}
-
--- What a function has read of a node where a piece begins, and what it leaves.
-pub record ReadNode (text : List ℕ) (t u : ScannerState) : Type 0 where
-  pub read : Read
-  pub known : (fs : List FlowLevel) (ks : List (Option Key)) (es : List Entry) → t.held.flow ≡ fs → (a : ArrivesBy text t fs ks es) → IsRead t None fs a.site a.line es a.separation read
-  pub is : u ≡ state_after t None read
 
 -- ---- what was read
 
@@ -49,14 +32,7 @@ quoted_as quotes ctx p more x none e =
     let there = body_read (are_single quotes) ctx p (ctx.indent - 1) (λ k. same_limit k ctx.indent) q.body x (subst (λ l. list_all is_some l ≡ true) q.is_text (some_chars more none))
     (ap (λ l. quoted (are_single quotes) ctx (quote_of (are_single quotes) ∷ l) p) (sym q.is_text) ∙ e) in
     let all : quote_of (are_single quotes) ∷ more ≡ piece_of (are_single quotes) q.body ++ x.rest = ap (λ l. quote_of (are_single quotes) ∷ l) q.is_text ∙ (ap (λ l. (quote_of (are_single quotes)) ∷ l) (sym (append_assoc q.body ((quote_of (are_single quotes)) ∷ []) x.rest))) in
-    record {
-      body = q.body;
-      value_is = q.is_value;
-      ends = q.may_end;
-      cut = all;
-      end_is = there.end_is;
-      fits = there.lines;
-    }
+    search (q.is_value, q.may_end, all, there.end_is, there.lines)
 
 -- a quote is no break
 pub in_line : (single : Bool) (body : List ℕ) → ends_in_line (piece_of single body) ≡ true
@@ -70,15 +46,8 @@ in_line single body = last (quote_of single) (quote_of single) body (grind arith
 -- ---- its token
 
 -- the token of a quoted scalar
-pub record IsQuotedToken (single : Bool) (tok : Tok) : Type 0 where
-  pub act : act_of tok ≡ gives_node
-  pub begun : begun_by tok ≡ []
-  pub shown : (s : Site) (piece next : List ℕ) → shown_position s piece tok next ≡ s.position
-  pub before : previous_by tok ≡ quoted_scalar
-  pub least : (s : Site) → least_for tok s ≡ least_column s.blocks s.awaits
-  pub lines : (column : ℕ) (piece : List ℕ) → further_lines_stand column tok piece ≡ quoted_lines_fit column (element_of single) piece
-  pub precedes : (fl : Bool) (bs piece next : List ℕ) → may_precede fl bs tok piece next ≡ quoted_may_end fl piece next
-  pub awaits : (fl : Bool) (bs : List ℕ) (b : Bool) (next : List ℕ) → awaits_past fl tok bs b next ≡ b
+abbrev pub IsQuotedToken : (single : Bool) → Tok → Type 0
+IsQuotedToken single tok = IsToken tok gives_node [] quoted_scalar (λ column piece. quoted_lines_fit column (element_of single) piece) quoted_may_end (λ _ _ b. b)
 
 piece_is : (a : PieceAccount) (quotes : Quotes) (body next value : List ℕ) → value_of (are_single quotes) body ≡ Some value → ends_before (are_single quotes) next ≡ true → IsPiece a (piece_of (are_single quotes) body) next None a.position (Tok.scalar (quoted_style quotes) value)
 piece_is a b d e g is i = grind (arith, not-true, begins_with)
@@ -105,9 +74,6 @@ module _ (text : List ℕ) (quotes : Quotes) (t : ScannerState) (a : Arrives tex
   k : IsQuotedToken (are_single quotes) tok
   k = grind arith
 
-  pub rest_is_clean : has_no_nul x.rest ≡ true
-  rest_is_clean = no_nul_after piece x.rest (subst (λ r. has_no_nul r ≡ true) q.cut a.is_clean)
-
   module _ (v : ScannerState) (c : Checked piece closed v) where
     abbrev pub spaces : List ℕ
     spaces = c.spaces.blanks ++ c.spaces.comment
@@ -131,7 +97,7 @@ module _ (text : List ℕ) (quotes : Quotes) (t : ScannerState) (a : Arrives tex
       allowed_then = (not (in_flow t.held) && plains.has_break b.separation) || false
 
       held_is : w.held ≡ record closed.held { position = end; leading = b.is_leading; key_allowed = allowed_then }
-      held_is = grind (arith, nat_tests, eqb-true, position_append)
+      held_is = grind (arith, position_append)
 
       at_token : is_empty w.rest ≡ false → IsAt quoted_scalar least gap w.held
       at_token some = subst (λ g. IsAt quoted_scalar least (spaces ++ g) w.held) (append_cancel_right z.passed b.separation w.rest (sym z.cut ∙ b.cut)) (z.clear some)
@@ -172,7 +138,7 @@ module _ (text : List ℕ) (quotes : Quotes) (t : ScannerState) (a : Arrives tex
         fl = not (is_empty fs)
 
         no_tabs : HasNoTabs (site_then t fs r.site d) gap w.rest
-        no_tabs = grind (arith, nat_tests, eqb-true, k, or_false, (k.awaits fl at.blocks at.awaits (next_of d)), (ap (λ bs. least_column bs at.awaits) r.blocks_are ∙ ap (λ y. least_column (columns t.held.indent t.held.indents) y) r.awaits_is), at_token)
+        no_tabs = grind (arith, k, or_false, (k.awaits fl at.blocks at.awaits (next_of d)), (ap (λ bs. least_column bs at.awaits) r.blocks_are ∙ ap (λ y. least_column (columns t.held.indent t.held.indents) y) r.awaits_is), at_token)
 
         is_read : IsRead t None fs r.site r.line es r.separation d
         is_read = grind (
@@ -197,31 +163,21 @@ module _ (text : List ℕ) (quotes : Quotes) (t : ScannerState) (a : Arrives tex
           one_line_of,
         )
 
-      node : ReadNode text t (on_held (λ s. push t.held.position tok (adjacent_here s)) w)
-      node = record {
-        read = d;
-        known = λ fs ks es f r. is_read fs ks es f r;
-        is = ap (λ h. on_held (λ s. push t.held.position tok (adjacent_here s)) (record { rest = w.rest; held = h })) held_is;
-      }
+      node : Stands text (on_held (λ s. push t.held.position tok (adjacent_here s)) w)
+      node = subst (λ h. Stands text (on_held (λ s. push t.held.position tok (adjacent_here s)) (record { rest = w.rest; held = h }))) (sym held_is)
+          (node_read text t None d deep a is_read)
 
--- what the model does after the closing quote
-abbrev pub after_body : Quotes → ScannerState → List ℕ → ScannerState → Result ScannerState Fault
-after_body quotes t x u =
+-- `'` or `"`
+pub quoted_keeps : (text : List ℕ) (quotes : Quotes) (t : ScannerState) (more : List ℕ) → t.rest ≡ quote_of (are_single quotes) ∷ more → IsDeep t.held → Arrives text t → Holds (Stands text) (fetch_flow_scalar quotes t)
+unfolding fetch_flow_scalar
+quoted_keeps text quotes t more e deep a =
+    subst (λ h. Holds (Stands text) (lexed (quoted (are_single quotes) (context (allow_key false h)) t.rest t.held.position) (allow_key false h) (λ x u.
     check_after_quoted t.held.position.line (on_held unled u) >>= λ v.
     skip_to_next_token v >>= λ w.
-    Ok (on_held (λ s. push t.held.position (Tok.scalar (quoted_style quotes) x) (adjacent_here s)) w)
-
--- `'` or `"`: what is read of the node
-pub quoted_node : (text : List ℕ) (quotes : Quotes) (t : ScannerState) (more : List ℕ) → t.rest ≡ quote_of (are_single quotes) ∷ more → IsDeep t.held → Arrives text t → Holds (ReadNode text t) (fetch_flow_scalar quotes t)
-unfolding fetch_flow_scalar
-quoted_node text quotes t more e deep a =
-    subst (λ h. Holds (ReadNode text t) (lexed (quoted (are_single quotes) (context (allow_key false h)) t.rest t.held.position) (allow_key false h) (after_body quotes t))) (sym (saved_is t.held))
-    (read (allow_key false (record t.held { keys = saved_keys t.held })) (quoted (are_single quotes) (context t.held) t.rest t.held.position) (after_body quotes t)
-    (λ x i. (chained (quoted_checked t.held.position (piece_of (are_single quotes) (read_as x i).body) (closed text quotes t a deep x (read_as x i)) (in_line (are_single quotes) (read_as x i).body) (rest_is_clean text quotes t a deep x (read_as x i)) (read_as x i).end_is)
+    Ok (on_held (λ s. push t.held.position (Tok.scalar (quoted_style quotes) x) (adjacent_here s)) w)))) (sym (saved_is t.held))
+    (read (allow_key false (record t.held { keys = saved_keys t.held })) (quoted (are_single quotes) (context t.held) t.rest t.held.position) _
+    (λ x i. (chained (quoted_checked t.held.position (piece_of (are_single quotes) (read_as x i).body) (closed text quotes t a deep x (read_as x i)) (in_line (are_single quotes) (read_as x i).body) (no_nul_after (piece_of (are_single quotes) (read_as x i).body) x.rest (subst (λ r. has_no_nul r ≡ true) (read_as x i).cut a.is_clean)) (read_as x i).end_is)
     (λ v c. chained (both_hold (exact v) (skipped text quotes t a deep x (read_as x i) v c)) (λ w z. went (node text quotes t a deep x (read_as x i) v c w z.0 z.1))))))
   where
     read_as : (x : machine.Read (List ℕ)) → quoted (are_single quotes) (context t.held) t.rest t.held.position ≡ Ok x → QuotedAs (are_single quotes) (context t.held) t.held.position t.rest x
     read_as x i = subst (λ r. QuotedAs (are_single quotes) (context t.held) t.held.position r x) (sym e) (quoted_as quotes (context t.held) t.held.position more x ((and_parts (not (is_nul (quote_of (are_single quotes)))) (has_no_nul more) (subst (λ r. has_no_nul r ≡ true) e a.is_clean)).1) (subst (λ r. quoted (are_single quotes) (context t.held) r t.held.position ≡ Ok x) e i))
-
-pub quoted_keeps : (text : List ℕ) (quotes : Quotes) (t : ScannerState) (more : List ℕ) → t.rest ≡ quote_of (are_single quotes) ∷ more → IsDeep t.held → Arrives text t → Holds (Stands text) (fetch_flow_scalar quotes t)
-quoted_keeps text quotes t more e deep a = weakened (λ u n. subst (λ y. Stands text y) (sym n.is) (node_read text t None n.read deep a n.known)) (quoted_node text quotes t more e deep a)

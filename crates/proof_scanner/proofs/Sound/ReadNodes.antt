@@ -1,24 +1,9 @@
 -- A part of a node was read where a piece begins, be it an opening bracket or no collection: what holds between two fetches holds after it.
-use Rattle.proof_scanner.proofs.Common.{Account, AreEntries, Arrives, Bool, Entry, FlowLevel, Indent, IsCarriedOn, IsLine, IsNear, IsOpenOutside, IsPairOf, IsPiece, Key, KnowsKey, Line, List, MayChoose, None, NotBefore, Option, Outside, Position, Previous, ScannerState, Site, SoFar, Some, Stands, Step, Tok, Token, [], act_of, ap, arith, begins_free_line, begun_by, chosen, ends_at, entries_by, entry_by, false, first_choice, first_entry, further_lines_stand, gives_node, has_break, inl, inr, is_deep_enough, is_empty, is_in_column, is_renewed, is_separation, least_for, length, line_by, line_past, may_precede, may_stand, no_pair, not, outside_key, pop, position_after, previous_by, put, refl, seen, shown_position, site_at, site_here, site_in, site_past, spelled, subst, sym, taken, tokens_of_step, tokens_up_to, true, with_keys, ℕ, ◌&&◌, ◌++◌, ◌∙◌, ◌∷◌, ◌≡◌, ◌≤◌, ◌⊎◌, eqb-true, nat_tests}
-use Rattle.proof_scanner.proofs.Cut.Saved.{saved_keys}
-use Rattle.proof_scanner.proofs.Cut.Nodes.{IsDeep}
-use Rattle.proof_scanner.proofs.Known.Read.{knows_saved}
-use Rattle.proof_scanner.proofs.Known.Steps.{is_of_node}
-use Rattle.proof_scanner.proofs.Sound.Inserts.{among}
-use Rattle.proof_scanner.proofs.Sound.NodeSteps.{saved, choice_before, entry_past_node, bit_of, node_in_entry}
-use Rattle.proof_scanner.proofs.Sound.NodesOutside.{AreSame, line_after_node, node_tokens as node_outer_tokens}
-use Rattle.proof_scanner.proofs.Sound.OutOfFlow as out
-use Rattle.proof_scanner.proofs.Sound.OutOfFlow.{Outer}
-use Rattle.proof_scanner.proofs.Sound.Around.{line_taken, tokens_before}
-use Rattle.proof_scanner.proofs.Sound.KeyStarts.{new_key, keys_saved, numbered_inside, entry_kept}
-use Rattle.proof_scanner.proofs.Sound.Outsides.{must_be_here, numbered_past, unbroken_node, one_node, taken_node, may_node, line_node, same_node, open_node}
-use Rattle.proof_scanner.proofs.Sound.Sides.{with_entries, ArrivesBy, ArrivesOutside, ArrivesInside, arrives_side}
-use Rattle.proof_scanner.proofs.Sound.Arrivals.{some_rest, completes_at}
-use Rattle.proof_scanner.proofs.Sound.InFlow as flow
-use Rattle.proof_scanner.proofs.Cut.Positions.{not_before_then, not_before_after, after_piece}
-use Rattle.proof_scanner.proofs.Sound.Begun.{with_begun, with_no_key, choices_around, levels_by, begun_numbered}
-use Rattle.proof_scanner.proofs.Sound.NodeTokens.{past_step}
-use Rattle.proof_scanner.proofs.Sound.NodesInside.{node_tokens}
+use Rattle.proof_scanner.proofs.Common.{Account, AreEntries, Arrives, Bool, Entry, FlowLevel, Indent, IsCarriedOn, IsLine, IsNear, IsOpenOutside, IsPairOf, IsPiece, Key, KnowsKey, Line, List, MayChoose, None, NotBefore, Option, Outside, Position, Previous, ScannerState, Site, SoFar, Some, Stands, Step, Tok, Token, [], act_of, ap, arith, begins_free_line, begun_by, chosen, ends_at, entries_by, entry_by, false, first_choice, first_entry, further_lines_stand, gives_node, has_break, inl, is_deep_enough, is_empty, is_in_column, is_renewed, is_separation, least_for, length, line_by, line_past, may_precede, may_stand, no_pair, not, outside_key, pop, position_after, previous_by, put, refl, seen, shown_position, site_at, site_here, site_in, site_past, spelled, subst, sym, taken, tokens_of_step, tokens_up_to, true, with_keys, ℕ, ◌&&◌, ◌++◌, ◌∙◌, ◌∷◌, ◌≡◌, ◌≤◌, must_be_key}
+use Rattle.proof_scanner.proofs.Sound.Common.{after_piece, among, AreSame, by_sides, ArrivesBy, begun_numbered, bit_of, choice_before, choices_around, completes_at, entry_past_node, Goes, IsDeep, levels_by, line_after_node, line_taken, node_in_entry, node_outer_tokens, node_tokens, not_before_after, not_before_then, Outer, outer_completes, past_step, saved, saved_keys, some_rest, tokens_before, with_begun, with_entries, with_no_key}
+use Rattle.proof_scanner.proofs.Known.Steps.{knows_saved, is_of_node}
+use Rattle.proof_scanner.proofs.Sound.Outsides.{new_key, keys_saved, numbered_inside, must_be_here, numbered_past, unbroken_node, one_node, taken_node, may_node, line_node, same_node, open_node}
+use Rattle.proof_scanner.proofs.Sound.InFlow.{steps_in_flow}
 use Rattle.proof_scanner.proofs.Sound.Reads.{Reads, stands_so}
 use Rattle.proof_scanner.specs.StandsInRow.{kind_of}
 
@@ -98,7 +83,7 @@ module _ (text : List ℕ) (t : ScannerState) (level : Option FlowLevel) (fs : L
   some_here = some_rest t.rest d.piece (next_of d) r.reads.cut r.reads.is_solid
 
   before_end : NotBefore t.held.position d.end
-  before_end = grind (arith, nat_tests, eqb-true, not_before_then, not_before_after)
+  before_end = grind (arith, not_before_then, not_before_after)
 
   stands_here : may_stand (not (is_empty fs)) a.site (site_of t fs a.site) a.separation d.piece d.tok (next_of d) ≡ true
   stands_here = rw (a.is_indented some_here, r.is_deep, r.lines_stand, r.precedes) refl
@@ -146,7 +131,7 @@ module _ (text : List ℕ) (t : ScannerState) (level : Option FlowLevel) (k : Op
   abbrev after_by : Bool → Outside
   after_by c = record { line = line_by c key_then taken; blocks = x.blocks }
 
-  goes : (strict c : Bool) → MayChoose strict c key_then d.end d.rest → out.Goes text a.site a.separation d.piece (next_of d) d.tok x same_site strict (bit_of t.held.key_allowed c) (line_of c a.line) (line_of c a.line_here) (after_by c)
+  goes : (strict c : Bool) → MayChoose strict c key_then d.end d.rest → Goes text a.site a.separation d.piece (next_of d) d.tok x same_site strict (bit_of t.held.key_allowed c) (line_of c a.line) (line_of c a.line_here) (after_by c)
   goes strict c may = record {
     is_filled = subst (λ y. is_separation false a.separation y ≡ true) r.reads.cut a.is_filled;
     is_solid = r.reads.is_solid;
@@ -156,7 +141,7 @@ module _ (text : List ℕ) (t : ScannerState) (level : Option FlowLevel) (k : Op
     after_is = ap (λ y. line_past (strict && is_in_column x.position.col x.blocks) x.position x.blocks y (bit_of t.held.key_allowed c) (line_of c a.line_here)) r.act ∙
         line_after_node strict (is_in_column x.position.col x.blocks) t.held.key_allowed c k (new_key t) a.line_here t.held.position d.end x.blocks d.rest (line_node text t k a within deep some d.end d.rest later) refl (must_be_here text t k a within deep) may;
     in_line = one_node text t k a within deep some d.end d.rest later d.piece (λ x y. (r.one_line x y).0) strict c may;
-    idle = λ s. (grind (arith, nat_tests, eqb-true));
+    idle = λ s. (grind arith);
   }
 
   tokens_past : (strict c : Bool) → MayChoose strict c key_then d.end d.rest → (ws : List Step) (last : List ℕ) → spelled ws last ≡ next_of d →
@@ -182,7 +167,7 @@ module _ (text : List ℕ) (t : ScannerState) (level : Option FlowLevel) (k : Op
       subst (λ b. SoFar strict text (next_of d) b (tokens_up_to b keys_then (t.held.tokens ++ (own ∷ []))))
       (ap (λ es. record { site = site_then t [] a.site d; line = line_by c key_then taken; entries = es }) (r.begun ∙ (grind arith)) ∙
       ap (λ y. record { site = site_then t [] a.site d; line = line_by c y taken; entries = entries_by cs keys_then (with_begun level []) }) (sym (grind arith)))
-      (out.outer_completes text a.site a.separation d.piece (next_of d) d.tok x same_site strict (bit_of t.held.key_allowed c) (line_of c a.line) (line_of c a.line_here) (after_by c) (tokens_up_to (Outer a.site (line_of c a.line)) (k ∷ []) a.tokens)
+      (outer_completes text a.site a.separation d.piece (next_of d) d.tok x same_site strict (bit_of t.held.key_allowed c) (line_of c a.line) (line_of c a.line_here) (after_by c) (tokens_up_to (Outer a.site (line_of c a.line)) (k ∷ []) a.tokens)
       (λ ws last. with_keys 0 (site_then t [] a.site d).position ws last x.blocks (line_by c key_then taken) (begun_by d.tok) keys_then (t.held.tokens ++ (own ∷ []))) (goes strict c may) (tokens_past strict c may)
       (completes_at text t [] (k ∷ []) [] a (d.piece ++ next_of d) (position_after a.site.position a.separation (d.piece ++ next_of d)) r.reads.cut place strict (choice_before t.held.key_allowed c) []
       (subst (λ p. MayChoose strict (choice_before t.held.key_allowed c) k p (d.piece ++ next_of d)) place
@@ -245,14 +230,15 @@ module _ (text : List ℕ) (t : ScannerState) (level : Option FlowLevel) (f : Fl
 
   entries_then : (lv : Option FlowLevel) → IsBegun lv t d → d.allowed ≡ allowed_past lv true (previous_by d.tok) d.gap →
       AreEntries d.allowed (is_renewed (previous_by d.tok) d.gap) (levels_by lv (f ∷ fs)) (with_no_key lv (key_past ∷ ks)) (with_begun lv (entry_past_node t.held.key_allowed e ∷ es))
-  entries_then None i h = (entry_kept t f fs k e within t.held.key_allowed a.are_entries.0, grind arith, a.are_entries.2)
-  entries_then (Some lv) i h = (record { kind_is = refl; pair_is = i.0; key_is = tt }, (inl refl, h), (entry_kept t f fs k e within t.held.key_allowed a.are_entries.0, grind arith, a.are_entries.2))
+  unfolding must_be_key
+  entries_then None i h = ((grind arith), grind arith, a.are_entries.2)
+  entries_then (Some lv) i h = (record { kind_is = refl; pair_is = i.0; key_is = tt }, (inl refl, h), ((grind arith), grind arith, a.are_entries.2))
 
   node_inside : t.held.keys ≡ k ∷ ks → Stands text (state_after t level d)
   node_inside keys =
       let n : Entry = entry_past_node t.held.key_allowed e in
       let place = here_is text t level (f ∷ fs) (k ∷ ks) (e ∷ es) a d r in
-      flow.steps_in_flow text t (state_after t level d) f fs k ks e es a d.piece (next_of d) d.tok (with_no_key level (key_past ∷ ks)) (with_begun level (n ∷ es)) (levels_by level (f ∷ fs)) d.gap r.reads (record {
+      steps_in_flow text t (state_after t level d) f fs k ks e es a d.piece (next_of d) d.tok (with_no_key level (key_past ∷ ks)) (with_begun level (n ∷ es)) (levels_by level (f ∷ fs)) d.gap r.reads (record {
         flow_is = ap (levels_by level) within;
         keys_are = ap (with_no_key level) (keys_saved t k ks keys);
         one_each = grind arith;
@@ -287,8 +273,7 @@ module _ (text : List ℕ) (t : ScannerState) (level : Option FlowLevel) (f : Fl
 -- Where a piece begins, a part of a node was read: what holds between two fetches holds after it.
 pub node_read : (text : List ℕ) (t : ScannerState) (level : Option FlowLevel) (d : Read) → IsDeep t.held → Arrives text t →
     ((fs : List FlowLevel) (ks : List (Option Key)) (es : List Entry) → t.held.flow ≡ fs → (a : ArrivesBy text t fs ks es) → IsRead t level fs a.site a.line es a.separation d) → Stands text (state_after t level d)
-node_read text t level d deep arrives known = by (arrives_side text t arrives)
-  where
-    by : ArrivesOutside text t ⊎ ArrivesInside text t → Stands text (state_after t level d)
-    by (inl o) = node_outside text t level o.key o.here d o.flow_is deep (known [] (o.key ∷ []) [] o.flow_is o.here) o.keys_are o.knows
-    by (inr i) = node_inside text t level i.level i.levels i.key i.keys i.entry i.entries i.here d i.flow_is (known (i.level ∷ i.levels) (i.key ∷ i.keys) (i.entry ∷ i.entries) i.flow_is i.here) i.keys_are
+node_read text t level d deep arrives known =
+    by_sides text t (λ u. ((fs : List FlowLevel) (ks : List (Option Key)) (es : List Entry) → u.held.flow ≡ fs → (a : ArrivesBy text u fs ks es) → IsRead u level fs a.site a.line es a.separation d) → Stands text (state_after u level d)) arrives
+    (λ k a n known. node_outside text _ level k a d refl deep (known [] (k ∷ []) [] refl a) refl n)
+    (λ f fs k ks e es a known. node_inside text _ level f fs k ks e es a d refl (known (f ∷ fs) (k ∷ ks) (e ∷ es) refl a) refl) known

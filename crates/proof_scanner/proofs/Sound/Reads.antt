@@ -1,10 +1,6 @@
 -- What was read from one state to another: a piece at a site, and a separation after it; and what the scanner holds then that no key decides.
 use Rattle.proof_scanner.proofs.Common.{Account, AreEntries, AreLevels, AreNumbered, Before, Bool, FlowLevel, HasNoTabs, IsAdjacent, IsCarriedOn, IsLeading, IsLine, IsOpenOutside, IsReadOn, Key, KnowsKey, List, MayChoose, Option, Position, Previous, ScannerState, Site, SoFar, Stands, another, arith, before_by, before_past, begins_free_line, begins_line, chosen, columns, false, flow_collection, has_no_break, has_no_nul, has_open_level, is_empty, is_renewed, is_separation, is_waiting, length, no_nul_after, not, other, outside_key, position_after, suc, tokens_up_to, true, ℕ, ◌++◌, ◌≡◌, ◌≤◌, ◌⊎◌, eqb-true, nat_tests}
-use Rattle.proof_scanner.proofs.Sound.Sides.{stands_by}
-use Rattle.proof_scanner.proofs.Cut.Nodes.{adjacent_other}
-use Rattle.proof_scanner.proofs.Cut.Positions.{index_after}
-use Rattle.proof_scanner.proofs.Sound.Arrivals.{not_none}
-use Rattle.proof_scanner.proofs.Sound.Indicated.{none_indents}
+use Rattle.proof_scanner.proofs.Sound.Common.{adjacent_other, index_after, none_indents, not_none, stands_by}
 
 -- The site is that after the piece.
 pub record Reads (t u : ScannerState) (y : Site) (piece next gap : List ℕ) : Type 0 where
@@ -39,7 +35,7 @@ pub record StandsThen (text : List ℕ) (u : ScannerState) (gs : List FlowLevel)
 
 pub stands_so : (text : List ℕ) (t u : ScannerState) (piece next gap : List ℕ) (gs : List FlowLevel) (ls : List (Option Key)) (base : Account) → has_no_nul t.rest ≡ true → t.held.started ≡ true → t.held.ended ≡ false →
     Reads t u base.site piece next gap → StandsThen text u gs ls base gap → Stands text u
-stands_so text t u piece next gap gs ls base clean started going r g = grind (arith, nat_tests, eqb-true, no_nul_after, stands_by)
+stands_so text t u piece next gap gs ls base clean started going r g = grind (arith, no_nul_after, stands_by)
 
 -- ---- what is the same for many pieces
 
@@ -51,17 +47,17 @@ adjacent_kept t u before piece next gap solid place was same plain_end = grind (
 -- after an indicator or a bracket, and a separation on its line
 pub quiet_before : (before : Previous) (q : Position) (gap rest : List ℕ) → (before ≡ another) ⊎ (before ≡ flow_collection) → has_no_break gap ≡ true →
     (begins_line before gap ≡ false) × (begins_free_line before gap ≡ false) × (is_renewed before gap ≡ false) × IsReadOn before q gap rest
-quiet_before before q gap rest a h = grind (arith, nat_tests, eqb-true)
+quiet_before before q gap rest a h = grind arith
 
 -- The separation is on the piece's line.
 pub reads_in_line : (t u : ScannerState) (y : Site) (piece next gap : List ℕ) → is_empty piece ≡ false → t.rest ≡ piece ++ next → next ≡ gap ++ u.rest → is_separation false gap u.rest ≡ true → has_no_break gap ≡ true → u.held.position ≡ position_after y.position gap u.rest →
     u.held.leading ≡ false → (y.before ≡ another) ⊎ (y.before ≡ flow_collection) → y.blocks ≡ columns u.held.indent u.held.indents → y.awaits ≡ has_open_level u.held.indents → AreLevels u.held.indent u.held.indents →
     (is_empty u.held.flow ≡ false → IsAdjacent (before_past (before_by y.before) gap) u.held.position u.held.adjacent_value_at u.rest) → u.held.adjacent_value_at ≤ u.held.position.index → (u.held.started ≡ t.held.started) × (u.held.ended ≡ t.held.ended) → Reads t u y piece next gap
-reads_in_line t u y piece next gap solid cut is_rest fills a place leads before columns_are awaits levels adjacent less same = grind (arith, nat_tests, eqb-true, quiet_before, none_indents)
+reads_in_line t u y piece next gap solid cut is_rest fills a place leads before columns_are awaits levels adjacent less same = grind (arith, quiet_before, none_indents)
 
 -- the same, where no colon may stand next to the piece
 pub reads_before_none : (t u : ScannerState) (y : Site) (piece next gap : List ℕ) → is_empty piece ≡ false → t.rest ≡ piece ++ next → next ≡ gap ++ u.rest → is_separation false gap u.rest ≡ true → has_no_break gap ≡ true →
     y.position ≡ position_after t.held.position piece next → u.held.position ≡ position_after (position_after t.held.position piece next) gap u.rest →
     u.held.leading ≡ false → y.before ≡ another → y.blocks ≡ columns u.held.indent u.held.indents → y.awaits ≡ has_open_level u.held.indents → AreLevels u.held.indent u.held.indents → t.held.adjacent_value_at ≤ t.held.position.index →
     (u.held.adjacent_value_at ≡ t.held.adjacent_value_at) × (u.held.started ≡ t.held.started) × (u.held.ended ≡ t.held.ended) → Reads t u y piece next gap
-reads_before_none t u y piece next gap solid cut is_rest fills a b place leads before columns_are awaits levels was same = grind (arith, nat_tests, eqb-true, adjacent_kept, reads_in_line)
+reads_before_none t u y piece next gap solid cut is_rest fills a b place leads before columns_are awaits levels was same = grind (arith, adjacent_kept, reads_in_line)

@@ -1,10 +1,10 @@
 -- Where a block collection begins, and where the value of an entry is awaited: the levels of indentation, and the columns of the block collections.
-use Rattle.proof_scanner.proofs.Common.{AreCollections, AreLevels, Bool, Held, Indent, IsNotRight, IsTopLevel, List, Option, Position, Tok, Token, [], ap, arith, columns, deepen, drop_open, drop_open_level, false, has_open_level, if◌then◌else◌, in_block, in_flow, innermost, is_deeper, is_empty, level, nat_le, nat_lt, nat_tests, opened, placed, refl, roll_indent, roll_one_col_indent, subst, sym, token, top_needs_block_end, true, ℕ, ◌+◌, ◌-◌, ◌<◌, ◌∙◌, ◌∷◌, ◌≡◌, ◌≤◌, eqb-true}
+use Rattle.proof_scanner.proofs.Common.{AreCollections, AreLevels, Bool, Held, Indent, IsNotRight, IsTopLevel, List, Option, Position, Tok, Token, [], ap, arith, columns, deepen, drop_open, drop_open_level, false, has_open_level, if◌then◌else◌, in_block, in_flow, innermost, is_deeper, is_empty, level, nat_le, nat_lt, opened, placed, refl, roll_indent, roll_one_col_indent, subst, sym, token, top_needs_block_end, true, ℕ, ◌+◌, ◌-◌, ◌<◌, ◌∙◌, ◌∷◌, ◌≡◌, ◌≤◌, eqb-true}
 
 -- a column is deeper than the innermost collection just where it is deeper than its level
 pub deeper_is : (col i : ℕ) (ds : List Indent) → AreCollections i ds → is_deeper col (columns i ds) ≡ nat_lt i (col + 1)
-deeper_is col i [] a = rw a (sym (grind (arith, nat_tests)))
-deeper_is col i (d ∷ ds) a = grind (arith, nat_tests, eqb-true)
+deeper_is col i [] a = rw a (sym (grind arith))
+deeper_is col i (d ∷ ds) a = grind arith
 
 -- A collection begins at a column where that is deeper than the innermost one, and its start is put among the tokens; else that one goes on.
 pub record RollsTo (col : ℕ) (number : Option ℕ) (t : Token) (s u : Held) : Type 0 where
@@ -30,38 +30,22 @@ deepened col number t s a low = by (nat_lt s.indent (col + 1)) refl
           indent = col + 1;
           is_held = ap (λ b. record s { indents = level s.indent true ∷ s.indents; indent = col + 1; tokens = (if b then placed number t s.tokens else s.tokens) }) deeper;
           columns_are = ap (λ n. n ∷ bs) (omega arith) ∙ ap (λ b. if b then col ∷ bs else bs) deeper;
-          are_levels = (grind (arith, nat_tests, e), a);
+          are_levels = (grind (arith, e), a);
           is_top = λ h. refl;
         }
-    by false e =
-        let deeper : false ≡ is_deeper col bs = sym (deeper_is col s.indent s.indents a ∙ e) in
-        record {
-          indents = s.indents;
-          indent = s.indent;
-          is_held = ap (λ b. record s { tokens = (if b then placed number t s.tokens else s.tokens) }) deeper;
-          columns_are = ap (λ b. if b then col ∷ bs else bs) deeper;
-          are_levels = grind arith;
-          is_top = λ h. (grind arith);
-        }
+    by false e = let deeper : is_deeper col (columns s.indent s.indents) ≡ false = deeper_is col s.indent s.indents a ∙ e in grind (arith, deeper, e)
 
 -- an open level is one column deeper than a collection whose column is that of the piece
 open_goes_on : (col : ℕ) (number : Option ℕ) (t : Token) (s : Held) (d : Indent) (ds : List Indent) → s.indents ≡ d ∷ ds → d.needs_block_end ≡ false → AreLevels s.indent (d ∷ ds) → IsNotRight (innermost (columns d.indent ds)) col → col + 1 < s.indent →
     RollsTo col number t s (deepen col number t s)
 unfolding deepen
-open_goes_on col number t s d ds e no_end l right high = rw stays (record {
-  indents = s.indents;
-  indent = s.indent;
-  is_held = ap (λ b. record s { tokens = (if b then placed number t s.tokens else s.tokens) }) not_deeper;
-  columns_are = ap (λ b. if b then col ∷ columns s.indent s.indents else columns s.indent s.indents) not_deeper;
-  are_levels = subst (λ x. AreLevels s.indent x) (sym e) l;
-  is_top = λ h. absurd (omega (arith, h, high));
-})
+open_goes_on col number t s d ds e no_end l right high = rw stays (grind (arith, not_deeper, stays, high))
   where
     stays : nat_lt s.indent (col + 1) ≡ false
-    stays = grind (arith, nat_tests, high)
+    stays = grind (arith, high)
 
     not_deeper : false ≡ is_deeper col (columns s.indent s.indents)
-    not_deeper = sym (ap (is_deeper col) (ap (columns s.indent) e ∙ ap (λ b. if b then (s.indent - 1) ∷ columns d.indent ds else columns d.indent ds) no_end) ∙ (deeper_is col d.indent ds l.1 ∙ (let h = (subst (λ b. IsTopLevel b s.indent d.indent ds) no_end l.0).0 in grind (arith, nat_tests, h, high))))
+    not_deeper = sym (ap (is_deeper col) (ap (columns s.indent) e ∙ ap (λ b. if b then (s.indent - 1) ∷ columns d.indent ds else columns d.indent ds) no_end) ∙ (deeper_is col d.indent ds l.1 ∙ (let h = (subst (λ b. IsTopLevel b s.indent d.indent ds) no_end l.0).0 in grind (arith, h, high))))
 
 -- ---- a collection begins
 
@@ -79,7 +63,7 @@ rolls_to col number tok p s out levels right = rw out (on (nat_le s.indent (col 
     t = token p tok
 
     low : (d : Indent) (ds : List Indent) (b : Bool) → s.indents ≡ d ∷ ds → d.needs_block_end ≡ b → AreLevels s.indent (d ∷ ds) → s.indent ≤ col + 1 → RollsTo col number t s (deepen col number t (if b then s else record s { indent = d.indent; indents = ds }))
-    low d ds true e f l h = grind (arith, nat_tests, eqb-true, deepened, t)
+    low d ds true e f l h = grind (arith, deepened, t)
     low d ds false e f l h =
         let first : IsTopLevel false s.indent d.indent ds = subst (λ b. IsTopLevel b s.indent d.indent ds) f l.0 in
         let more : s.indent ≡ d.indent + 1 = first.0 in
@@ -87,7 +71,7 @@ rolls_to col number tok p s out levels right = rw out (on (nat_le s.indent (col 
         (deepened col number t (record s { indent = d.indent; indents = ds }) l.1 (omega (arith, h, more)))
 
     on : (b : Bool) → nat_le s.indent (col + 1) ≡ b → (ds : List Indent) → s.indents ≡ ds → AreLevels s.indent ds → IsNotRight (innermost (columns s.indent ds)) col → RollsTo col number t s (deepen col number t (if b then drop_open s ds else s))
-    on a e b f l r = grind (arith, nat_tests, deepened, t, low, eqb-true, open_goes_on)
+    on a e b f l r = grind (arith, deepened, t, low, eqb-true, open_goes_on)
 
 -- ---- the value of an entry is awaited
 

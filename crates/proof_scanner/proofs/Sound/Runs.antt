@@ -1,5 +1,5 @@
 -- A run keeps what each fetch keeps; at its end the tokens are those of a row.
-use Rattle.proof_scanner.proofs.Common.{Fares, FetchKeeps, IsRead, List, Ok, Reaches, ScannerState, Stands, TokensAreOfARow, ap, begins, false, fetch, fetch_stream_start, has_no_nul, here, over, refl, start, subst, sym, there, true, ℕ, ◌∙◌, ◌≡◌, nat_tests, eqb-true, arith}
+use Rattle.proof_scanner.proofs.Common.{Fares, FetchKeeps, IsRead, List, Ok, Reaches, ScannerState, Stands, TokensAreOfARow, ap, begins, false, fetch, fetch_stream_start, has_no_nul, here, over, refl, start, subst, sym, there, true, ℕ, ◌∙◌, ◌≡◌, arith}
 use Rattle.proof_scanner.specs.StandsInRow.{goes}
 use Rattle.proof_scanner.proofs.Sound.Starts.{stream_started}
 
@@ -24,4 +24,4 @@ pub read_as_a_row : FetchKeeps → TokensAreOfARow
 read_as_a_row kept text tokens nul h = by (reached kept text nul (start text) h.end h.run (begins refl))
   where
     by : Fares text h.end → IsRead text tokens
-    by a = grind (arith, nat_tests, eqb-true)
+    by a = grind arith

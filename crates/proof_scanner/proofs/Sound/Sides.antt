@@ -1,5 +1,5 @@
 -- Where a piece begins, and between two fetches: what holds with the flow levels, the open keys and the entries taken apart, outside flow and in flow.
-use Rattle.proof_scanner.proofs.Common.{Account, Arrives, Entry, FlowLevel, Key, KnowsKey, Line, List, Option, ScannerState, Site, Stands, [], arith, false, inl, is_empty, outside_key, refl, subst, sym, ℕ, ◌++◌, ◌∷◌, ◌≡◌, ◌⊎◌}
+use Rattle.proof_scanner.proofs.Common.{Account, Arrives, Entry, FlowLevel, Key, KnowsKey, Line, List, Option, ScannerState, Site, Stands, [], arith, false, is_empty, outside_key, subst, sym, ℕ, ◌++◌, ◌∷◌, ◌≡◌}
 use Rattle.proof_scanner.specs.Arrives.{ArrivesWith}
 use Rattle.proof_scanner.specs.StandsInRow.{StandsWith}
 
@@ -17,37 +17,22 @@ pub record ArrivesBy (text : List ℕ) (t : ScannerState) (fs : List FlowLevel) 
   pub open known use *
   pub knows : is_empty fs ≡ false → KnowsKey text (separation ++ t.rest) t.held.position (outside_key es ks)
 
--- Outside flow there is one key at most, and no entry.
-pub record ArrivesOutside (text : List ℕ) (t : ScannerState) : Type 0 where
-  pub key : Option Key
-  pub flow_is : t.held.flow ≡ []
-  pub keys_are : t.held.keys ≡ key ∷ []
-  pub here : ArrivesBy text t [] (key ∷ []) []
-  pub knows : KnowsKey text (here.separation ++ t.rest) t.held.position key
+-- the state with these flow levels and open keys
+abbrev pub with_sides : ScannerState → List FlowLevel → List (Option Key) → ScannerState
+with_sides t fs ks = record t { held = record t.held { flow = fs; keys = ks } }
 
--- In flow the innermost entry has its flow level and its key.
-pub record ArrivesInside (text : List ℕ) (t : ScannerState) : Type 0 where
-  pub level : FlowLevel
-  pub levels : List FlowLevel
-  pub key : Option Key
-  pub keys : List (Option Key)
-  pub entry : Entry
-  pub entries : List Entry
-  pub flow_is : t.held.flow ≡ level ∷ levels
-  pub keys_are : t.held.keys ≡ key ∷ keys
-  pub here : ArrivesBy text t (level ∷ levels) (key ∷ keys) (entry ∷ entries)
-
--- One of these holds.
-pub arrives_side : (text : List ℕ) (t : ScannerState) → Arrives text t → ArrivesOutside text t ⊎ ArrivesInside text t
-arrives_side text t a = by t.held.flow t.held.keys a.base.entries refl refl (record { site = a.base.site; line = a.base.line; known = a.known; knows = λ _. a.knows }) a.knows
+-- It is enough to show something outside flow, where there is one key at most and no entry, and in flow, where the innermost entry has its flow level and its key.
+pub by_sides : (text : List ℕ) (t : ScannerState) (P : ScannerState → Type 0) → Arrives text t →
+    ((k : Option Key) (a : ArrivesBy text (with_sides t [] (k ∷ [])) [] (k ∷ []) []) → KnowsKey text (a.separation ++ t.rest) t.held.position k → P (with_sides t [] (k ∷ []))) →
+    ((f : FlowLevel) (fs : List FlowLevel) (k : Option Key) (ks : List (Option Key)) (e : Entry) (es : List Entry) →
+    ArrivesBy text (with_sides t (f ∷ fs) (k ∷ ks)) (f ∷ fs) (k ∷ ks) (e ∷ es) → P (with_sides t (f ∷ fs) (k ∷ ks))) → P t
+by_sides text t P a outer inner = by t.held.flow t.held.keys a.base.entries (record { site = a.base.site; line = a.base.line; known = a.known; knows = λ _. a.knows }) a.knows
   where
-    by : (fs : List FlowLevel) (ks : List (Option Key)) (es : List Entry) → t.held.flow ≡ fs → t.held.keys ≡ ks → (p : ArrivesBy text t fs ks es) → KnowsKey text (p.separation ++ t.rest) t.held.position (outside_key es ks) → ArrivesOutside text t ⊎ ArrivesInside text t
-    by [] [] es f k p n = absurd (omega (arith, p.one_each))
-    by [] (k ∷ l ∷ ks) es f q p n = absurd (omega (arith, p.one_each))
-    by [] (k ∷ []) [] f q p n = inl (record { key = k; flow_is = f; keys_are = q; here = p; knows = n })
-    by [] (k ∷ []) (e ∷ es) f q p n = absurd p.are_entries
-    by (f ∷ fs) [] es i q p n = absurd (omega (arith, p.one_each))
-    by (f ∷ fs) (k ∷ ks) a i q p n = grind arith
+    by : (fs : List FlowLevel) (ks : List (Option Key)) (es : List Entry) (p : ArrivesBy text (with_sides t fs ks) fs ks es) → KnowsKey text (p.separation ++ t.rest) t.held.position (outside_key es ks) →
+        P (with_sides t fs ks)
+    by [] (k ∷ []) [] p n = outer k p n
+    by (f ∷ fs) (k ∷ ks) (e ∷ es) p n = inner f fs k ks e es p
+    by fs ks es p n = absurd (let m = p.one_each in let a = p.are_entries in grind arith)
 
 -- ---- between two fetches
 

@@ -1,6 +1,6 @@
 -- What the model skips between tokens leaves no TAB in the indentation of the next one.
 use Rattle.std.proofs.lemmas.List.{length-append}
-use Rattle.proof_scanner.proofs.Common.{At, Bool, Err, Fault, Gap, Held, Holds, List, Ok, Previous, Result, ScannerState, [], and_parts, ap, append-nil, append_assoc, arith, begins_line, between, comment, eqb-true, false, has_tab_within, if◌then◌else◌, inl, inr, is_at_comment_or_end, is_before_indent, is_cr_lf, is_empty, last_line, length, moved, nat_tests, no_hash, or-false, or-true, past_line, refl, refused, same_break, skip, subst, suc, sym, tab_line, true, weakened, went, ℕ, ◌&&◌, ◌++◌, ◌==◌, ◌||◌, ◌∙◌, ◌∷◌, ◌≡◌, ◌⊎◌}
+use Rattle.proof_scanner.proofs.Common.{At, Bool, Err, Fault, Gap, Held, Holds, List, Ok, Previous, Result, ScannerState, [], and_parts, ap, append-nil, append_assoc, arith, begins_line, between, comment, eqb-true, false, has_tab_within, if◌then◌else◌, inl, inr, is_at_comment_or_end, is_before_indent, is_cr_lf, is_empty, last_line, length, moved, no_hash, or-false, or-true, past_line, refl, refused, same_break, skip, subst, suc, sym, tab_line, true, weakened, went, ℕ, ◌&&◌, ◌++◌, ◌==◌, ◌||◌, ◌∙◌, ◌∷◌, ◌≡◌, ◌⊎◌}
 use Rattle.yaml_chars.specs.Class.{is_break, is_blank}
 use Rattle.yaml_tokens.specs.declared.problem.Problem.TheVariants as problem
 use Rattle.defs_text.specs.Classes as classes
@@ -8,7 +8,7 @@ use Rattle.proof_scanner.proofs.Sound.LastLines.{break_append, last_more, tab_wi
 
 -- a break more begins a line, and nothing else does
 pub line_more : (before : Previous) (g : List ℕ) (c : ℕ) → begins_line before (g ++ c ∷ []) ≡ (begins_line before g || classes.is_break c)
-line_more before g c = grind (arith, nat_tests, eqb-true, break_append)
+line_more before g c = grind (arith, break_append)
 
 module _ (before : Previous) (least : ℕ) where
   -- no TAB stands before the least column, if the line begins here
@@ -44,7 +44,7 @@ module _ (before : Previous) (least : ℕ) where
   -- ---- a break
 
   pub at_line : (g : List ℕ) (c : ℕ) (s : Held) → is_break c ≡ true → IsAt (g ++ c ∷ []) (past_line s)
-  at_line g c s e = grind (arith, nat_tests, eqb-true, same_break, last_more, line_more, or-true)
+  at_line g c s e = grind (arith, same_break, last_more, line_more, or-true)
 
   pub feed_next : (c : ℕ) (a : List ℕ) → is_cr_lf c a ≡ true → is_at_comment_or_end a ≡ true
   unfolding classes.is_break
@@ -55,7 +55,7 @@ module _ (before : Previous) (least : ℕ) where
   -- a blank that is no TAB in the indentation
   pub at_blank : (g : List ℕ) (c : ℕ) (s : Held) → classes.is_break c ≡ false → ((c == 9) && is_before_indent s) ≡ false → IsLeast s → IsAt g s → IsAt (g ++ c ∷ []) (moved s)
   unfolding is_before_indent
-  at_blank g c s e f l h = grind (arith, nat_tests, line_more, or-false, last_more, length-append, tab_within_more, eqb-true)
+  at_blank g c s e f l h = grind (arith, line_more, or-false, last_more, length-append, tab_within_more, eqb-true)
 
   -- ---- each character
 
@@ -85,7 +85,7 @@ module _ (before : Previous) (least : ℕ) where
 
     between_by : (g a : List ℕ) (c : ℕ) (s : Held) → is_break c ≡ false → IsLeast s → IsPassed Tabbed between g s (c ∷ a) → Tells a → Q g (c ∷ a) s (skip between (c ∷ a) s)
     unfolding skip
-    between_by g a c s e l h ih = rw e (by ((c == 9) && is_before_indent s) refl)
+    between_by g a c s e l h ih = rw e (by ((c == 9) && is_before_indent s) (is_blank c) (c == 35) refl refl refl)
       where
         at : (c == 35) ≡ false → IsAt g s
         at f = from h
@@ -94,20 +94,14 @@ module _ (before : Previous) (least : ℕ) where
             from (inl x) = absurd (cc (x, no_end c a e f))
             from (inr x) = x
 
-        later : (b : Bool) → is_blank c ≡ b → ((c == 9) && is_before_indent s) ≡ false → Q g (c ∷ a) s (if b then skip between a (moved s) else (if c == 35 then skip comment a (record (moved s) { leading = false }) else Ok (record { rest = c ∷ a; held = s })))
-        later true b f = w.further g a c s (moved s) _ (omega arith) (ih between (g ++ c ∷ []) (moved s) l (inr (at_blank g c s (same_break c ∙ e) f l (at (no_hash c b)))))
-        later false b f = last (c == 35) refl
-          where
-            last : (x : Bool) → (c == 35) ≡ x → Q g (c ∷ a) s (if x then skip comment a (record (moved s) { leading = false }) else Ok (record { rest = c ∷ a; held = s }))
-            last true x = w.further g a c s (record (moved s) { leading = false }) _ (omega arith) (ih comment (g ++ c ∷ []) (record (moved s) { leading = false }) l tt)
-            last false x = w.arrives g a c s (at x)
-
-        by : (t : Bool) → ((c == 9) && is_before_indent s) ≡ t → Q g (c ∷ a) s
-            (if t then skip tab_line a (moved s) else (if is_blank c then skip between a (moved s) else (if c == 35 then skip comment a (record (moved s) { leading = false }) else Ok (record { rest = c ∷ a; held = s }))))
-        by true t =
-            let q = and_parts (c == 9) (is_before_indent s) t in
-            w.further g a c s (moved s) _ (omega arith) (ih tab_line (g ++ c ∷ []) (moved s) l (w.tab g c s e t l (at (let i : c ≡ 9 = eqb-true c 9 q.0 in rw i refl))))
-        by false t = later (is_blank c) refl t
+        by : (t b x : Bool) → ((c == 9) && is_before_indent s) ≡ t → is_blank c ≡ b → (c == 35) ≡ x → Q g (c ∷ a) s
+            (if t then skip tab_line a (moved s) else (if b then skip between a (moved s) else (if x then skip comment a (record (moved s) { leading = false }) else Ok (record { rest = c ∷ a; held = s }))))
+        by true b x f i k =
+            let q = and_parts (c == 9) (is_before_indent s) f in
+            w.further g a c s (moved s) _ (omega arith) (ih tab_line (g ++ c ∷ []) (moved s) l (w.tab g c s e f l (at (let i : c ≡ 9 = eqb-true c 9 q.0 in rw i refl))))
+        by false true x f i k = w.further g a c s (moved s) _ (omega arith) (ih between (g ++ c ∷ []) (moved s) l (inr (at_blank g c s (same_break c ∙ e) f l (at (no_hash c i)))))
+        by false false true f i k = w.further g a c s (record (moved s) { leading = false }) _ (omega arith) (ih comment (g ++ c ∷ []) (record (moved s) { leading = false }) l tt)
+        by false false false f i k = w.arrives g a c s (at k)
 
     comment_by : (g a : List ℕ) (c : ℕ) (s : Held) → is_break c ≡ false → IsLeast s → Tells a → Q g (c ∷ a) s (skip comment (c ∷ a) s)
     unfolding skip
@@ -123,7 +117,7 @@ module _ (before : Previous) (least : ℕ) where
         by false false = w.fails g a c s h
 
     one_by : (m : Gap) (g a : List ℕ) (c : ℕ) (s : Held) (b : Bool) → is_break c ≡ b → IsLeast s → IsPassed Tabbed m g s (c ∷ a) → Tells a → Q g (c ∷ a) s (skip m (c ∷ a) s)
-    one_by m g a c s b e l h ih = grind (arith, nat_tests, eqb-true, broken, between_by, comment_by, tab_by)
+    one_by m g a c s b e l h ih = grind (arith, broken, between_by, comment_by, tab_by)
 
     pub skip_tells : (a : List ℕ) → Tells a
     unfolding skip

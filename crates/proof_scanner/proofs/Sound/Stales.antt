@@ -1,10 +1,8 @@
 -- Keys that are too far back are dropped: what holds between two fetches still holds, without them.
-use Rattle.proof_scanner.proofs.Common.{Account, AreEntries, Bool, Entry, Fares, FlowLevel, Held, Holds, IsAtEnd, IsCarriedOn, IsCutUpTo, IsLine, IsNear, IsOpenOutside, IsRead, Key, KnowsKey, List, MayChoose, None, Option, Position, ScannerState, SoFar, Some, Stands, Step, Token, [], ap, arith, begins_free_line, chosen, drop_stale, either, false, have_no_key, in_flow, inl, inr, is_empty, is_far, is_renewed, is_waiting, length, not, not-false, outside_key, over, refl, refused, stale, subst, suc, sym, tokens_from, tokens_up_to, tried, true, try_held, went, ℕ, ◌++◌, ◌+◌, ◌∙◌, ◌∷◌, ◌≡◌, ◌≤◌, ◌⊎◌, eqb-true, nat_tests}
+use Rattle.proof_scanner.proofs.Common.{Account, AreEntries, Bool, Entry, Fares, FlowLevel, Held, Holds, IsAtEnd, IsCarriedOn, IsCutUpTo, IsNear, IsRead, Key, List, MayChoose, None, Option, ScannerState, SoFar, Some, Stands, Step, Token, [], ap, arith, chosen, drop_stale, either, false, have_no_key, in_flow, inl, inr, is_empty, is_far, is_waiting, length, not-false, over, refl, refused, stale, subst, suc, sym, tokens_from, tokens_up_to, tried, true, try_held, went, ℕ, ◌++◌, ◌+◌, ◌∙◌, ◌∷◌, ◌≡◌, ◌⊎◌}
 use Rattle.proof_scanner.proofs.Known.Steps.{known_far}
-use Rattle.proof_scanner.specs.StandsInRow.{goes}
-use Rattle.proof_scanner.proofs.Sound.Completed.{may_be_no_key}
-use Rattle.proof_scanner.proofs.Sound.StreamEnds.{entries_no_key, none_chosen, none_put}
-use Rattle.proof_scanner.proofs.Sound.Sides.{stands_by}
+use Rattle.proof_scanner.specs.StandsInRow.{StandsWith, goes}
+use Rattle.proof_scanner.proofs.Sound.Common.{with_entries, may_be_no_key, none_chosen, none_put, stands_by}
 
 -- rows are completed alike by tokens that are alike
 pub completes_alike : (strict : Bool) (text after : List ℕ) (a : Account) (T U : List Step → List ℕ → List Token) → ((ws : List Step) (last : List ℕ) → T ws last ≡ U ws last) → SoFar strict text after a T → SoFar strict text after a U
@@ -15,56 +13,30 @@ completes_alike false text after a T U same h = (h.0, λ ws last e. subst (λ ts
 pub no_entries : (allowed again : Bool) (fs : List FlowLevel) (ks : List (Option Key)) (es : List Entry) → is_empty fs ≡ true → AreEntries allowed again fs ks es → es ≡ []
 no_entries allowed again a ks es o b = grind arith
 
-pub entries_outside : (allowed again : Bool) (fs : List FlowLevel) (ks : List (Option Key)) (es : List Entry) → is_empty fs ≡ true → es ≡ [] → AreEntries allowed again fs ks es
-entries_outside allowed again a ks es o e = grind arith
-
 pub one_key : (ks : List (Option Key)) (fs : List FlowLevel) → length ks ≡ suc (length fs) → is_empty fs ≡ true → (k : Option Key) × (ks ≡ k ∷ [])
-one_key [] fs n o = absurd (omega (arith, n))
 one_key (k ∷ []) fs n o = (k, refl)
-one_key (k ∷ x ∷ ks) [] n o = absurd (omega (arith, n))
-one_key (k ∷ x ∷ ks) (f ∷ fs) n o = absurd (cc o)
+one_key ks fs n o = absurd (grind arith)
 
 -- where no open key is one, the tokens are those that the scanner holds
 pub none_completes : (strict : Bool) (text after : List ℕ) (a : Account) (ks : List (Option Key)) (ts : List Token) → is_waiting a.line ≡ false → have_no_key a.entries ≡ true →
     SoFar strict text after (chosen false [] ks a) (tokens_up_to (chosen false [] ks a) ks ts) → SoFar strict text after a (λ ws last. ts)
-none_completes strict text after a ks ts no_key none h = grind (arith, nat_tests, eqb-true, completes_alike, none_put, none_chosen)
+none_completes strict text after a ks ts no_key none h = grind (arith, completes_alike, none_put, none_chosen)
 
 -- The open key outside flow is dropped, if it need not be one.
 pub key_dropped : (text : List ℕ) (u : ScannerState) → (s : Stands text u) → is_empty u.held.flow ≡ true → (k : Key) → u.held.keys ≡ Some k ∷ [] → is_far k.position u.held.position ≡ true → k.required ≡ false → Stands text (record u { held = record u.held { keys = None ∷ [] } })
-key_dropped text u s out k only far free = dropped
+key_dropped text u s out k only far free = by u.held.flow u.held.keys s.base.entries refl only out s.known
   where
-    After : List ℕ
-    After = s.separation ++ u.rest
-
-    Of : Bool → Bool → List Bool → Account → Type 0
-    Of strict c cs a = SoFar strict text After (chosen c cs (None ∷ []) a) (tokens_up_to (chosen c cs (None ∷ []) a) (None ∷ []) u.held.tokens)
-
-    none : s.base.entries ≡ []
-    none = no_entries u.held.key_allowed (is_renewed s.base.site.before s.separation) u.held.flow u.held.keys s.base.entries out s.are_entries
-
-    may : MayChoose true false (outside_key s.base.entries u.held.keys) u.held.position u.rest
-    may = subst (λ es. MayChoose true false (outside_key es u.held.keys) u.held.position u.rest) (sym none) (subst (λ ks. MayChoose true false (outside_key [] ks) u.held.position u.rest) (sym only) free)
-
-    own : (strict c : Bool) (cs : List Bool) → Of strict c cs (record s.base { entries = [] })
-    own strict c cs = subst (λ es. SoFar strict text After (record s.base { entries = es }) (λ ws last. u.held.tokens)) none (none_completes strict text After s.base u.held.keys u.held.tokens s.no_key (entries_no_key u.held.key_allowed (is_renewed s.base.site.before s.separation) u.held.flow u.held.keys s.base.entries s.are_entries)
-        (s.completes strict false [] (may_be_no_key strict (outside_key s.base.entries u.held.keys) u.held.position u.rest may)))
-
-    dropped : Stands text (record u { held = record u.held { keys = None ∷ [] } })
-    dropped = stands_by text _ u.held.flow (None ∷ []) s.base refl refl (
-        let carries : IsCarriedOn text After u.rest (None ∷ []) s.base = λ cs x key m inside some. absurd (cc (inside, ap is_empty none)) in
-        let completes : (strict c : Bool) (cs : List Bool) → MayChoose strict c (outside_key s.base.entries (None ∷ [])) u.held.position u.rest → Of strict c cs s.base = λ strict c cs may. subst (λ es. Of strict c cs (record s.base { entries = es })) (sym none) (own strict c cs) in
-        search (
-          s.is_filled,
-          s,
-          sym (ap length only) ∙ s.one_each,
-          entries_outside u.held.key_allowed (is_renewed s.base.site.before s.separation) u.held.flow (None ∷ []) s.base.entries out none,
-          carries,
-          completes,
-          subst (λ es. IsLine (not (is_empty u.held.flow)) u.held.key_allowed (begins_free_line s.base.site.before s.separation) u.held.position u.rest (outside_key es (None ∷ [])) s.base.line) (sym none) (grind arith),
-          subst (λ es. IsOpenOutside (outside_key es (None ∷ [])) s.base.site.position u.held.position u.rest s.base.site.blocks) (sym none) tt,
-          subst (λ es. KnowsKey text After u.held.position (outside_key es (None ∷ []))) (sym none)
-              (known_far text After u.held.position k far (subst (λ ks. KnowsKey text After u.held.position (outside_key [] ks)) only (subst (λ es. KnowsKey text After u.held.position (outside_key es u.held.keys)) none s.knows))),
-        ))
+    by : (fs : List FlowLevel) (ks : List (Option Key)) (es : List Entry) → u.held.flow ≡ fs → ks ≡ Some k ∷ [] → is_empty fs ≡ true → StandsWith text u fs ks (with_entries s.base.site s.base.line es) →
+        Stands text (record u { held = record u.held { keys = None ∷ [] } })
+    by [] ks [] p q o w =
+        let base : Account = with_entries s.base.site s.base.line [] in
+        let v : StandsWith text u [] (Some k ∷ []) base = subst (λ x. StandsWith text u [] x base) q w in
+        let carries : IsCarriedOn text (v.separation ++ u.rest) u.rest (None ∷ []) base = λ cs x key m inside some. absurd (cc inside) in
+        let completes : (strict c : Bool) (cs : List Bool) → MayChoose strict c None u.held.position u.rest → SoFar strict text (v.separation ++ u.rest) base (λ ws last. u.held.tokens) =
+        λ strict c cs may. none_completes strict text (v.separation ++ u.rest) base (Some k ∷ []) u.held.tokens v.no_key refl (v.completes strict false [] (may_be_no_key strict (Some k) u.held.position u.rest free)) in
+        stands_by text _ [] (None ∷ []) base p refl
+        (search (v.is_filled, v, carries, completes, known_far text (v.separation ++ u.rest) u.held.position k far v.knows, v.line_is.0, v.line_is.1))
+    by fs ks es p q o w = absurd (let a = w.are_entries in grind arith)
 
 -- ---- the step
 
@@ -74,13 +46,9 @@ pub record Nearer (text : List ℕ) (u : ScannerState) (h : Held) : Type 0 where
   pub same : h ≡ record u.held { keys = h.keys }
   pub near : is_empty u.held.flow ≡ true → (k : Option Key) × (h.keys ≡ k ∷ []) × IsNear k u.held.position
 
-not_far : (k p : Position) → is_far k p ≡ false → (p.line ≤ k.line) × (p.index ≤ k.index + 1024)
-unfolding is_far
-not_far k p h = grind arith
-
 pub stale_stands : (text : List ℕ) (u : ScannerState) → Stands text u → Holds (Nearer text u) (stale u.held)
-unfolding stale drop_stale
-stale_stands text u s = grind (arith, nat_tests, eqb-true, either, went, not-false, one_key, key_dropped, not_far, refused)
+unfolding stale drop_stale is_far
+stale_stands text u s = grind (arith, either, went, not-false, one_key, key_dropped, refused)
 
 -- The stale keys of a fetch are dropped.
 pub keys_only : (s : Held) → Holds (λ h. h ≡ record s { keys = h.keys }) (stale s)

@@ -1,7 +1,7 @@
 -- Where a text ends: no open key is one, and the stream's end and those of the block collections stand where the row has them.
 use Rattle.yaml_tokens.specs.declared.problem.Problem.TheVariants as problem
 use Rattle.std.proofs.lemmas.List.{append-nil}
-use Rattle.proof_scanner.proofs.Common.{Account, AreAround, AreCollections, AreEntries, AreLevels, Arrives, At, Bool, Completes, Entry, FlowLevel, Had, HasHad, Held, Holds, Indent, IsRead, IsTopLevel, Key, Levels, Line, List, MayChoose, Option, Position, ScannerState, Site, Step, Token, [], ap, append_assoc, arith, block_end, blocks, checked, chosen, cleared, columns, ended_at, ends_at, ends_here, ends_with_stream, entries_by, false, fetch_stream_end, has_required, have_no_key, if◌then◌else◌, in_flow, is_empty, is_keyed, is_renewed, is_separation, is_waiting, length, may_end, nat_lt, nat_tests, next_line, not, not-true, not_ended, outside_key, pop, position_after, put, refl, replicate, site_here, stream_position, subst, suc, sym, tokens_at_end, tokens_up_to, tried, true, unroll_indent, unrolled, went, with_keys, ℕ, ◌++◌, ◌-◌, ◌<◌, ◌∙◌, ◌∷◌, ◌≡◌, ◌≤◌, eqb-true}
+use Rattle.proof_scanner.proofs.Common.{Account, AreAround, AreCollections, AreEntries, AreLevels, Arrives, At, Bool, Completes, Entry, FlowLevel, Had, HasHad, Held, Holds, Indent, IsRead, IsTopLevel, Key, Levels, Line, List, MayChoose, Option, Position, ScannerState, Site, Step, Token, [], ap, append_assoc, arith, block_end, blocks, checked, chosen, cleared, columns, ended_at, ends_at, ends_here, ends_with_stream, entries_by, false, fetch_stream_end, has_required, have_no_key, if◌then◌else◌, in_flow, is_empty, is_keyed, is_renewed, is_separation, is_waiting, length, may_end, nat_lt, next_line, not, not-true, not_ended, outside_key, pop, position_after, put, refl, replicate, site_here, stream_position, subst, suc, sym, tokens_at_end, tokens_up_to, tried, true, unroll_indent, unrolled, went, with_keys, ℕ, ◌++◌, ◌-◌, ◌<◌, ◌∙◌, ◌∷◌, ◌≡◌, ◌≤◌}
 use Rattle.proof_scanner.proofs.Cut.Documents.{unroll_keeps}
 use Rattle.proof_scanner.proofs.Sound.Completed.{completed_at_end}
 use Rattle.proof_scanner.proofs.Cut.Unrolls.{unrolled_in_flow}
@@ -12,11 +12,8 @@ had_no_key : (k : Option Key) (h : Had) → HasHad k h → is_keyed h ≡ false
 had_no_key a h e = grind arith
 
 around_no_key : (fs : List FlowLevel) (ks : List (Option Key)) (es : List Entry) → AreAround fs ks es → have_no_key es ≡ true
-around_no_key [] ks [] a = refl
 around_no_key (f ∷ fs) (k ∷ ks) (e ∷ es) a = rw (had_no_key k e.had a.1, around_no_key fs ks es a.2) refl
-around_no_key [] ks (e ∷ es) a = absurd a
-around_no_key (f ∷ fs) [] es a = absurd a
-around_no_key (f ∷ fs) (k ∷ ks) [] a = absurd a
+around_no_key fs ks es a = grind arith
 
 pub entries_no_key : (allowed again : Bool) (fs : List FlowLevel) (ks : List (Option Key)) (es : List Entry) → AreEntries allowed again fs ks es → have_no_key es ≡ true
 entries_no_key allowed again a ks es b = grind (arith, around_no_key)
@@ -27,13 +24,13 @@ none_inside ks (e ∷ es) = ap (λ x. x ∷ entries_by [] (pop ks) es) (grind ar
 
 -- with no choice for a key, the account is the one in which no open key is one
 pub none_chosen : (ks : List (Option Key)) (a : Account) → chosen false [] ks a ≡ a
-none_chosen ks a = grind (arith, nat_tests, eqb-true, none_inside)
+none_chosen ks a = grind (arith, none_inside)
 
 -- where no key waits, the tokens are those that the scanner holds
 pub none_put : (d : ℕ) (p : Position) (ws : List Step) (last bs : List ℕ) (l : Line) (es : List Entry) (ks : List (Option Key)) (ts : List Token) → is_waiting l ≡ false → have_no_key es ≡ true → with_keys d p ws last bs l es ks ts ≡ ts
 none_put d p ws last bs l es [] ts h n = refl
-none_put d p ws last bs l [] (k ∷ ks) ts h n = grind (arith, nat_tests, eqb-true)
-none_put d p ws last bs l (e ∷ es) (k ∷ ks) ts h n = grind (arith, nat_tests, eqb-true, none_put (suc d) p ws last bs l es ks ts h)
+none_put d p ws last bs l [] (k ∷ ks) ts h n = grind arith
+none_put d p ws last bs l (e ∷ es) (k ∷ ks) ts h n = grind (arith, none_put (suc d) p ws last bs l es ks ts h)
 
 -- ---- positions
 
@@ -47,7 +44,7 @@ abbrev pub ends_of : ℕ → Position → List Token
 ends_of n p = replicate n (put p block_end)
 
 pub positive : (n i : ℕ) → n < i → nat_lt 0 i ≡ true
-positive n i h = grind (arith, nat_tests)
+positive n i h = grind arith
 
 -- no level is left then
 abbrev pub none_left : Position → ℕ → List Indent → List Token → Levels
@@ -64,7 +61,7 @@ all_collections p i (d ∷ ds) ts a = rw (positive d.indent i a.1, a.0) (all_col
 -- all levels end at the stream's end, each collection with its token
 pub all_levels : (p : Position) (i : ℕ) (ds : List Indent) (ts : List Token) → AreLevels i ds → unrolled 0 p i ds ts ≡ none_left p i ds ts
 unfolding unrolled
-all_levels p i b ts a = grind (arith, nat_tests, eqb-true, all_collections, positive, ended_more)
+all_levels p i b ts a = grind (arith, all_collections, positive, ended_more)
 
 -- whether no collection is deeper than a column
 abbrev pub NoneDeeper : (column : ℕ) → List ℕ → Type 0
@@ -118,7 +115,7 @@ ends_split end (n ∷ ns) h = by (nat_lt end.col n) refl (λ k. ends_split end n
     by : (b : Bool) → nat_lt end.col n ≡ b →
         (NoneDeeper end.col (not_ended end.col ns) → ends_with_stream end ns ≡ ends_at end ns (not_ended end.col ns) ++ ends_of (length (not_ended end.col ns)) (stream_position end)) → NoneDeeper end.col (if b then not_ended end.col ns else n ∷ ns) →
         put (if b then end else stream_position end) block_end ∷ ends_with_stream end ns ≡ ends_at end (n ∷ ns) (if b then not_ended end.col ns else n ∷ ns) ++ ends_of (length (if b then not_ended end.col ns else n ∷ ns)) (stream_position end)
-    by a e later k = grind (arith, nat_tests, eqb-true, shorter, none_ends)
+    by a e later k = grind (arith, shorter, none_ends)
 
 -- the same by the levels of indentation that the scanner holds
 pub ends_by_levels : (end : Position) (bs : List ℕ) (i : ℕ) (ds : List Indent) → AreLevels i ds → not_ended end.col bs ≡ columns i ds → ends_with_stream end bs ≡ ends_at end bs (not_ended end.col bs) ++ ends_of (length (columns i ds)) (stream_position end)
@@ -132,8 +129,8 @@ ends_by_levels end bs i ds a e =
 -- a key outside flow need not be one, if none must be
 outside_free : (es : List Entry) (ks : List (Option Key)) (p : Position) (rest : List ℕ) → has_required ks ≡ false → MayChoose true false (outside_key es ks) p rest
 outside_free [] ks p rest h = grind arith
-outside_free (e ∷ es) [] p rest h = grind (arith, nat_tests, eqb-true, outside_free es [] p rest h)
-outside_free (e ∷ es) (k ∷ ks) p rest h = grind (arith, nat_tests, eqb-true, outside_free es ks p rest)
+outside_free (e ∷ es) [] p rest h = grind (arith, outside_free es [] p rest h)
+outside_free (e ∷ es) (k ∷ ks) p rest h = grind (arith, outside_free es ks p rest)
 
 -- the text is read as the tokens before the separation and those at its end
 at_end : (text : List ℕ) (t : ScannerState) (a : Arrives text t) → t.rest ≡ [] → has_required t.held.keys ≡ false → IsRead text (a.tokens ++ tokens_at_end t.held.position a.base.site.blocks a.base.entries)
@@ -165,11 +162,11 @@ pub same_flow : (allowed again : Bool) (fs : List FlowLevel) (ks : List (Option 
 same_flow allowed again a ks es b = grind arith
 
 in_flow_too : (h : Held) (ts : List Token) (bs : List ℕ) (e : Entry) (es : List Entry) → in_flow h ≡ true → h.tokens ≡ ts → (ended_at (unroll_indent 0 (at_stream_end h))).tokens ≡ ts ++ tokens_at_end h.position bs (e ∷ es)
-in_flow_too h ts bs e es within tokens = grind (arith, nat_tests, eqb-true, unrolled_in_flow, not-true, same_line_start)
+in_flow_too h ts bs e es within tokens = grind (arith, unrolled_in_flow, not-true, same_line_start)
 
 last_tokens : (h : Held) (ts : List Token) (x : Site) (es : List Entry) → is_empty h.flow ≡ is_empty es → AreLevels h.indent h.indents → h.tokens ≡ ts ++ ends_here (not (is_empty h.flow)) h.position x.blocks →
     (site_here (not (is_empty h.flow)) h.position x).blocks ≡ columns h.indent h.indents → (ended_at (unroll_indent 0 (at_stream_end h))).tokens ≡ ts ++ tokens_at_end h.position x.blocks es
-last_tokens h ts x [] e levels tokens blocks = grind (arith, nat_tests, eqb-true, unrolled_outside, same_line_start, append_assoc, ends_by_levels, ends_here, columns)
+last_tokens h ts x [] e levels tokens blocks = grind (arith, unrolled_outside, same_line_start, append_assoc, ends_by_levels, ends_here, columns)
 last_tokens h ts x (y ∷ es) e levels tokens blocks =
     in_flow_too h ts x.blocks y es (ap not e) (subst (λ b. h.tokens ≡ ts ++ ends_here (not b) h.position x.blocks) e tokens ∙ append-nil ts)
 

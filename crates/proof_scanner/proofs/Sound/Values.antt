@@ -1,20 +1,322 @@
--- The function of the model that reads a colon: what holds where it begins holds between two fetches after it.
-use Rattle.proof_scanner.proofs.Common.{Arrives, Entry, Fault, FlowLevel, Held, Holds, Key, List, None, Ok, Option, Result, ScannerState, Some, Stands, Tok, [], ap, chained, check_value_space, colon_may_precede, false, fetch_value, inl, inr, is_empty, is_value, on_held, opens_pair, paired, past, push, subst, sym, top_key, true, try_held, ℕ, ◌>>=◌, ◌∷◌, ◌≡◌, ◌⊎◌, nat_tests, eqb-true, arith}
-use Rattle.model_scanner.specs.State.{after}
+-- A colon that ends no key: what holds where it begins holds between two fetches after it.
+use Rattle.proof_scanner.proofs.Common.{Account, [], allow_key, another, ap, append-nil, append_assoc, AreLevels, arith, Arrives, At, before_by, before_past, begin_keyless_mapping, begin_keyless_value, begin_pair, begins_free_line, begun_outside, Bool, chained, check_value_space, checked, chosen, colon_may_precede, columns, Completes, ends_at, entries_by, Entry, entry_by, false, Fault, fetch_value, first_account, FlowLevel, gives_colon, has_open_level, Held, Holds, if◌then◌else◌, in_flow, Indent, inl, innermost, inr, insert, insert_key, inside, is_adjacent, is_break, is_deeper, is_empty, is_in_column, is_near, is_value, is_value_indicator, IsEntryOf, IsLive, IsNotRight, Key, length, length-append, Line, line_past, List, MayChoose, None, not, not-false, not_ended, NotBefore, Ok, on_held, opened, opens_pair, Option, Outside, outside_key, pair_past, pair_position, paired, past, placed, pop, Position, position_after, push, put, put_key, refl, Result, roll_indent, roll_one_col_indent, ScannerState, settled, Site, site_at, site_here, Some, spelled, Stands, start_if, Step, subst, suc, sym, taken, takes_pair, Tok, Token, token, tokens_at, tokens_of_step, tokens_up_to, top_key, tried, true, try_held, waits, went, with_held, with_keys, with_top, ℕ, ◌++◌, ◌==◌, ◌>>=◌, ◌||◌, ◌∙◌, ◌∷◌, ◌≡◌, ◌≤◌}
+use Rattle.model_scanner.specs.declared.level.FlowLevel.TheVariants.{Pair as InPair}
 use Rattle.model_scanner.specs.Block.{value_of}
-use Rattle.proof_scanner.proofs.Cut.Nodes.{IsDeep}
-use Rattle.proof_scanner.proofs.Sound.ColonSpaces.{past_colon, colon_spaced}
-use Rattle.proof_scanner.proofs.Sound.Colons.{value_here, value_by, keyless_outside, keyless_inside}
-use Rattle.proof_scanner.proofs.Sound.ColonKeys.{keyed_outside, keyed_inside}
-use Rattle.proof_scanner.proofs.Sound.KeysBefore.{key_before}
-use Rattle.proof_scanner.proofs.Sound.Sides.{ArrivesBy, ArrivesOutside, ArrivesInside, arrives_side}
+use Rattle.proof_scanner.proofs.Sound.Steps.{all_go_on, among, by_sides, with_sides, ArrivesBy, begun_after, ends_outside, fewer, first_among, first_not_right, goes_inside, goes_of, is_written, IsDeep, key_longer, keyless, keys_along, keys_first, line_free, line_taken, low_enough, no_waiting, not_before_after, not_before_then, numbered_around, numbered_more, opens_none, opens_one, OpensOne, Outer, outer_completes, outer_then, past_one, past_step, read_outside, Reads, reads_before_none, rolls_to, RollsTo, some_levels, started_tokens, steps_in_flow, tokens_before, value_is, weaker, with_entries, with_start, line_rest_in_line, same_in_line}
+use Rattle.proof_scanner.proofs.Sound.ColonSpaces.{colon_gap, colon_spaced, gap_is, past_colon, past_gap}
+use Rattle.proof_scanner.proofs.Sound.Questions.{pair_level}
+use Rattle.proof_row.proofs.KeyLines.{KeysBefore, keys_before, line_grows}
+use Rattle.model_scanner.specs.State.{after}
+use Rattle.yaml_tokens.specs.declared.problem.Problem.TheVariants as problem
+
+-- ---- where a colon is an indicator
+
+-- the model and the definition say alike
+pub value_here : (text more : List ℕ) (t : ScannerState) (fs : List FlowLevel) (ks : List (Option Key)) (es : List Entry) (a : ArrivesBy text t fs ks es) → t.held.flow ≡ fs → t.rest ≡ 58 ∷ more → is_value t ≡ true →
+    is_value_indicator (not (is_empty fs)) (is_adjacent (before_past (before_by a.site.before) a.separation)) more ≡ true
+value_here text more t fs ks es a flow e h = grind (arith, value_is)
+
+-- ---- what the model does after the colon and what is read there
+
+-- what the scanner holds then, if these are its flow levels and keys
+abbrev pub at_value : (more : List ℕ) → ScannerState → List FlowLevel → List (Option Key) → Held
+at_value more t fs ks = record t.held { flow = paired fs; keys = ks; position = pair_position (past t.held.position) more; leading = false }
+
+abbrev pub value_by : (more : List ℕ) → ScannerState → List FlowLevel → List (Option Key) → Result ScannerState Fault
+value_by more t fs ks = with_held (record { rest = past_gap more; held = at_value more t fs ks }) (value_of (top_key ks) t.held.position (opens_pair fs) (at_value more t fs ks)) >>= λ v. Ok (on_held (push t.held.position Tok.value) v)
+
+-- what it holds in the end
+abbrev pub colon_end : ScannerState → (more : List ℕ) → List Indent → ℕ → List Token → (allowed : Bool) → List FlowLevel → List (Option Key) → ScannerState
+colon_end t more ds i ts allowed fs ks = record {
+  rest = past_gap more;
+  held = record t.held { position = pair_position (past t.held.position) more; leading = false; indents = ds; indent = i; tokens = ts ++ token t.held.position Tok.value ∷ []; key_allowed = allowed; flow = fs; keys = ks };
+}
+
+-- what was read with it
+pub colon_reads : (t : ScannerState) (more : List ℕ) (ds : List Indent) (i : ℕ) (ts : List Token) (allowed : Bool) (fs : List FlowLevel) (ks : List (Option Key)) (y : Site) → t.rest ≡ 58 ∷ more → y.position ≡ position_after t.held.position (58 ∷ []) more → y.before ≡ another →
+    y.blocks ≡ columns i ds → y.awaits ≡ has_open_level ds → AreLevels i ds → t.held.adjacent_value_at ≤ t.held.position.index → Reads t (colon_end t more ds i ts allowed fs ks) y (58 ∷ []) more (colon_gap more)
+unfolding is_break
+colon_reads t more ds i ts allowed fs ks y cut here before columns_are awaits levels was =
+    reads_before_none t (colon_end t more ds i ts allowed fs ks) y (58 ∷ []) more (colon_gap more) refl cut (gap_is more).0 (gap_is more).1 (gap_is more).2 here (grind (arith, past_one, same_in_line, line_rest_in_line)) refl before columns_are awaits levels was (refl, refl, refl)
+
+-- ---- outside flow
+
+pub keyless_stands : (text more : List ℕ) (t : ScannerState) (a : ArrivesBy text t [] (None ∷ []) []) → t.rest ≡ 58 ∷ more → t.held.key_allowed ≡ true → colon_may_precede more ≡ true →
+    is_value_indicator false (is_adjacent (before_past (before_by a.site.before) a.separation)) more ≡ true → (i : ℕ) (ds : List Indent) → columns i ds ≡ opened t.held.position.col (columns t.held.indent t.held.indents) → AreLevels i ds → has_open_level ds ≡ true →
+    Stands text (colon_end t more ds i (with_start Tok.block_mapping_start t) true [] (None ∷ []))
+keyless_stands text more t a e allowed apart ind i ds columns_are levels awaits =
+    read_outside text t (colon_end t more ds i (with_start Tok.block_mapping_start t) true [] (None ∷ [])) a (58 ∷ []) more (colon_gap more) Tok.value (begun_after t.held.position a.site.blocks) _ refl
+    (colon_reads t more ds i (with_start Tok.block_mapping_start t) true [] (None ∷ []) _ e refl refl (ap (opened t.held.position.col) a.blocks_are ∙ sym columns_are) (sym awaits) levels a.was_adjacent)
+    (record { line_is = (inl refl, refl, tt); no_key = refl; flow_is = refl; keys_are = refl }) (record {
+      is_piece = (refl, ind);
+      stands = rw (a.is_indented (ap is_empty e), apart) refl;
+      after_is = ap (λ l. line_past (is_in_column t.held.position.col bs) t.held.position bs gives_colon false l) (line_free t.held.key_allowed t.rest a.line_here allowed a.line_is);
+      begun = refl;
+      begins_none = refl;
+      tokens_are = ap (λ cs. (if is_deeper t.held.position.col cs then placed None (token t.held.position Tok.block_mapping_start) t.held.tokens else t.held.tokens) ++ put t.held.position Tok.value ∷ []) (sym a.blocks_are) ∙
+          (started_tokens (is_deeper t.held.position.col bs) t.held.tokens a.tokens (ends_at t.held.position a.site.blocks bs) t.held.position Tok.block_mapping_start (put t.held.position Tok.value) a.tokens_are ∙
+          ap (λ l. a.tokens ++ ((ends_at t.held.position a.site.blocks bs ++ begun_outside (is_deeper t.held.position.col bs) t.held.position t.held.position gives_colon false (Some l)) ++ (put t.held.position Tok.value ∷ []))) (sym (line_free t.held.key_allowed t.rest a.line_here allowed a.line_is)));
+    })
+  where
+    bs : List ℕ
+    bs = not_ended t.held.position.col a.site.blocks
+
+pub keyless_outside : (text more : List ℕ) (t : ScannerState) (a : ArrivesBy text t [] (None ∷ []) []) → t.rest ≡ 58 ∷ more → colon_may_precede more ≡ true → is_value_indicator false (is_adjacent (before_past (before_by a.site.before) a.separation)) more ≡ true → IsDeep t.held →
+    Holds (Stands text) (value_by more t [] (None ∷ []))
+unfolding begin_keyless_value begin_keyless_mapping
+keyless_outside text more t a e apart ind deep =
+    chained {P = λ w. (w ≡ record { rest = past_gap more; held = (record rolled { indents = l.indents; indent = l.indent; key_allowed = true }) }) × (t.held.key_allowed ≡ true)}
+    (tried (record { rest = past_gap more; held = (at_value more t [] (None ∷ [])) }) _ (chained {P = λ u. (u ≡ rolled) × (t.held.key_allowed ≡ true)} (checked (not t.held.key_allowed) (At problem.ValueNotAllowed t.held.position) (λ f. went (m.is_held, not-false t.held.key_allowed f)))
+    (λ u d. subst (λ y. Holds (λ z. (z ≡ (record rolled { indents = l.indents; indent = l.indent; key_allowed = true })) × (t.held.key_allowed ≡ true)) (let v = roll_one_col_indent y in Ok (allow_key (not (in_flow v)) v))) (sym d.0) (went (ap (λ v. allow_key (not (in_flow v)) v) l.is_held, d.1)))) (λ s d. (ap (λ y. record { rest = past_gap more; held = y }) d.0, d.1))) (λ w d.
+    went (subst (λ z. Stands text (on_held (push t.held.position Tok.value) z)) (sym d.0) (keyless_stands text more t a e d.1 apart ind l.indent l.indents (l.columns_are ∙ m.columns_are) l.are_levels l.awaits)))
+  where
+    h : Held
+    h = at_value more t [] (None ∷ [])
+
+    -- the level of a mapping, if one begins
+    m : RollsTo t.held.position.col None (token t.held.position Tok.block_mapping_start) h (roll_indent t.held.position.col None Tok.block_mapping_start t.held.position h)
+    m = rolls_to t.held.position.col None Tok.block_mapping_start t.held.position h refl a.are_levels (first_not_right t.held.position.col t.held.indent t.held.indents a.are_levels deep)
+
+    rolled : Held
+    rolled = record h { indents = m.indents; indent = m.indent; tokens = with_start Tok.block_mapping_start t }
+
+    -- and one that no collection opens
+    l : OpensOne rolled (roll_one_col_indent rolled)
+    l = opens_one rolled refl m.are_levels (some_levels m.indent m.indents (ap is_empty m.columns_are ∙ (grind arith)))
+
+-- ---- in flow
+
+-- the entry after it
+abbrev pub valued_entry : Entry → Entry
+valued_entry e = record { kind = e.kind; pair = pair_past (takes_pair e.kind e.pair) gives_colon e.pair; had = settled }
+
+-- a single pair begins just where the scanner opens one
+pub single_is : (f : FlowLevel) (fs : List FlowLevel) (k : Option Key) (e : Entry) → IsEntryOf f k e → takes_pair e.kind e.pair ≡ opens_pair (f ∷ fs)
+single_is f fs k e h = grind arith
+
+-- the tokens with the start of a single pair, if one begins
+abbrev pub with_pair : (single : Bool) → (more : List ℕ) → ScannerState → List Token
+with_pair single more t = (if single then t.held.tokens ++ token (pair_position (past t.held.position) more) Tok.flow_mapping_start ∷ [] else t.held.tokens)
+
+-- what stands after it, with its account
+pub keyless_within : (text more : List ℕ) (t : ScannerState) (f : FlowLevel) (fs : List FlowLevel) (ks : List (Option Key)) (e : Entry) (es : List Entry) (a : ArrivesBy text t (f ∷ fs) (None ∷ ks) (e ∷ es)) → t.rest ≡ 58 ∷ more → colon_may_precede more ≡ true →
+    is_value_indicator true (is_adjacent (before_past (before_by a.site.before) a.separation)) more ≡ true → IsDeep t.held →
+    Stands text (colon_end t more t.held.indents t.held.indent (with_pair (opens_pair (f ∷ fs)) more t) false (pair_level InPair f ∷ fs) (None ∷ ks))
+unfolding is_break
+keyless_within text more t f fs ks e es a cut apart ind deep =
+    goes_inside text t (colon_end t more t.held.indents t.held.indent (with_pair (opens_pair (f ∷ fs)) more t) false (pair_level InPair f ∷ fs) (None ∷ ks)) f (pair_level InPair f) fs None ks e (valued_entry e) es a (58 ∷ []) more Tok.value (colon_gap more)
+    (colon_reads t more t.held.indents t.held.indent (with_pair (opens_pair (f ∷ fs)) more t) false (pair_level InPair f ∷ fs) (None ∷ ks) _ cut refl refl a.blocks_are a.awaits_is a.are_levels a.was_adjacent)
+    (record {
+      flow_is = refl;
+      keys_are = refl;
+      entry_is = grind arith;
+      has_had = (inr refl, refl);
+      in_line = refl;
+      begun = refl;
+      is_piece = (refl, ind);
+      stands = rw (a.is_indented (ap is_empty cut), low_enough text t f fs (None ∷ ks) (e ∷ es) a deep, apart) refl;
+      entry_past = λ xs. (grind arith);
+      colons = λ n p ws last. refl;
+      tokens_are = (grind (arith, append_assoc)) ∙ (ap (λ q. a.tokens ++ (start_if (opens_pair (f ∷ fs)) (pair_position q more) Tok.flow_mapping_start ++ (put t.held.position Tok.value ∷ []))) (sym (past_one t.held.position 58 more refl)) ∙
+          (ap (λ b. a.tokens ++ (start_if b (pair_position (position_after t.held.position (58 ∷ []) more) more) Tok.flow_mapping_start ++ (put t.held.position Tok.value ∷ []))) (sym (single_is f fs None e a.are_entries.0)) ∙ ap (λ x. a.tokens ++ (x ++ (put t.held.position Tok.value ∷ []))) (sym (grind arith))));
+    })
+
+pub keyless_inside : (text more : List ℕ) (t : ScannerState) (f : FlowLevel) (fs : List FlowLevel) (ks : List (Option Key)) (e : Entry) (es : List Entry) (a : ArrivesBy text t (f ∷ fs) (None ∷ ks) (e ∷ es)) → t.rest ≡ 58 ∷ more → colon_may_precede more ≡ true →
+    is_value_indicator true (is_adjacent (before_past (before_by a.site.before) a.separation)) more ≡ true → IsDeep t.held → Holds (Stands text) (value_by more t (f ∷ fs) (None ∷ ks))
+unfolding begin_keyless_value begin_keyless_mapping
+keyless_inside text more t f fs ks e es a cut apart ind deep =
+    chained {P = λ w. w ≡ record { rest = past_gap more; held = (record t.held { flow = pair_level InPair f ∷ fs; keys = None ∷ ks; position = pair_position (past t.held.position) more; leading = false; key_allowed = false; tokens = with_pair (opens_pair (f ∷ fs)) more t }) }}
+    (tried (record { rest = past_gap more; held = at_value more t (f ∷ fs) (None ∷ ks) }) _ (grind (arith, went, opens_none)) (λ s d. ap (λ y. record { rest = past_gap more; held = y }) d)) (λ w d.
+    went (subst (λ z. Stands text (on_held (push t.held.position Tok.value) z)) (sym d) (keyless_within text more t f fs ks e es a cut apart ind deep)))
+
+-- ---- a colon that ends the key that is open: what holds where it begins holds between two fetches after it
+
+-- ---- outside flow
+
+-- the key, and the start of its mapping where that begins, before the tokens of its number
+abbrev pub with_key : (begins : Bool) → (start : Token) → Key → List Token → List Token
+with_key begins start k ts = (if begins then placed (Some k.number) start (insert ts k.number (token k.position Tok.key)) else insert ts k.number (token k.position Tok.key))
+
+module _ (text more : List ℕ) (t : ScannerState) (k : Key) (a : ArrivesBy text t [] (Some k ∷ []) []) (e : t.rest ≡ 58 ∷ more) (apart : colon_may_precede more ≡ true) (ind : is_value_indicator false (is_adjacent (before_past (before_by a.site.before) a.separation)) more ≡ true) where
+  abbrev x : Site
+  x = site_here false t.held.position a.site
+
+  same_site : site_at false a.site a.separation (58 ∷ []) Tok.value more ≡ x
+  same_site = ap (λ q. site_here false q a.site) (sym (a.position_is ∙ ap (λ y. position_after a.site.position a.separation y) e))
+
+  live : IsLive k t.held.position t.rest
+  live = ((a.is_near refl).0, (ap is_empty e))
+
+  -- no collection ends here
+  same_blocks : not_ended t.held.position.col a.site.blocks ≡ a.site.blocks
+  same_blocks = all_go_on t.held.position.col k.position.col a.site.blocks (a.is_open.1 live).column_is ((not_before_then k.position a.site.position t.held.position (weaker k.position a.site.position a.is_open.0) (subst (λ x. NotBefore a.site.position x) (sym a.position_is) (not_before_after a.site.position a.separation t.rest))).1 live.0)
+
+  -- no line begins before the colon, and it is near
+  quiet : (begins_free_line a.site.before a.separation ≡ false) × (is_near k.position t.held.position ≡ true)
+  quiet = grind arith
+
+  -- what the scanner holds with the key, and with its mapping
+  abbrev pub held_key : Held
+  held_key = record (at_value more t [] (Some k ∷ [])) { tokens = insert t.held.tokens k.number (token k.position Tok.key) }
+
+  abbrev pub now : List Token
+  now = with_key (is_deeper k.position.col (columns t.held.indent t.held.indents)) (token t.held.position Tok.block_mapping_start) k t.held.tokens
+
+  pub rolled : RollsTo k.position.col (Some k.number) (token t.held.position Tok.block_mapping_start) held_key (roll_indent k.position.col (Some k.number) Tok.block_mapping_start t.held.position held_key)
+  rolled = rolls_to k.position.col (Some k.number) Tok.block_mapping_start t.held.position held_key refl a.are_levels (subst (λ bs. IsNotRight (innermost bs) k.position.col) (sym same_blocks ∙ a.blocks_are) (a.is_open.1 live).column_is)
+
+  abbrev pub held_rolled : Held
+  held_rolled = record held_key { indents = rolled.indents; indent = rolled.indent; tokens = now }
+
+  pub awaiting : OpensOne held_rolled (roll_one_col_indent held_rolled)
+  awaiting = opens_one held_rolled refl rolled.are_levels (some_levels rolled.indent rolled.indents (ap is_empty rolled.columns_are ∙ (grind arith)))
+
+  abbrev pub keyed_end : ScannerState
+  keyed_end = colon_end t more awaiting.indents awaiting.indent now false [] (None ∷ [])
+
+  tokens_alike : keyed_end.held.tokens ≡
+      put_key (is_deeper k.position.col a.site.blocks) (put t.held.position Tok.block_mapping_start) k.number k.position a.tokens ++ ((ends_at t.held.position a.site.blocks (not_ended t.held.position.col a.site.blocks) ++ []) ++ (put t.held.position Tok.value ∷ []))
+  tokens_alike = grind (arith, (sym same_blocks ∙ a.blocks_are), (a.tokens_are ∙ (ap (λ bs. a.tokens ++ ends_at t.held.position a.site.blocks bs) same_blocks ∙ (ap (λ x. a.tokens ++ x) (grind arith) ∙ append-nil a.tokens))), same_blocks)
+
+  abbrev outside_after : Outside
+  outside_after = record { line = taken; blocks = opened k.position.col x.blocks }
+
+  -- the key goes in before the tokens of its number
+  keyed_tokens : (ws : List Step) (last : List ℕ) → spelled ws last ≡ more →
+      (let w : Step = keyless a.separation (58 ∷ []) Tok.value in tokens_up_to (Outer a.site (waits k.position)) (Some k ∷ []) a.tokens (w ∷ ws) last ++ tokens_of_step (Outer a.site (waits k.position)) w ws last ≡ keyed_end.held.tokens)
+  keyed_tokens ws last h = grind (arith, quiet, (a.position_is ∙ ap (λ y. position_after a.site.position a.separation y) e), tokens_alike)
+
+  pub keyed_stands : Stands text keyed_end
+  keyed_stands =
+      ends_outside text t keyed_end (Some k) a (58 ∷ []) more (colon_gap more) Tok.value outside_after x refl
+      (colon_reads t more awaiting.indents awaiting.indent now false [] (None ∷ []) _ e refl refl (ap (opened k.position.col) a.blocks_are ∙ sym (awaiting.columns_are ∙ rolled.columns_are)) (sym awaiting.awaits) awaiting.are_levels a.was_adjacent)
+      (record { line_is = (inr refl, sym (ap not (gap_is more).2), tt); no_key = refl; flow_is = refl; keys_are = refl })
+      (is_written text a.site a.separation (58 ∷ []) more Tok.value x same_site true false (waits k.position) (waits k.position) outside_after (grind (arith, (ap is_empty e), quiet, no_waiting))) refl
+      (λ strict. goes_of strict text more (outer_then text a.site a.separation (58 ∷ []) more Tok.value x same_site outside_after) keyed_end.held.tokens refl refl
+      (outer_completes text a.site a.separation (58 ∷ []) more Tok.value x same_site true false (waits k.position) (waits k.position) outside_after (tokens_up_to (Outer a.site (waits k.position)) (Some k ∷ []) a.tokens) (λ ws last. keyed_end.held.tokens) (grind (arith, (ap is_empty e), quiet, no_waiting)) keyed_tokens
+      (subst (λ y. Completes text (a.separation ++ y) (Outer a.site (waits k.position)) (tokens_up_to (Outer a.site (waits k.position)) (Some k ∷ []) a.tokens)) e (a.completes true true [] live))))
+
+  pub keyed_outside : Holds (Stands text) (value_by more t [] (Some k ∷ []))
+  unfolding insert_key begin_pair
+  keyed_outside = subst (λ r. Holds (Stands text) r) (sym (grind arith)) (went keyed_stands)
+
+-- ---- in flow
+
+module _ (text more : List ℕ) (t : ScannerState) (f : FlowLevel) (fs : List FlowLevel) (k : Key) (ks : List (Option Key)) (x : Entry) (es : List Entry) (a : ArrivesBy text t (f ∷ fs) (Some k ∷ ks) (x ∷ es)) (e : t.rest ≡ 58 ∷ more) (apart : colon_may_precede more ≡ true)
+    (ind : is_value_indicator true (is_adjacent (before_past (before_by a.site.before) a.separation)) more ≡ true) (deep : IsDeep t.held) where
+  -- the tokens with the key, and the start of a single pair, if that begins
+  abbrev pub in_pair : (single : Bool) → List Token
+  in_pair single = put_key single (put (pair_position (past t.held.position) more) Tok.flow_mapping_start) k.number k.position t.held.tokens
+
+  abbrev pub held_pair : FlowLevel → Held
+  held_pair g = record t.held { flow = pair_level InPair g ∷ fs; keys = None ∷ ks; position = pair_position (past t.held.position) more; leading = false; key_allowed = false; tokens = in_pair (opens_pair (g ∷ fs)) }
+
+  closed : (h : Held) → in_flow h ≡ true → record (roll_one_col_indent h) { keys = with_top None (roll_one_col_indent h).keys; key_allowed = false } ≡ record h { keys = with_top None h.keys; key_allowed = false }
+  closed h inside = ap {A = Held} {B = Held} (λ v. record v { keys = with_top None v.keys; key_allowed = false }) (opens_none h inside)
+
+  -- a single pair's key stands on the colon's line
+  pair_begun : (g : FlowLevel) → k.position.line ≤ t.held.position.line →
+      Holds (λ y. (y ≡ held_pair g) × ((not (opens_pair (g ∷ fs)) || (k.position.line == t.held.position.line)) ≡ true)) (insert_key k t.held.position (opens_pair (g ∷ fs)) (at_value more t (g ∷ fs) (Some k ∷ ks)))
+  unfolding insert_key begin_pair roll_indent
+  pair_begun a h = grind (arith, chained, checked, went, closed)
+
+  abbrev pub inner_after : ScannerState
+  inner_after = colon_end t more t.held.indents t.held.indent (in_pair (opens_pair (f ∷ fs))) false (pair_level InPair f ∷ fs) (None ∷ ks)
+
+  -- the tokens of the row, at a colon's end
+  abbrev key_in : Bool → Position → (next : List ℕ) → List Token → List Token
+  key_in single q next ts = put_key single (put (pair_position q next) Tok.flow_mapping_start) k.number k.position ts
+
+  abbrev own : List Token
+  own = put t.held.position Tok.value ∷ []
+
+  inner_alike : key_in (takes_pair x.kind x.pair) (position_after (position_after a.site.position a.separation (58 ∷ more)) (58 ∷ []) more) more a.tokens ++ (put (position_after a.site.position a.separation (58 ∷ more)) Tok.value ∷ []) ≡ inner_after.held.tokens
+  unfolding is_break
+  inner_alike =
+      ap (λ q. key_in (takes_pair x.kind x.pair) (position_after q (58 ∷ []) more) more a.tokens ++ (put q Tok.value ∷ [])) (sym (a.position_is ∙ ap (λ y. position_after a.site.position a.separation y) e)) ∙
+      (ap (λ b. key_in b (position_after t.held.position (58 ∷ []) more) more a.tokens ++ own) (single_is f fs (Some k) x a.are_entries.0) ∙ ap (λ q. key_in (opens_pair (f ∷ fs)) q more a.tokens ++ own) (past_one t.held.position 58 more refl) ∙
+      ap (λ ts. key_in (opens_pair (f ∷ fs)) (past t.held.position) more ts ++ own) (sym (tokens_before text t f fs (Some k) ks x es a)))
+
+  inner_tokens : (cs : List Bool) (l : Line) (ws : List Step) (last : List ℕ) → spelled ws last ≡ more →
+      (let w : Step = keyless a.separation (58 ∷ []) Tok.value in let ys : List Entry = entry_by true (Some k) x ∷ entries_by (pop cs) ks es in
+      tokens_up_to (with_entries a.site l ys) (Some k ∷ ks) a.tokens (w ∷ ws) last ++ tokens_at a.site (site_here true (position_after a.site.position a.separation (58 ∷ spelled ws last)) a.site) w ws last l ys ≡
+      with_keys 1 (past_step a.site.position w ws last) ws last a.site.blocks l (entries_by (pop cs) ks es) ks inner_after.held.tokens)
+  inner_tokens cs l ws last h =
+      let w : Step = keyless a.separation (58 ∷ []) Tok.value in
+      let ys : List Entry = entries_by (pop cs) ks es in
+      let first : List ℕ → List Token = λ r. key_in (takes_pair x.kind x.pair) (position_after (position_after a.site.position a.separation (58 ∷ r)) (58 ∷ []) r) r a.tokens in
+      let put_in : List Token = first (spelled ws last) in
+      let shown : List Token = put (position_after a.site.position a.separation (58 ∷ spelled ws last)) Tok.value ∷ [] in
+      let many : length a.tokens ≤ length put_in = key_longer (takes_pair x.kind x.pair) (put (pair_position (past_step a.site.position w ws last) (spelled ws last)) Tok.flow_mapping_start) k.number k.position a.tokens in
+      sym (keys_first 1 a.site.position (w ∷ ws) last a.site.blocks l ys ks put_in shown (fewer (length a.tokens) (length put_in) ks many (first_among (length a.tokens) (Some k) ks (among (length a.tokens) (Some k ∷ ks) a.are_numbered)).1)) ∙
+      (keys_along (λ m. suc m) (λ m. suc m) (λ m. refl) (λ m. refl) 0 a.site.position (past_step a.site.position w ws last) w ws last (λ m. refl) a.site.blocks l ys ks (put_in ++ shown) ∙
+      ap (λ ts. with_keys 1 (past_step a.site.position w ws last) ws last a.site.blocks l ys ks ts) (ap (λ r. first r ++ (put (position_after a.site.position a.separation (58 ∷ r)) Tok.value ∷ [])) h ∙ inner_alike))
+
+  pub inner_stands : (not (opens_pair (f ∷ fs)) || (k.position.line == t.held.position.line)) ≡ true → Stands text inner_after
+  unfolding is_break
+  inner_stands its_line =
+      steps_in_flow text t inner_after f fs (Some k) ks x es a (58 ∷ []) more Tok.value (None ∷ ks) (valued_entry x ∷ es) (pair_level InPair f ∷ fs) (colon_gap more)
+      (colon_reads t more t.held.indents t.held.indent (in_pair (opens_pair (f ∷ fs))) false (pair_level InPair f ∷ fs) (None ∷ ks) _ e refl refl a.blocks_are a.awaits_is a.are_levels a.was_adjacent) (record {
+        flow_is = refl;
+        keys_are = refl;
+        one_each = a.one_each;
+        same_key = refl;
+        are_entries = ((grind arith), (inr refl, refl), a.are_entries.2);
+        line_is = line_taken text t f fs (Some k) ks x es a;
+        are_numbered = (tt, numbered_more (length a.tokens) (length inner_after.held.tokens) ks (grind (arith, key_longer, tokens_before, length-append)) (numbered_around (length a.tokens) (Some k) ks a.are_numbered));
+        in_line = λ _ _. refl;
+      }) (record {
+        is_piece = (refl, ind);
+        stands = rw (a.is_indented (ap is_empty e), low_enough text t f fs (Some k ∷ ks) (x ∷ es) a deep, apart) refl;
+        choice = λ cs. true;
+        outer = pop;
+        bit = λ cs. false;
+        entry_past = λ cs. (grind (arith, (single_is f fs (Some k) x a.are_entries.0)));
+        tokens_are = inner_tokens;
+      })
+
+  pub keyed_inside : k.position.line ≤ t.held.position.line → Holds (Stands text) (value_by more t (f ∷ fs) (Some k ∷ ks))
+  keyed_inside early =
+      chained {P = λ w. (w ≡ record { rest = past_gap more; held = held_pair f }) × ((not (opens_pair (f ∷ fs)) || (k.position.line == t.held.position.line)) ≡ true)}
+      (tried (record { rest = past_gap more; held = at_value more t (f ∷ fs) (Some k ∷ ks) }) (insert_key k t.held.position (opens_pair (f ∷ fs)) (at_value more t (f ∷ fs) (Some k ∷ ks))) (pair_begun f early) (λ s i. (ap (λ y. record { rest = past_gap more; held = y }) i.0, i.1))) (λ w i.
+      went (subst (λ z. Stands text (on_held (push t.held.position Tok.value) z)) (sym i.0) (inner_stands i.1)))
+
+-- ---- the open key of an entry began on the scanner's line, or before it: so a row says it in which it waits
+
+pub key_before : (text : List ℕ) (t : ScannerState) (f : FlowLevel) (fs : List FlowLevel) (k : Key) (ks : List (Option Key)) (x : Entry) (es : List Entry) → ArrivesBy text t (f ∷ fs) (Some k ∷ ks) (x ∷ es) → is_empty t.rest ≡ false →
+    k.position.line ≤ t.held.position.line
+key_before text t f fs k ks x es a some = by (outside_key es ks) refl
+  where
+    b : Account
+    b = chosen false (true ∷ []) (Some k ∷ ks) (with_entries a.site a.line (x ∷ es))
+
+    early : KeysBefore b → k.position.line ≤ t.held.position.line
+    early h = let there = ap (λ q. q.line) a.position_is in let grows = line_grows a.site.position a.separation t.rest in omega (arith, h.0, there, grows)
+
+    may : (y : Option Key) → outside_key es ks ≡ y → MayChoose true false y t.held.position t.rest → k.position.line ≤ t.held.position.line
+    may y i h =
+        let g = (a.completes true false (true ∷ []) (subst (λ z. MayChoose true false z t.held.position t.rest) (sym i) h)).0 in
+        early (keys_before (Some first_account) g.steps (a.separation ++ t.rest) b g.leads tt)
+
+    by : (y : Option Key) → outside_key es ks ≡ y → k.position.line ≤ t.held.position.line
+    by None i = may None i tt
+    by (Some z) i = by_must z.required refl
+      where
+        by_must : (c : Bool) → z.required ≡ c → k.position.line ≤ t.held.position.line
+        by_must false e = may (Some z) i e
+        by_must true e =
+            let g = a.carries (true ∷ []) z i e refl some in
+            let first = keys_before (Some first_account) g.begins.steps (spelled g.steps (a.separation ++ t.rest)) g.account g.begins.leads tt in
+            early (keys_before (Some (record g.account { line = taken })) g.steps (a.separation ++ t.rest) b g.leads first)
+
+-- ---- the function of the model that reads a colon: what holds where it begins holds between two fetches after it
 
 -- A colon that is the indicator of a value is read as in the row.
 pub value_keeps : (text more : List ℕ) (t : ScannerState) → Arrives text t → t.rest ≡ 58 ∷ more → is_value t ≡ true → IsDeep t.held → Holds (Stands text) (fetch_value t)
 unfolding fetch_value
 value_keeps text more t a e ind deep =
     subst (λ l. Holds (Stands text) (check_value_space (record { rest = after l; held = h }) >>= value_on)) (sym e)
-    (chained (colon_spaced more h) (λ u d. subst (λ y. Holds (Stands text) (value_on y)) (sym d.0) (by (arrives_side text t a) d.1)))
+    (chained (colon_spaced more h) (λ u d. subst (λ y. Holds (Stands text) (value_on y)) (sym d.0) (by d.1)))
   where
     h : Held
     h = record t.held { flow = paired t.held.flow; position = past t.held.position; leading = false }
@@ -22,18 +324,14 @@ value_keeps text more t a e ind deep =
     value_on : ScannerState → Result ScannerState Fault
     value_on u = try_held (λ s. value_of (top_key s.keys) t.held.position (opens_pair t.held.flow) s) u >>= λ v. Ok (on_held (push t.held.position Tok.value) v)
 
-    outer : (k : Option Key) → t.held.flow ≡ [] → ArrivesBy text t [] (k ∷ []) [] → colon_may_precede more ≡ true → Holds (Stands text) (value_by more t [] (k ∷ []))
-    outer None flow x apart = keyless_outside text more t x e apart (value_here text more t [] (None ∷ []) [] x flow e ind) deep
-    outer (Some k) flow x apart = keyed_outside text more t k x e apart (value_here text more t [] (Some k ∷ []) [] x flow e ind)
+    outer : (k : Option Key) → ArrivesBy text (with_sides t [] (k ∷ [])) [] (k ∷ []) [] → colon_may_precede more ≡ true → is_value (with_sides t [] (k ∷ [])) ≡ true → Holds (Stands text) (value_by more (with_sides t [] (k ∷ [])) [] (k ∷ []))
+    outer None x apart ind = keyless_outside text more _ x e apart (value_here text more _ [] (None ∷ []) [] x refl e ind) deep
+    outer (Some k) x apart ind = keyed_outside text more _ k x e apart (value_here text more _ [] (Some k ∷ []) [] x refl e ind)
 
-    inner : (f : FlowLevel) (fs : List FlowLevel) (k : Option Key) (ks : List (Option Key)) (y : Entry) (es : List Entry) → t.held.flow ≡ f ∷ fs → ArrivesBy text t (f ∷ fs) (k ∷ ks) (y ∷ es) → colon_may_precede more ≡ true →
-        Holds (Stands text) (value_by more t (f ∷ fs) (k ∷ ks))
-    inner f fs None ks y es flow x apart = keyless_inside text more t f fs ks y es x e apart (value_here text more t (f ∷ fs) (None ∷ ks) (y ∷ es) x flow e ind) deep
-    inner f fs (Some k) ks y es flow x apart = keyed_inside text more t f fs k ks y es x e apart (value_here text more t (f ∷ fs) (Some k ∷ ks) (y ∷ es) x flow e ind) deep (key_before text t f fs k ks y es x (ap is_empty e))
+    inner : (f : FlowLevel) (fs : List FlowLevel) (k : Option Key) (ks : List (Option Key)) (y : Entry) (es : List Entry) → ArrivesBy text (with_sides t (f ∷ fs) (k ∷ ks)) (f ∷ fs) (k ∷ ks) (y ∷ es) → colon_may_precede more ≡ true →
+        is_value (with_sides t (f ∷ fs) (k ∷ ks)) ≡ true → Holds (Stands text) (value_by more (with_sides t (f ∷ fs) (k ∷ ks)) (f ∷ fs) (k ∷ ks))
+    inner f fs None ks y es x apart ind = keyless_inside text more _ f fs ks y es x e apart (value_here text more _ (f ∷ fs) (None ∷ ks) (y ∷ es) x refl e ind) deep
+    inner f fs (Some k) ks y es x apart ind = keyed_inside text more _ f fs k ks y es x e apart (value_here text more _ (f ∷ fs) (Some k ∷ ks) (y ∷ es) x refl e ind) deep (key_before text _ f fs k ks y es x (ap is_empty e))
 
-    by : ArrivesOutside text t ⊎ ArrivesInside text t → colon_may_precede more ≡ true → Holds (Stands text) (value_on (past_colon more h))
-    by (inl o) apart = grind (arith, nat_tests, eqb-true, outer)
-    by (inr i) apart =
-        subst (λ fs. Holds (Stands text) (value_by more t fs t.held.keys)) (sym i.flow_is)
-        (subst (λ ks. Holds (Stands text) (value_by more t (i.level ∷ i.levels) ks)) (sym i.keys_are)
-        (inner i.level i.levels i.key i.keys i.entry i.entries i.flow_is i.here apart))
+    by : colon_may_precede more ≡ true → Holds (Stands text) (value_on (past_colon more h))
+    by apart = by_sides text t (λ v. is_value v ≡ true → Holds (Stands text) (value_by more v v.held.flow v.held.keys)) a (λ k x n. outer k x apart) (λ f fs k ks y es x. inner f fs k ks y es x apart) ind

@@ -1,5 +1,5 @@
 -- Spaces, breaks and comments after a `?`: what the model reads there is all of them, and no TAB is among them but in comments.
-use Rattle.proof_scanner.proofs.Common.{At, Bool, Err, Fault, HasPassed, Held, Holds, List, Ok, Result, ScannerState, [], after_separation, and_false, and_parts, ap, append_cancel_right, arith, begins_white_space, begins_with, begins_with_space_or_break, both_hold, eqb-true, false, has_break, has_no_break, has_tab_before_piece, if◌then◌else◌, inr, is_at_gap, is_blank, is_blank_or_end, is_break, is_nul, is_one_of, is_separation, last_line, moved, nat_tests, no_break_hash, not, or_true, refl, refused, same_break, skip_yaml_whitespace, slice_index, subst, sym, true, weakened, went, white, white_end, ℕ, ◌&&◌, ◌++◌, ◌==◌, ◌||◌, ◌∙◌, ◌∷◌, ◌≡◌, ◌⊎◌}
+use Rattle.proof_scanner.proofs.Common.{At, Bool, Err, Fault, HasPassed, Held, Holds, List, Ok, Result, ScannerState, [], after_separation, and_false, and_parts, ap, append_cancel_right, arith, begins_white_space, begins_with, begins_with_space_or_break, both_hold, eqb-true, false, has_break, has_no_break, has_tab_before_piece, if◌then◌else◌, inr, is_at_gap, is_blank, is_blank_or_end, is_break, is_nul, is_one_of, is_separation, last_line, moved, no_break_hash, not, or_true, refl, refused, same_break, skip_yaml_whitespace, slice_index, subst, sym, true, weakened, went, white, white_end, ℕ, ◌&&◌, ◌++◌, ◌==◌, ◌||◌, ◌∙◌, ◌∷◌, ◌≡◌, ◌⊎◌}
 use Rattle.yaml_chars.specs.Class as class
 use Rattle.model_scanner.specs.Space.{at_break}
 use Rattle.proof_scanner.proofs.Cut.Passes.{white_passed}
@@ -24,12 +24,8 @@ past_white false (c ∷ r) = (if goes_over c then past_white (c == 35) r else c 
 
 pub white_cut : (in_comment : Bool) (a : List ℕ) → a ≡ white_of in_comment a ++ past_white in_comment a
 white_cut b [] = refl
-white_cut true (c ∷ r) = grind (arith, nat_tests, eqb-true, white_cut (not (is_break c)) r)
-white_cut false (c ∷ r) = grind (arith, nat_tests, eqb-true, white_cut (c == 35) r)
-
-goes_over_none : (c : ℕ) → c ≡ 9 → goes_over c ≡ false
-unfolding is_break
-goes_over_none c e = rw e refl
+white_cut true (c ∷ r) = grind (arith, white_cut (not (is_break c)) r)
+white_cut false (c ∷ r) = grind (arith, white_cut (c == 35) r)
 
 -- Where no TAB comes after them, none stands outside comments before the next piece.
 pub no_tab_before : (in_comment : Bool) (a : List ℕ) → begins_with 9 (past_white in_comment a) ≡ false → has_tab_before_piece in_comment a ≡ false
@@ -44,15 +40,12 @@ in_comment_ends : (a : List ℕ) → has_no_break (white_of true a) ≡ true →
 in_comment_ends [] h = refl
 in_comment_ends (c ∷ r) h = grind (arith, in_comment_ends r)
 
-none_first : (c : ℕ) (s : List ℕ) → (9 == c) ≡ false → is_one_of (last_line s) 9 ≡ false → is_one_of (last_line (c ∷ s)) 9 ≡ false
-none_first c s e h = grind (arith, nat_tests, last_first, has_break, eqb-true)
-
 -- Its last line has no TAB, unless the text ends with it.
 pub no_tab_in_last : (in_comment : Bool) (a : List ℕ) → (past_white in_comment a ≡ []) ⊎ (is_one_of (last_line (white_of in_comment a)) 9 ≡ false)
 unfolding is_break
 no_tab_in_last b [] = inr refl
 no_tab_in_last true (c ∷ r) = grind (arith, in_comment_ends, last_first, eqb-true, no_tab_in_last (not (is_break c)) r)
-no_tab_in_last false (c ∷ r) = grind (arith, eqb-true, none_first, no_tab_in_last (c == 35) r)
+no_tab_in_last false (c ∷ r) = grind (arith, eqb-true, last_first, has_break, no_tab_in_last (c == 35) r)
 
 -- ---- what the model reads
 
@@ -63,7 +56,7 @@ IsPastWhite b leading a u = (u.rest ≡ past_white b a) × (u.held.leading ≡ (
 -- a line begins after a break, and after the line feed of CR LF
 feed_after : (c : ℕ) (a : List ℕ) (s : Held) → is_break c ≡ true → ((at_break c a s).leading || has_break (white_of false a)) ≡ true
 unfolding is_break
-feed_after c a s e = grind (arith, nat_tests, eqb-true, feed, and_parts, or_true)
+feed_after c a s e = grind (arith, feed, and_parts, or_true)
   where
     feed : (r : List ℕ) → (slice_index r 0 == 10) ≡ true → has_break (white_of false r) ≡ true
     feed [] h = absurd (cc h)
@@ -71,7 +64,7 @@ feed_after c a s e = grind (arith, nat_tests, eqb-true, feed, and_parts, or_true
 
 white_read : (in_comment found : Bool) (a : List ℕ) (s : Held) → Holds (IsPastWhite in_comment s.leading a) (white in_comment found a s)
 unfolding white is_break
-white_read b found [] s = grind (arith, nat_tests, eqb-true, went, refused)
+white_read b found [] s = grind (arith, went, refused)
 white_read i found (c ∷ a) s = of i (class.is_break c) (c == 32) (c == 35) refl refl refl (λ i f u. white_read i f a u)
   where
     more : (i : Bool) (u : ScannerState) → is_break c ≡ false → IsPastWhite i s.leading a u → (u.rest ≡ past_white i a) × (u.held.leading ≡ (s.leading || has_break (c ∷ white_of i a)))
@@ -82,7 +75,7 @@ white_read i found (c ∷ a) s = of i (class.is_break c) (c == 32) (c == 35) ref
 
     of : (i x y z : Bool) → class.is_break c ≡ x → (c == 32) ≡ y → (c == 35) ≡ z → ((j : Bool) → ((f : Bool) (u : Held) → Holds (IsPastWhite j u.leading a) (white j f a u))) →
         Holds (IsPastWhite i s.leading (c ∷ a)) (if x then white false true a (at_break c a s) else (if i then white true found a (moved s) else (if y then white false true a (moved s) else (if z then white true found a (moved s) else white_end found (c ∷ a) s))))
-    of a b y z e f g h = grind (arith, nat_tests, same_break, weakened, feed_after, or_true, more, no_break_hash, eqb-true, stay, went, refused)
+    of a b y z e f g h = grind (arith, same_break, weakened, feed_after, or_true, more, no_break_hash, eqb-true, stay, went, refused)
 
 -- The state after spaces, breaks and comments.
 abbrev pub past_white_space : ScannerState → ScannerState
@@ -109,8 +102,8 @@ white_exactly t = weakened exactly (both_hold (white_passed t) (white_read false
 pub no_tab_in : (in_comment : Bool) (a : List ℕ) → has_tab_before_piece in_comment (white_of in_comment a) ≡ false
 unfolding is_break
 no_tab_in b [] = refl
-no_tab_in true (c ∷ r) = grind (arith, nat_tests, eqb-true, no_tab_in (not (is_break c)) r)
-no_tab_in false (c ∷ r) = grind (arith, nat_tests, goes_over_none, and_false, eqb-true, no_tab_in (c == 35) r)
+no_tab_in true (c ∷ r) = grind (arith, no_tab_in (not (is_break c)) r)
+no_tab_in false (c ∷ r) = grind (arith, and_false, eqb-true, no_tab_in (c == 35) r)
 
 -- Neither a space nor a break stands there, and that is refused.
 pub record IsMissed (more : List ℕ) (s : Held) : Type 0 where
@@ -121,7 +114,7 @@ pub record IsMissed (more : List ℕ) (s : Held) : Type 0 where
 -- one of them stands after a `?` that is at a gap, or it is refused
 pub white_or_missed : (more : List ℕ) (s : Held) → is_at_gap more ≡ true → (begins_with_space_or_break more ≡ true) ⊎ IsMissed more s
 unfolding white is_blank_or_end is_blank is_break is_nul
-white_or_missed b s gap = grind (arith, nat_tests, eqb-true, same_break, or_true)
+white_or_missed b s gap = grind (arith, same_break, or_true)
 
 -- what stands after a `?`, where it is at a gap, is a space or a break
 pub white_first : (more : List ℕ) (s : Held) → is_at_gap more ≡ true → Holds (λ u. begins_with_space_or_break more ≡ true) (white false false more s)
@@ -132,4 +125,4 @@ white_first more s gap = by (white_or_missed more s gap)
     anyway (Err f) h = refused
 
     by : (begins_with_space_or_break more ≡ true) ⊎ IsMissed more s → Holds (λ u. begins_with_space_or_break more ≡ true) (white false false more s)
-    by a = grind (arith, nat_tests, eqb-true, anyway, refused)
+    by a = grind (arith, anyway, refused)

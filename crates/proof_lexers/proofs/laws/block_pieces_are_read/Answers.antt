@@ -1,4 +1,4 @@
-use Rattle.proof_lexers.proofs.Blocks.Pieces.{pieces_are_read}
+use Rattle.proof_lexers.proofs.Blocks.Ends.{pieces_are_read}
 use Rattle.proof_lexers.proofs.laws.block_pieces_are_read.Goals as goal
 
 pub returns : goal.returns

@@ -1,12 +1,9 @@
 -- A refusal for a fault that stands in a text by itself comes only where that fault stands.
-use Rattle.proof_scanner.proofs.Common.{At, Fault, has_no_nul, is_shown, is_told, IsRefused, IsThere, List, OutOfMemory, Problem, true, ℕ, ◌≡◌, Position, nat_tests, eqb-true, arith}
+use Rattle.proof_scanner.proofs.Common.{At, Fault, has_no_nul, is_shown, IsRefused, IsThere, List, OutOfMemory, true, ℕ, ◌≡◌, nat_tests, eqb-true, arith}
 use Rattle.proof_scanner.proofs.Refusals.Places.{kind}
 use Rattle.proof_scanner.proofs.Refusals.Refusals.{refusal_said}
-
-shown_told : (why : Problem) (at : Position) → is_shown (At why at) ≡ true → is_told why ≡ true
-shown_told why at h = grind (arith, nat_tests, eqb-true)
 
 -- A text is refused for such a fault only where it stands in it.
 pub faults_stand : (text : List ℕ) (f : Fault) → has_no_nul text ≡ true → IsRefused text f → is_shown f ≡ true → IsThere text f
 faults_stand text OutOfMemory nul r shown = absurd (cc shown)
-faults_stand text (At why at) nul r shown = (refusal_said text (At why at) nul r (kind (shown_told why at shown))).stands shown
+faults_stand text (At why at) nul r shown = (refusal_said text (At why at) nul r (kind (grind (arith, nat_tests, eqb-true)))).stands shown

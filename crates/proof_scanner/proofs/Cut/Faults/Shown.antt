@@ -1,13 +1,30 @@
 -- What is wrong where a piece begins stands in the text, if it is a fault that stands there by itself.
-use Rattle.proof_scanner.proofs.Common.{[], account_past_separation, ap, arith, Arrives, At, before_by, before_past, Bool, chosen, Entry, entries_by, Fails, false, is_empty, is_in_flow, is_shown, IsCutUpTo, IsSpot, IsThere, Key, length, List, nat_tests, None, not, Option, Problem, refl, ScannerState, subst, suc, sym, true, ℕ, ◌++◌, ◌∙◌, ◌∷◌, ◌≡◌, Position, eqb-true}
+use Rattle.proof_scanner.proofs.Common.{[], account_past_separation, ap, arith, Arrives, At, before_by, before_past, Bool, chosen, Entry, entries_by, Fails, false, is_empty, is_in_flow, is_shown, IsCutUpTo, IsSpot, IsThere, Key, length, List, nat_tests, None, not, Option, Problem, refl, ScannerState, subst, suc, sym, true, ℕ, ◌++◌, ◌∙◌, ◌∷◌, ◌≡◌, Position, eqb-true, Fault, AnchorIndentation, bad_escape, open_quote, marked_quote, too_deep, entry_in_flow, dash_in_flow}
 use Rattle.defs_token.specs.Account.{Account}
 use Rattle.proof_row.proofs.CutPieces.{account_by}
 use Rattle.proof_row.proofs.CutSteps.{somes, with_key, levels_in}
+use Rattle.proof_scanner.proofs.Sound.CutsSoFar.{arrives_cut}
 use Rattle.proof_scanner.specs.NoPiece as none
 use Rattle.proof_scanner.specs.Failing as failing
-use Rattle.proof_scanner.specs.Faults.{bad_escape, open_quote, marked_quote, too_deep, entry_in_flow, dash_in_flow}
-use Rattle.proof_scanner.proofs.Sound.CutsSoFar.{arrives_cut}
-use Rattle.proof_scanner.proofs.Cut.Faults.Reasons.{line_neither, tag_neither}
+use Rattle.proof_lexers.specs.DirectiveEnds as directives
+use Rattle.proof_lexers.specs.TagEnds as tag_ends
+
+-- ---- the faults of directives and tags are none of those that are told apart by themselves
+
+-- whether a fault is that of a property in the first column before an entry there
+abbrev pub is_margin_fault : Fault → Bool
+is_margin_fault (At AnchorIndentation p) = true
+is_margin_fault _ = false
+
+-- the fault is neither that nor one that is shown
+abbrev pub IsNeither : Fault → Type 0
+IsNeither f = (is_shown f ≡ false) × (is_margin_fault f ≡ false)
+
+pub line_neither : (start : Position) (line : List ℕ) (f : Fault) → directives.IsDirectiveRefusal start line f → IsNeither f
+line_neither a b f n = grind (arith, nat_tests, eqb-true)
+
+pub tag_neither : (flow : Bool) (t : List ℕ) (why : Problem) (p : Position) → tag_ends.IsTagRefusal flow t why → IsNeither (At why p)
+tag_neither flow t why p n = grind (arith)
 
 many_levels : (cs : List Bool) (ks : List (Option Key)) (es : List Entry) → length (entries_by cs ks es) ≡ length (levels_in es)
 many_levels cs ks [] = refl

@@ -1,5 +1,5 @@
 -- What the scan of a block scalar reads is its piece.
-use Rattle.proof_scanner.proofs.Common.{[], and_false, ap, arith, begins_with, Block, block, block_position, block_read, BlockIsRead, BlockRead, BlockStyle, Bool, collection_column, collection_of, false, folded, further_position, has_no_nul, if◌then◌else◌, indicator_of, inl, inr, is_at_end, is_blank, is_empty, is_literal_style, is_nul, is_past, is_separation, IsBlockRead, IsPiece, List, literal, nat_lt, nat_tests, Ok, Option, past_spaces, Position, position_after, position_past, Read, read_as, ReadAs, refl, scalar, Some, split, Style, subst, Tok, true, whole_block, without_spaces, ℕ, ◌++◌, ◌<◌, ◌==◌, ◌∙◌, ◌∷◌, ◌≡◌, ◌⊎◌}
+use Rattle.proof_scanner.proofs.Common.{cases_Bool, [], and_false, ap, arith, begins_with, Block, block, block_position, block_read, BlockIsRead, BlockRead, BlockStyle, collection_column, collection_of, false, folded, further_position, has_no_nul, if◌then◌else◌, indicator_of, inl, inr, is_at_end, is_blank, is_empty, is_literal_style, is_nul, is_past, is_separation, IsBlockRead, IsPiece, List, literal, nat_lt, nat_tests, Ok, Option, past_spaces, Position, position_after, position_past, Read, read_as, ReadAs, refl, scalar, Some, split, Style, subst, Tok, true, whole_block, without_spaces, ℕ, ◌++◌, ◌<◌, ◌==◌, ◌∙◌, ◌∷◌, ◌≡◌, ◌⊎◌, further_is_no_break}
 use Rattle.model_scanner.specs.declared.kind.BlockStyle.TheVariants.{Literal, Folded}
 use Rattle.defs_text.specs.Classes.{space}
 use Rattle.defs_token.specs.Account.{Account, is_in_flow}
@@ -7,7 +7,6 @@ use Rattle.proof_lexers.specs.BlockScan.{read}
 use Rattle.proof_lexers.proofs.Blocks.Ends.{scans_end}
 use Rattle.proof_lexers.proofs.Separation.EachSeparation.{no_nul_after}
 use Rattle.proof_scanner.proofs.Cut.Pieces.Quoted.{some_chars}
-use Rattle.proof_row.proofs.Columns.{further_is_no_break}
 use Rattle.proof_row.proofs.KeyLines.{line_grows}
 use Rattle.proof_scanner.proofs.Cut.Pieces.Inserted.{line_ended}
 
@@ -66,16 +65,15 @@ end_no_text a h e = grind arith
 
 module _ (a : Account) (indent : ℕ) (outside : is_in_flow a ≡ false) (column : collection_column a ≡ collection_of indent) where
   pub below : (c : ℕ) (piece next : List ℕ) (b : BlockRead) → has_no_nul next ≡ true → block_read (collection_of indent) (c ∷ piece) next ≡ Some b → IsBelow a.position (further_position a.position (c ∷ piece) next) (without_spaces next)
-  below c piece next b nul is = by (is_at_end next) refl
-    where
-      by : (e : Bool) → is_at_end next ≡ e → IsBelow a.position (further_position a.position (c ∷ piece) next) (without_spaces next)
-      by true e = inl (ap without_spaces (end_no_text next nul e))
-      by false e =
-          let q = piece_has_line (collection_of indent) (c ∷ piece) next b e is in
-          let up = lines_up a.position (c ∷ piece) next q.0 q.1 in
-          let stays = line_grows (position_after a.position (c ∷ piece) next) (spaces_of next) (without_spaces next) in
-          let here = ap (λ (z : Position). z.line) (spaces_position (position_after a.position (c ∷ piece) next) next) in
-          inr (grind (arith, nat_tests, up, stays, here))
+  below c piece next b nul is = elim (cases_Bool (is_at_end next)) [
+    | inl e ↦ inl (ap without_spaces (end_no_text next nul e))
+    | inr e ↦
+        let q = piece_has_line (collection_of indent) (c ∷ piece) next b e is in
+        let up = lines_up a.position (c ∷ piece) next q.0 q.1 in
+        let stays = line_grows (position_after a.position (c ∷ piece) next) (spaces_of next) (without_spaces next) in
+        let here = ap (λ (z : Position). z.line) (spaces_position (position_after a.position (c ∷ piece) next) next) in
+        inr (grind (arith, nat_tests, up, stays, here))
+  ]
 
   found : (style : BlockStyle) (text piece next : List ℕ) (b : BlockRead) → has_no_nul next ≡ true → text ≡ piece ++ next → block_read (collection_of indent) piece next ≡ Some b → b.style ≡ style
       → ReadAs a text (token_of style b.text) (block_position b.column a.position piece next) (without_spaces next) (further_position a.position piece next) × IsBelow a.position (further_position a.position piece next) (without_spaces next)

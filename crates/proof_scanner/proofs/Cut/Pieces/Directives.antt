@@ -1,5 +1,5 @@
 -- What the scan of a directive reads is its piece.
-use Rattle.proof_scanner.proofs.Common.{[], ap, Bool, Directive, DirectiveIsRead, directives_end, drop, false, first_break, has_no_break, if◌then◌else◌, is_before_line_feed, is_blank, is_break, is_directive_token, is_separation, IsDirective, IsDirectiveRead, IsPiece, List, Option, position_append, Read, read_as, ReadAs, refl, subst, take, Tok, token_of, true, whole_directive, ℕ, ◌++◌, ◌∙◌, ◌∷◌, ◌≡◌, arith, nat_tests}
+use Rattle.proof_scanner.proofs.Common.{inr, inl, cases_Bool, [], ap, Directive, DirectiveIsRead, directives_end, drop, false, first_break, has_no_break, is_before_line_feed, is_blank, is_break, is_directive_token, is_separation, IsDirective, IsDirectiveRead, IsPiece, List, Option, position_append, Read, read_as, ReadAs, refl, subst, take, Tok, token_of, true, whole_directive, ℕ, ◌++◌, ◌∙◌, ◌∷◌, ◌≡◌, arith, nat_tests}
 use Rattle.defs_token.specs.Account.{Account}
 use Rattle.proof_lexers.specs.DirectiveEnds.{ends_line, next_line}
 
@@ -18,11 +18,10 @@ feed_fills c r rest h = grind (arith, nat_tests, break_fills)
 
 pub break_is_separation : (next : List ℕ) → ends_line next ≡ true → is_separation false (first_break next) (next_line next) ≡ true
 break_is_separation [] h = refl
-break_is_separation (c ∷ r) h = by (is_before_line_feed c r) refl
-  where
-    by : (b : Bool) → is_before_line_feed c r ≡ b → is_separation false (if b then c ∷ take 1 r else c ∷ []) (if b then drop 1 r else r) ≡ true
-    by true e = break_fills c (take 1 r) (drop 1 r) h (feed_fills c r (drop 1 r) e)
-    by false e = break_fills c [] r h refl
+break_is_separation (c ∷ r) h = elim (cases_Bool (is_before_line_feed c r)) [
+  | inl e ↦ rw e (break_fills c (take 1 r) (drop 1 r) h (feed_fills c r (drop 1 r) e))
+  | inr e ↦ rw e (break_fills c [] r h refl)
+]
 
 -- ---- the piece
 

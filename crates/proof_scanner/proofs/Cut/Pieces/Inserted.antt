@@ -10,14 +10,11 @@ line_ended p d r h = rw h refl
 line_stays : (p : Position) (d : ℕ) (r : List ℕ) → ends_line d r ≡ false → (position_past p d r).line ≡ p.line
 line_stays p d r h = rw h refl
 
-feed_ends : (e : ℕ) (r : List ℕ) → (e == 10) ≡ true → ends_line e r ≡ true
-unfolding is_break
-feed_ends e r h = grind arith
-
 -- CR LF ends a line
 two_end : (p : Position) (d : ℕ) (t : List ℕ) (c : ℕ) (r : List ℕ) → (c == 10) ≡ false → is_before_line_feed d (t ++ (c ∷ r)) ≡ true → suc p.line ≤ (position_after (position_past p d (t ++ (c ∷ r))) t (c ∷ r)).line
+unfolding is_break
 two_end p d [] c r n l = grind arith
-two_end p d (e ∷ t) c r n l = grind (arith, line_ended, feed_ends, not_before_after)
+two_end p d (e ∷ t) c r n l = grind (arith, line_ended, not_before_after)
 
 -- a text after which the line is still the same has no break
 pub no_break_on_line : (p : Position) (t : List ℕ) (c : ℕ) (r : List ℕ) → (c == 10) ≡ false → (position_after p t (c ∷ r)).line ≤ p.line → has_no_break t ≡ true

@@ -8,12 +8,9 @@ pub all_in_line : (class : ℕ → Bool) → ((c : ℕ) → class c ≡ true →
 all_in_line class none [] h = refl
 all_in_line class none (c ∷ l) h = let q = and_parts (class c) (all_of class l) h in rw (none c q.0) (all_in_line class none l q.1)
 
-name_has_none : (c : ℕ) → is_anchor_name c ≡ true → is_break c ≡ false
-unfolding is_anchor_name is_blank_or_end
-name_has_none c h = grind arith
-
 pub name_in_line : (name : List ℕ) → is_name name ≡ true → has_no_break name ≡ true
-name_in_line a h = grind (arith, all_in_line, name_has_none)
+unfolding is_anchor_name is_blank_or_end
+name_in_line a h = grind (arith, all_in_line)
 
 -- ---- the piece
 

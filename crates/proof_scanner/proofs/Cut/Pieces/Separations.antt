@@ -5,26 +5,18 @@ pub no_break_append : (a b : List ℕ) → has_no_break a ≡ true → has_no_br
 no_break_append [] b h k = k
 no_break_append (c ∷ a) b h k = let q = and_parts (not (is_break c)) (has_no_break a) h in rw q.0 (no_break_append a b q.1 k)
 
--- a character that ends a line begins no comment
-break_is_no_hash : (c : ℕ) → is_break c ≡ true → (c == 35) ≡ false
-unfolding is_break
-break_is_no_hash c h = grind (arith, nat_tests)
-
-nul_is_no_separation : (c : ℕ) (g n : List ℕ) → is_nul c ≡ true → is_separation false (c ∷ g) n ≡ false
-unfolding is_nul is_blank is_break
-nul_is_no_separation c g n h = grind (arith, nat_tests)
-
 -- two separations are one
 pub separation_append : (in_comment : Bool) (f g n : List ℕ) → is_separation in_comment f (g ++ n) ≡ true → is_separation false g n ≡ true → is_separation in_comment (f ++ g) n ≡ true
+unfolding is_nul is_blank is_break
 separation_append false [] g n h k = k
 separation_append true [] [] n h k = h
-separation_append true [] (c ∷ g) n h k = grind (arith, break_is_no_hash, nul_is_no_separation)
+separation_append true [] (c ∷ g) n h k = grind (arith, nat_tests)
 separation_append true (c ∷ f) g n h k = separation_append (not (is_break c)) f g n h k
 separation_append false (c ∷ f) g n h k = grind (arith, separation_append (c == 35) f g n)
 
 pub white_is_no_hash : (c : ℕ) → is_white c ≡ true → (c == 35) ≡ false
-unfolding is_blank
-white_is_no_hash c h = grind (arith, nat_tests, break_is_no_hash)
+unfolding is_blank is_break
+white_is_no_hash c h = grind (arith, nat_tests)
 
 -- blanks and breaks are a separation
 pub gap_is_separation : (gap rest : List ℕ) → is_gap gap ≡ true → is_separation false gap rest ≡ true

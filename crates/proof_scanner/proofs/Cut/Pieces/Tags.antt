@@ -1,5 +1,5 @@
 -- What the scan of a tag reads is its piece.
-use Rattle.proof_scanner.proofs.Common.{[], after, all_leading, ap, begins_with_mark, Bool, codes, eqb-true, false, has_no_break, if◌then◌else◌, is_alpha, is_break, is_decimal_digit, is_letter, is_same, is_tag, is_uri, IsTagRead, leading, List, may_follow, None, Ok, Position, position_in_line, Read, read_as, refl, shorthand, Some, span_cut, subst, sym, Tag, tag_of_class, TagIsRead, tags_end, Tok, true, verbatim, whole_tag, written_tag, ℕ, ◌++◌, ◌==◌, ◌∙◌, ◌∷◌, ◌≡◌, arith, nat_tests}
+use Rattle.proof_scanner.proofs.Common.{inr, inl, cases_Bool, [], after, all_leading, ap, begins_with_mark, Bool, codes, eqb-true, false, has_no_break, is_alpha, is_break, is_decimal_digit, is_letter, is_same, is_tag, is_uri, IsTagRead, leading, List, may_follow, Ok, Position, position_in_line, Read, read_as, refl, shorthand, Some, span_cut, subst, sym, Tag, tag_of_class, TagIsRead, tags_end, Tok, true, verbatim, whole_tag, written_tag, ℕ, ◌++◌, ◌==◌, ◌∙◌, ◌∷◌, ◌≡◌, arith, nat_tests}
 use Rattle.defs_text.specs.Tags.{named}
 use Rattle.model_scanner.specs.Tag as models
 use Rattle.proof_scanner.proofs.Cut.Pieces.Separations.{no_break_append}
@@ -38,11 +38,7 @@ closed_in_line (c ∷ []) h = grind arith
 closed_in_line (c ∷ d ∷ t) h = grind arith
 
 verbatim_in_line : (t : List ℕ) (g : Tag) → verbatim t ≡ Some g → has_no_break t ≡ true
-verbatim_in_line t g h = by (is_same (after is_uri t) (codes ">")) refl h
-  where
-    by : (b : Bool) → is_same (after is_uri t) (codes ">") ≡ b → (if b then tag_of_class is_uri [] (leading is_uri t) else None) ≡ Some g → has_no_break t ≡ true
-    by true e h = spanned is_uri uri_has_none t (closed_in_line (after is_uri t) e)
-    by false e h = cc
+verbatim_in_line t g h = elim (cases_Bool (is_same (after is_uri t) (codes ">"))) [ inl e ↦ spanned is_uri uri_has_none t (closed_in_line (after is_uri t) e) | inr e ↦ absurd (grind arith) ]
 
 named_in_line : (name from : List ℕ) (g : Tag) → begins_with_mark from ≡ true → named name from ≡ Some g → has_no_break from ≡ true
 unfolding is_break
@@ -54,21 +50,18 @@ named_in_line name (c ∷ d ∷ suffix) g m h =
 
 shorthand_in_line : (t : List ℕ) (g : Tag) → shorthand t ≡ Some g → has_no_break t ≡ true
 shorthand_in_line [] g h = refl
-shorthand_in_line (c ∷ t) g h = by (begins_with_mark (after is_alpha (c ∷ t))) refl h
-  where
-    by : (b : Bool) → begins_with_mark (after is_alpha (c ∷ t)) ≡ b
-        → (if b then named (leading is_alpha (c ∷ t)) (after is_alpha (c ∷ t)) else tag_of_class is_tag (codes "!") (c ∷ t)) ≡ Some g → has_no_break (c ∷ t) ≡ true
-    by true e h = spanned is_alpha alpha_has_none (c ∷ t) (named_in_line (leading is_alpha (c ∷ t)) (after is_alpha (c ∷ t)) g e h)
-    by false e h = of_class is_tag tag_has_none (codes "!") (c ∷ t) g h
+shorthand_in_line (c ∷ t) g h = elim (cases_Bool (begins_with_mark (after is_alpha (c ∷ t)))) [
+  | inl e ↦ let k = rw e at h in spanned is_alpha alpha_has_none (c ∷ t) (named_in_line (leading is_alpha (c ∷ t)) (after is_alpha (c ∷ t)) g e k)
+  | inr e ↦ let k = rw e at h in of_class is_tag tag_has_none (codes "!") (c ∷ t) g k
+]
 
 pub written_in_line : (t : List ℕ) (g : Tag) → written_tag (33 ∷ t) ≡ Some g → has_no_break (33 ∷ t) ≡ true
 unfolding is_break
 written_in_line [] g h = refl
-written_in_line (c ∷ t) g h = by (c == 60) refl h
-  where
-    by : (b : Bool) → (c == 60) ≡ b → (if b then verbatim t else shorthand (c ∷ t)) ≡ Some g → has_no_break (33 ∷ c ∷ t) ≡ true
-    by true e h = let same : c ≡ 60 = eqb-true c 60 e in rw same (verbatim_in_line t g h)
-    by false e h = shorthand_in_line (c ∷ t) g h
+written_in_line (c ∷ t) g h = elim (cases_Bool (c == 60)) [
+  | inl e ↦ let k = rw e at h in let same : c ≡ 60 = eqb-true c 60 e in rw same (verbatim_in_line t g k)
+  | inr e ↦ let k = rw e at h in shorthand_in_line (c ∷ t) g k
+]
 
 -- ---- the piece
 

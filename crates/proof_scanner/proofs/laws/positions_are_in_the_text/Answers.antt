@@ -1,4 +1,4 @@
-use Rattle.proof_scanner.proofs.Sound.Reached.{run_is_where}
+use Rattle.proof_scanner.proofs.Sound.FirstTokens.{run_is_where}
 use Rattle.proof_scanner.proofs.laws.positions_are_in_the_text.Goals as goal
 
 pub returns : goal.returns
