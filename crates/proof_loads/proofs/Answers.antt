@@ -1,5 +1,5 @@
 -- What a load answers of any text, by a parser that is at its start.
-use Rattle.proof_loads.proofs.Common.{[], Answer, AnswersText, ap, append-nil, append_assoc, AreFirst, AreSettled, before_stream, BeginsEvents, BeginsPlaced, Blames, Bool, codes, ComesAfter, EndsSo, Err, ErrorReport, Ev, events_of, Explains, false, fault, Foretells, given, has_end, HasEvents, inl, inr, IsAtStart, IsCause, IsDerived, IsFaultOf, IsOfScanner, IsPlacedStream, IsRefusal, IsStream, length, List, load, load_from, Loads, nested_stream, no_names, no_stream, no_token, None, NoneBegins, Parsed, Position, Raw, raws_of, read, Receives, refl, Refused, Result, ScansIn, Some, subst, sym, TextsAreAnswered, Tok, Token, toks, true, wants_memory, whole, without_positions, ℕ, ◌++◌, ◌∙◌, ◌∷◌, ◌≡◌}
+use Rattle.proof_loads.proofs.Common.{[], Answer, AnswersText, ap, append-nil, append_assoc, AreFirst, AreSettled, before_stream, BeginsEvents, BeginsPlaced, Blames, Bool, codes, ComesAfter, EndsSo, Err, ErrorReport, Ev, events_of, Explains, false, Foretells, given, has_end, HasEvents, inl, inr, IsAtStart, IsCause, IsDerived, IsFaultOf, IsOfScanner, IsPlacedStream, IsRefusal, IsStream, length, List, load, load_from, Loads, nested_stream, no_names, no_stream, no_token, None, NoneBegins, Parsed, Position, Raw, raws_of, read, Receives, refl, Refused, Result, ScansIn, Some, subst, sym, TextsAreAnswered, Tok, Token, toks, true, wants_memory, whole, without_positions, ℕ, ◌++◌, ◌∙◌, ◌∷◌, ◌≡◌}
 use Rattle.yaml_parser.specs.Settings.{AreAll}
 use Rattle.yaml_parser.proofs.Since.{since_same, names_same}
 use Rattle.defs_event.specs.Push as run

@@ -1,5 +1,5 @@
 -- The texts that are written for trees mean these trees.
-use Rattle.proof_loads.proofs.Common.{[], dump_is_laid_out, DumpsMeanTheirTree, Means, one_meaning, subst, sym, Tree, trees_of, true, ◌∷◌, ◌≡◌}
+use Rattle.proof_loads.proofs.Common.{[], dump_is_laid_out, DumpsMeanTheirTree, Means, one_meaning, subst, sym, trees_of, true, ◌∷◌, ◌≡◌}
 use Rattle.defs_tree.specs.DumpText.{dump_text}
 use Rattle.defs_layout.specs.DumpIsInjective.{DumpIsInjective}
 use Rattle.proof_loads.proofs.LayoutTexts.{layouts_are_read}

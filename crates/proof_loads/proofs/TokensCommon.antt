@@ -15,7 +15,7 @@ pub use Rattle.defs_layout.specs.BlockLines.{AreLines, blank, contents, full, Li
 pub use Rattle.defs_layout.specs.Gap.{AreEmptyLines, comment_line, empty_line, GapLine, IsGap, IsLineText, next_line, spaces, spell_ending, spell_gap, spell_gap_line}
 unfoldable pub use Rattle.defs_layout.specs.Gap.{is_line_character}
 pub use Rattle.defs_layout.specs.Json.{AreElements, AreMembers, array, element, element_levels, Elements, empty_array, empty_object, false_word, IsJson, IsWellFormed, Json, JsonText, last_element, last_member, levels, member, member_levels, Members, null_word, object, spell, spell_elements, spell_members, spell_text, string, true_word}
-pub use Rattle.defs_layout.specs.JsonGap.{Blank, blank_character, carriage_return, line_feed, space, tab, TabsBeginLines}
+pub use Rattle.defs_layout.specs.JsonGap.{Blank, blank_character, space, TabsBeginLines}
 pub use Rattle.defs_layout.specs.JsonNumber.{are_digits, Exponent, exponent, Fraction, fraction, is_exponent, is_fraction, is_number, is_whole, no_exponent, no_fraction, Number, number, plus, spell_exponent, spell_fraction, spell_minus, spell_number}
 pub use Rattle.defs_layout.specs.JsonString.{are_pieces, character_of, four_digits, is_hex_digit, is_piece, is_surrogate, itself, letter_of, Piece, Short, short, spell_pieces, spell_string, unescaped, unicode}
 unfoldable pub use Rattle.defs_layout.specs.JsonString.{is_unescaped}
