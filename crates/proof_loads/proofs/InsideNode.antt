@@ -67,7 +67,7 @@ of_mapping_end m u (opened_mapping a ps None ∷ outer) f = of_node m a (hash (p
 of_mapping_end m u opened f = tt
 
 of_document_end : (m : ℕ) (u : Unfinished) (opened : List Opened) → IsStillOpen m u → OfStep m (with_document_end u opened)
-of_document_end m u opened h = grind (arith)
+of_document_end m u opened h = grind arith
 
 -- a node's start or scalar has no anchor, or a number after m; n are the anchors after it
 abbrev IsNext : (m a n : ℕ) → Type 0
@@ -106,7 +106,7 @@ of_event m n u Ev.mapping_end le f = of_mapping_end n u u.opened (later m n u.an
 of_event m n u e le f = later m n u.anchors (numbers u.opened) le f
 
 is_next : (s : Names) (a : Option (List ℕ)) → IsNext s.count (number s a) (with_anchor s a).count
-is_next s a = grind (arith)
+is_next s a = grind arith
 
 abbrev OfSome : {A : Type 0} → (A → Type 0) → Option A → Type 0
 OfSome P None = Unit {0}

@@ -41,7 +41,7 @@ after_row h t w (Some (takes ps)) = is_stream_end t || has_last (before grammar 
 after_row h t w (Some (leaves ps)) = has_last (before grammar h t ps w)
 
 row_lasts : (g : Goal) (h : Held) (t : Tok) (w : Works) → is_last g ≡ true → after_row h t w (row_of (cases g) t) ≡ true
-row_lasts g h t w e = grind (arith)
+row_lasts g h t w e = grind arith
 
 row_keeps : (h : Held) (t : Tok) (w : Works) (r : Option (Row Goal Raw)) → has_last w ≡ true → after_row h t w r ≡ true
 row_keeps h t w None k = refl

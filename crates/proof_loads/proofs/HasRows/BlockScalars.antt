@@ -59,26 +59,22 @@ record Tail (column : ℕ) (bs text : List ℕ) (tokens : List Tok) : Type 0 whe
 one_more : (column : ℕ) (bs text : List ℕ) (tokens : List Tok) → Tail column bs text tokens → Tail column bs (10 ∷ text) tokens
 one_more column bs text tokens z = record { count = suc z.count; rest = z.rest; is = ap (λ x. 10 ∷ x) z.is; follows = z.follows; reads = z.reads }
 
--- a comment is further text, but at the root
-remark_follows : (column : ℕ) → (column ≡ 0 → ⊥) → (text : List ℕ) → Next column (35 ∷ text)
-unfolding is_break is_nul
-remark_follows column h text = grind (arith, nat_tests, at_text)
-
 module _ (column : ℕ) (bs : List ℕ) (tokens : List Tok) where
   gap_tail : (g : List GapLine) (d : ℕ) (r : List ℕ) → IsGap g → (column ≡ 0 → AreEmptyLines g) → Next column (spaces d r)
       → ((p : Position) (awaits : Bool) (text : List ℕ) → Here d text r p block_scalar free → Reads (at p bs awaits block_scalar free []) text tokens) → Tail column bs (spell_gap g (spaces d r)) tokens
+  unfolding is_break is_nul
   gap_tail [] d r gap empty follows go = record { count = 0; rest = spaces d r; is = refl; follows = follows; reads = λ p awaits col. go p awaits _ (here_gap [] d r p block_scalar tt col) }
   gap_tail (empty_line ∷ g) d r gap empty follows go = one_more column bs (spell_gap g (spaces d r)) tokens (gap_tail g d r gap.1 (λ e. (empty e).1) follows go)
   gap_tail (comment_line text ∷ g) d r gap empty follows go =
-      record { count = 0; rest = _; is = refl; follows = remark_follows column (λ e. (empty e).0) (text ++ 10 ∷ spell_gap g (spaces d r)); reads = λ p awaits col. go p awaits _ (here_gap (comment_line text ∷ g) d r p block_scalar gap col) }
+      record { count = 0; rest = _; is = refl; follows = grind (arith, nat_tests, at_text); reads = λ p awaits col. go p awaits _ (here_gap (comment_line text ∷ g) d r p block_scalar gap col) }
 
   ending_tail : (l : GapLine) (g : List GapLine) → IsGap (l ∷ g) → (column ≡ 0 → AreEmptyLines (l ∷ g)) → ((p : Position) (awaits : Bool) (text : List ℕ) → is_separation false text [] ≡ true → HasNone text → Reads (at p bs awaits block_scalar free []) text tokens)
       → Tail column bs (spell_gap_line l (spell_ending g [])) tokens
-  unfolding is_blank is_break
+  unfolding is_blank is_break is_nul
   ending_tail empty_line [] gap empty go = record { count = 0; rest = []; is = refl; follows = at_end; reads = λ p awaits col. go p awaits [] refl refl }
   ending_tail empty_line (m ∷ g) gap empty go = one_more column bs (spell_gap_line m (spell_ending g [])) tokens (ending_tail m g gap.1 (λ e. (empty e).1) go)
   ending_tail (comment_line text) g gap empty go =
-      record { count = 0; rest = _; is = refl; follows = remark_follows column (λ e. (empty e).0) (text ++ spell_ending g []); reads = λ p awaits col. let e = ending_parts (comment_line text ∷ g) gap in go p awaits _ e.0.0 e.0.1 }
+      record { count = 0; rest = _; is = refl; follows = grind (arith, nat_tests, at_text); reads = λ p awaits col. let e = ending_parts (comment_line text ∷ g) gap in go p awaits _ e.0.0 e.0.1 }
 
 -- what may stand after a block whose lines have this column
 abbrev pub Follows : ℕ → Trail → Type 0

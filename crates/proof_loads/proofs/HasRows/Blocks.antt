@@ -70,14 +70,11 @@ is_deep : (is_open : Bool) (c : ℕ) (bs : List ℕ) → MayBegin is_open c bs �
 is_deep a c bs h = grind (arith, le-ltb, deeper)
 
 start_more : (is_open : Bool) (t : Tok) (a b : List Tok) → starts is_open t a ++ b ≡ starts is_open t (a ++ b)
-start_more is_open t a b = grind (arith)
+start_more is_open t a b = grind arith
 
 -- the start of a collection, and what stands between it and a piece
 start_is : (is_open : Bool) (p : Position) (t : Tok) (own : List Token) → toks (start_if (not is_open) p t ++ own) ≡ starts is_open t (toks own)
-start_is is_open p t own = grind (arith)
-
-mark_is : (is_open : Bool) (p : Position) (t : Tok) → toks (start_if (not is_open) p t) ≡ starts is_open t []
-mark_is is_open p t = grind (arith)
+start_is is_open p t own = grind arith
 
 -- what a piece at the column says, where these collections go on there
 abbrev pub ShownAt : (bs w : List ℕ) → Tok → (key : Bool) → (next : List ℕ) → Type 0
@@ -132,20 +129,20 @@ module _ (c : ℕ) (bs next : List ℕ) (tokens : List Tok) where
   unfolding is_break
   dash_reads gap follows rest =
       at_column c bs (45 ∷ []) Tok.block_entry false next Tok.block_sequence_start [] tokens (λ o. c ∷ bs) (λ here. free) refl refl (λ o all p awaits before l f stay. (refl, (refl, gap, refl))) (λ column. refl) (λ o. follows)
-      (λ o must here col may. rw (col, opens o c bs may) refl) (λ here. refl) (λ o here colon. mark_is o here Tok.block_sequence_start) (λ o here awaits col may. rest _ awaits (ap suc col))
+      (λ o must here col may. rw (col, opens o c bs may) refl) (λ here. refl) (λ o here colon. grind arith) (λ o here awaits col may. rest _ awaits (ap suc col))
 
   pub question_reads : begins_with_space_or_break next ≡ true → has_tab_before_piece false next ≡ false → Marked → Comes c bs (63 ∷ next) Tok.block_mapping_start (Tok.key ∷ tokens)
   unfolding is_break
   question_reads gap follows rest =
       at_column c bs (63 ∷ []) Tok.key false next Tok.block_mapping_start [] tokens (λ o. c ∷ bs) (λ here. free) refl refl (λ o all p awaits before l f stay. (refl, inl (refl, gap))) (λ column. refl) (λ o. rw follows refl)
-      (λ o must here col may. rw (col, opens o c bs may) refl) (λ here. refl) (λ o here colon. mark_is o here Tok.block_mapping_start) (λ o here awaits col may. rest _ awaits (ap suc col))
+      (λ o must here col may. rw (col, opens o c bs may) refl) (λ here. refl) (λ o here colon. grind arith) (λ o here awaits col may. rest _ awaits (ap suc col))
 
   -- the colon of an explicit key, or of an empty one
   pub colon_reads : is_at_gap next ≡ true → colon_may_precede next ≡ true → Marked → Comes c bs (58 ∷ next) Tok.block_mapping_start (Tok.value ∷ tokens)
   unfolding is_break
   colon_reads gap follows rest =
       at_column c bs (58 ∷ []) Tok.value false next Tok.block_mapping_start [] tokens (λ o. c ∷ bs) (λ here. free) refl refl (λ o all p awaits before l f stay. (refl, (refl, rw gap refl))) (λ column. refl) (λ o. follows)
-      (λ o must here col may. rw (col, opens o c bs may) refl) (λ here. refl) (λ o here colon. mark_is o here Tok.block_mapping_start) (λ o here awaits col may. rest _ awaits (ap suc col))
+      (λ o must here col may. rw (col, opens o c bs may) refl) (λ here. refl) (λ o here colon. grind arith) (λ o here awaits col may. rest _ awaits (ap suc col))
 
 -- ---- implicit keys
 

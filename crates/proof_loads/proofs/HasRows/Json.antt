@@ -1,5 +1,5 @@
 -- JSON values have rows, with the white space between their parts; plain scalars on one line as pieces.
-use Rattle.proof_loads.proofs.TokensCommon.{[], after, after_blank, and_false, and_from, and_parts, another, ap, are_marks, are_pieces, AreElements, AreMembers, arith, array, begins_flow, begins_plain, begins_with, Blank, blank_character, Bool, codes, colon_may_precede, element, element_levels, element_tokens, Elements, empty_array, empty_object, ends_plain, ends_with_content, ends_with_dash, Entry, false, false_word, filled, first_entry, flow_collection, flow_entry, flow_mapping_end, flow_mapping_start, flow_sequence_end, flow_sequence_start, fresh, goes_on, goes_on_quoted, Had, has_dash_before_flow, has_no_break, has_tab_within, inl, innermost, innermost_column, inside, is_at_gap, is_blank, is_blank_or_end, is_blanks_and_comment, is_break, is_document_marker, is_empty, is_flow, is_keyed, is_nul, is_on_line, is_one_of, is_separation, is_whole_plain, IsJson, Json, json_tokens, last_element, last_line, last_member, leading, least_column, length, length-map, level_of, levels, List, list_all, map, mapping, may_begin, member, member_levels, member_tokens, Members, nat_lt, nat_tests, not, not-true, null_word, object, Option, past_end, Piece, plain_element, plain_lines_fit, plain_scalar, plain_value, Position, position_after, quoted_may_end, quoted_scalar, refl, settled, Some, space, spell, spell_elements, spell_members, spell_number, spell_string, split, Stand, stops, string, string_token, Style, subst, suc, TabsBeginLines, Tok, true, true_word, zero, ℕ, ◌&&◌, ◌++◌, ◌+◌, ◌<◌, ◌==◌, ◌||◌, ◌∷◌, ◌≡◌, ◌≤◌}
+use Rattle.proof_loads.proofs.TokensCommon.{[], after, after_blank, and_false, and_from, and_parts, another, ap, are_marks, are_pieces, AreElements, AreMembers, arith, array, begins_flow, begins_plain, begins_with, Blank, blank_character, Bool, codes, colon_may_precede, element, element_levels, element_tokens, Elements, empty_array, empty_object, ends_plain, ends_with_content, ends_with_dash, Entry, false, false_word, filled, first_entry, flow_collection, flow_entry, flow_mapping_end, flow_mapping_start, flow_sequence_end, flow_sequence_start, fresh, goes_on, goes_on_quoted, Had, has_dash_before_flow, has_no_break, has_tab_within, inl, innermost, innermost_column, inside, is_at_gap, is_blank, is_blank_or_end, is_blanks_and_comment, is_break, is_document_marker, is_empty, is_flow, is_keyed, is_nul, is_on_line, is_one_of, is_separation, is_whole_plain, IsJson, Json, json_tokens, last_element, last_line, last_member, leading, least_column, length, length-map, level_of, levels, List, list_all, map, mapping, may_begin, member, member_levels, member_tokens, Members, nat_lt, nat_tests, not, not-true, null_word, object, Option, Piece, plain_element, plain_lines_fit, plain_scalar, plain_value, Position, position_after, quoted_may_end, quoted_scalar, refl, settled, Some, space, spell, spell_elements, spell_members, spell_number, spell_string, split, Stand, stops, string, string_token, Style, subst, suc, TabsBeginLines, Tok, true, true_word, zero, ℕ, ◌&&◌, ◌++◌, ◌+◌, ◌<◌, ◌==◌, ◌||◌, ◌∷◌, ◌≡◌, ◌≤◌}
 use Rattle.proof_loads.proofs.HasRows.Strings.{IsOneLine, nothing, plain_step, value_is, body_of, quoted, quoted_is, string_piece}
 use Rattle.proof_loads.proofs.PlainTexts.{is_plain_char, are_plain, closes, IsPlainText, is_first, is_second, first_space, is_word, are_words, IsWord, word_text}
 use Rattle.proof_loads.proofs.Nul.{HasNone, of_class}
@@ -316,25 +316,22 @@ module _ (bs : List ℕ) where
   opens false pl text r tokens parts no_comment room rest =
       place_reads bs (91 ∷ []) flow_sequence_start text r tokens parts refl pl (deep_piece bs (91 ∷ []) r refl) (λ s e. refl) refl (λ p awaits l there. (refl, ((refl, few (entries_before pl) room), refl))) (rw no_comment refl) (begun false pl r tokens rest)
 
-  entry_ends : (es : List Entry) (h : Had) → is_keyed h ≡ false → past_end es false h ≡ Some es
-  entry_ends es h e = grind arith
-
   pub bracket_closes : (b : Bool) (h : Had) → is_keyed h ≡ false → (es : List Entry) (g : List Blank) (r : List ℕ) (tokens : List Tok) → MayStand bs g → begins_with 35 r ≡ false
       → Then bs es r tokens → Then bs (entry_of b h ∷ es) (spell_gap g (closing_bracket b ∷ r)) (closing b ∷ tokens)
   unfolding is_break
   bracket_closes true h ends es g r tokens may no_comment rest before quiet =
       flow_reads bs (125 ∷ []) flow_mapping_end _ r tokens (blanks bs g (125 ∷ r) may) refl (deep_piece bs (125 ∷ []) r refl) (λ s e. refl) before (entry_of true h) es (λ here. es) false [] refl
-      (λ p awaits l there. (refl, inl ((refl, refl), refl))) (rw no_comment refl) (λ here. entry_ends es h ends) (λ here colon own. refl) (λ here. rest flow_collection (λ f. refl))
+      (λ p awaits l there. (refl, inl ((refl, refl), refl))) (rw no_comment refl) (λ here. grind arith) (λ here colon own. refl) (λ here. rest flow_collection (λ f. refl))
   bracket_closes false h ends es g r tokens may no_comment rest before quiet =
       flow_reads bs (93 ∷ []) flow_sequence_end _ r tokens (blanks bs g (93 ∷ r) may) refl (deep_piece bs (93 ∷ []) r refl) (λ s e. refl) before (entry_of false h) es (λ here. es) false [] refl
-      (λ p awaits l there. (refl, ((refl, refl), refl))) (rw no_comment refl) (λ here. entry_ends es h ends) (λ here colon own. refl) (λ here. rest flow_collection (λ f. refl))
+      (λ p awaits l there. (refl, ((refl, refl), refl))) (rw no_comment refl) (λ here. grind arith) (λ here colon own. refl) (λ here. rest flow_collection (λ f. refl))
 
   comma_goes : (b : Bool) (h : Had) → is_keyed h ≡ false → (es : List Entry) (g : List Blank) (r : List ℕ) (tokens : List Tok) → MayStand bs g → begins_with 35 r ≡ false
       → From another bs (entry_of b fresh ∷ es) r tokens → Then bs (entry_of b h ∷ es) (spell_gap g (44 ∷ r)) (flow_entry ∷ tokens)
   unfolding is_break
   comma_goes b h ends es g r tokens may no_comment rest before quiet =
       flow_reads bs (44 ∷ []) flow_entry _ r tokens (blanks bs g (44 ∷ r) may) refl (deep_piece bs (44 ∷ []) r refl) (λ s e. refl) before (entry_of b h) es (λ here. entry_of b fresh ∷ es) false [] refl
-      (λ p awaits l there. (refl, ((refl, refl), refl))) (rw no_comment refl) (λ here. entry_ends (entry_of b fresh ∷ es) h ends) (λ here colon own. refl) (λ here. rest)
+      (λ p awaits l there. (refl, ((refl, refl), refl))) (rw no_comment refl) (λ here. grind arith) (λ here colon own. refl) (λ here. rest)
 
   -- a key and its colon
   key_goes : (ps : List Piece) → are_pieces ps ≡ true → (es : List Entry) (text : List ℕ) (g : List Blank) (r : List ℕ) (tokens : List Tok) → Parts bs text (spell_string ps (spell_gap g (58 ∷ r))) → MayStand bs g → colon_may_precede r ≡ true

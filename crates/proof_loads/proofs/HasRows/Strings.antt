@@ -111,9 +111,6 @@ pub record IsBody (quotes : Quotes) (body text : List ℕ) : Type 0 where
 abbrev pub Goes : Quotes → List ℕ → ℕ → Type 0
 Goes quotes w c = (body text : List ℕ) → IsBody quotes body text → IsBody quotes (w ++ body) (c ∷ text)
 
-pub nothing_is : (quotes : Quotes) → IsBody quotes [] []
-nothing_is quotes = grind (arith, nat_tests, nothing)
-
 pub itself_goes : (c : ℕ) → Unescaped c → Goes double (c ∷ []) c
 unfolding double_quoted_element
 itself_goes c u body text z = record { one_line = plain_step double_quoted_element c body text (rw (u.nul, u.quote, u.backslash) refl) u.break z.one_line; no_break = rw (u.break) (z.no_break) }
@@ -136,7 +133,7 @@ unicode_goes a b c d v u body text z = record {
 }
 
 string_is : (ps : List Piece) → are_pieces ps ≡ true → IsBody double (body_of ps) (unescaped ps)
-string_is [] h = nothing_is double
+string_is [] h = grind (arith, nat_tests, nothing)
 string_is (itself c ∷ ps) h = let q = and_parts (is_piece (itself c)) (are_pieces ps) h in itself_goes c (unescaped_char c q.0) (body_of ps) (unescaped ps) (string_is ps q.1)
 string_is (short s ∷ ps) h = short_goes s (body_of ps) (unescaped ps) (string_is ps h)
 string_is (unicode a b c d ∷ ps) h = let q = and_parts (is_piece (unicode a b c d)) (are_pieces ps) h in unicode_goes a b c d _ (code a b c d q.0) (body_of ps) (unescaped ps) (string_is ps q.1)
@@ -208,7 +205,7 @@ character_goes c =
     (λ high. itself_goes c (record { nul = grind (arith, nat_tests); break = grind (arith, nat_tests); backslash = backslash; quote = quote })))))))))
 
 pub double_is : (w : List ℕ) → IsBody double (written_escapes w) w
-double_is [] = nothing_is double
+double_is [] = grind (arith, nat_tests, nothing)
 double_is (c ∷ w) = character_goes c (written_escapes w) w (double_is w)
 
 -- ---- in single quotes
@@ -232,5 +229,5 @@ doubled_goes c h = by (c == 39) refl
     by false e = plain_goes c h e
 
 pub single_is : (w : List ℕ) → IsLineText w → IsBody single (flat_map doubled w) w
-single_is [] h = nothing_is single
+single_is [] h = grind (arith, nat_tests, nothing)
 single_is (c ∷ w) h = let q = and_parts (is_line_character c) (list_all is_line_character w) h in doubled_goes c q.0 (flat_map doubled w) w (single_is w q.1)

@@ -1,5 +1,5 @@
 -- What stands after a value of a layout: gaps and comments as separations, and how the next piece is read.
-use Rattle.proof_loads.proofs.TokensCommon.{[], after_blank, and_parts, another, ap, append_assoc, are_marks, arith, Bool, codes, comment, Comment, comment_line, empty_line, ends_line, false, free, GapLine, has_break, has_tab_within, innermost, inside, is_before_line_feed, is_blank, is_blank_or_end, is_blanks_and_comment, is_break, is_document_marker, is_line_character, is_nul, is_on_line, is_separation, is_value_indicator, is_waiting, IsComment, IsGap, IsLineText, last_line, leading, least_column, line_past_separation, List, list_all, nat_le, nat_tests, next_line, no_comment, not, on_line, Option, Position, position_after, position_past, Previous, refl, Some, spaces, spell_comment, spell_ending, spell_gap, split, split_by, Stand, stops, suc, sym, Tok, true, zero, ℕ, ◌&&◌, ◌++◌, ◌+◌, ◌<◌, ◌==◌, ◌||◌, ◌∙◌, ◌∷◌, ◌≡◌, ◌≤◌}
+use Rattle.proof_loads.proofs.TokensCommon.{[], after_blank, and_parts, another, ap, append_assoc, are_marks, arith, Bool, codes, comment, Comment, comment_line, empty_line, ends_line, false, free, GapLine, has_break, has_tab_within, innermost, inside, is_before_line_feed, is_blank, is_blank_or_end, is_blanks_and_comment, is_break, is_document_marker, is_line_character, is_nul, is_on_line, is_separation, is_value_indicator, is_waiting, IsComment, IsGap, IsLineText, last_line, leading, least_column, List, list_all, nat_le, nat_tests, next_line, no_comment, not, on_line, Option, Position, position_after, position_past, Previous, refl, Some, spaces, spell_comment, spell_ending, spell_gap, split, split_by, Stand, stops, suc, sym, Tok, true, zero, ℕ, ◌&&◌, ◌++◌, ◌+◌, ◌<◌, ◌==◌, ◌||◌, ◌∙◌, ◌∷◌, ◌≡◌, ◌≤◌}
 use Rattle.defs_token.specs.Key.{Line}
 use Rattle.defs_token.specs.Plain.{is_deeper}
 use Rattle.proof_loads.proofs.HasRows.Steps.{Reads, at, ended}
@@ -181,10 +181,6 @@ has_break_at (c ∷ x) y = grind (arith, has_break, has_break_at x y)
 
 -- ---- after a value and a comment
 
--- where a key may begin, it may after any separation
-free_past : (broken : Bool) → line_past_separation false broken free ≡ Some free
-free_past b = grind arith
-
 gap_text : (g : List GapLine) (n : ℕ) (r : List ℕ) → spell_gap g (spaces n []) ++ r ≡ spell_gap g (spaces n r)
 gap_text g n r = gap_is g (spaces n []) r ∙ ap (spell_gap g) (spaces_are n [] r)
 
@@ -198,7 +194,7 @@ here_gap g n r p before gap start = record {
   is = sym (gap_text g n r);
   separates = (gap_parting g n r gap).0;
   tabless = λ m. rw (gap_last g n) (no_tab m n);
-  line = free_past _;
+  line = grind arith;
   column = gap_column g n r p start;
   none = (gap_parting g n r gap).1;
 }
@@ -247,7 +243,7 @@ here_beside n more r p h = record {
   is = ap (λ y. 32 ∷ y) (sym (spaces_are more [] r));
   separates = (spaces_part (suc more) [] r (refl, refl)).0;
   tabless = λ m. rw (last_line, spaces_line (suc more)) (no_tab m (suc more));
-  line = free_past _;
+  line = grind arith;
   column = let z = spaces_column (suc more) r p in omega (arith, z, h);
   none = (spaces_part more [] r (refl, refl)).1;
 }

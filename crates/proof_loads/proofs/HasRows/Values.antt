@@ -337,9 +337,6 @@ empty_gap : (g : List GapLine) → AreEmptyLines g → IsGap g
 empty_gap [] are = tt
 empty_gap (l ∷ g) are = grind (arith, empty_gap g)
 
-is_trail : (root : Root) (t : Trail) → EndsDocument root t → IsTrail t
-is_trail root t h = grind (arith, empty_gap)
-
 -- before a root at column 0
 root_parts : {text rest : List ℕ} {p : Position} {before : Previous} {l : Line} → Here 0 text rest p before l → Parts [] text rest
 root_parts here = record { by = here.by; is = here.is; separates = here.separates; tabless = λ awaits. here.tabless 0; deep = λ p deep. omega arith; none = here.none }
@@ -352,12 +349,12 @@ root_reads : (root : Root) → IsRoot root → (front : List ℕ → List ℕ) (
     → Reads (at p [] awaits another l []) (front (spell_gap g (spell_root root (trail_text t)))) (root_tokens root tokens)
 unfolding is_nul are_marks is_blank_or_end is_blank is_break
 root_reads (Root.block column block) is front g gap t ends tokens p awaits l line here rest =
-    block_reads column [] block is [] t tokens (omega arith) (is_trail (Root.block column block) t ends) (grind arith) rest p awaits another l _ (here g column _ gap)
+    block_reads column [] block is [] t tokens (omega arith) (grind (arith, empty_gap)) (grind arith) rest p awaits another l _ (here g column _ gap)
 root_reads (Root.inline i) is front g gap t ends tokens p awaits l line here rest =
-    inline_reads no_comment t [] tokens tt (record { trail = is_trail (Root.inline i) t ends; low = grind arith; after = rest }) i is _ (root_parts (here g 0 _ gap)) p awaits l line (omega arith)
+    inline_reads no_comment t [] tokens tt (record { trail = grind (arith, empty_gap); low = grind arith; after = rest }) i is _ (root_parts (here g 0 _ gap)) p awaits l line (omega arith)
 root_reads (Root.literal text ls) is front g gap t ends tokens p awaits l line here rest =
     block_is_read BlockStyle.literal 0 0 (strips_of text) text ls refl (root_literal_lines text ls is.0 is.1) [] refl tokens _ t (subst (Parts [] _) (headed_literal text (spell_lines 0 ls (trail_text t))) (root_parts (here g 0 _ gap)))
-    (is_trail (Root.literal text ls) t ends) (grind (arith, at_text)) rest p awaits l line (omega arith)
+    (grind (arith, empty_gap)) (grind (arith, at_text)) rest p awaits l line (omega arith)
 
 -- ---- markers
 
