@@ -1,7 +1,7 @@
 -- The turns in block collections.
-use Rattle.model_parser.proofs.Common.{arith, alike, ap, both_ways, ends_entry, ends_indentless_entry, ends_part, false, Goal, inl, is_in_mapping, is_over_document, is_past_directives, kind_of, Leaves, List, may_begin, None, nothing_written, Raw, refl, Refuses, Some, State, Takes, Tok, true, ◌∷◌, ◌≡◌, ◌≢◌, Kind, context_at, ◌∙◌, place_of}
-use Rattle.model_parser.proofs.StepRows.{by_row, takes_so, Leads, leaves_so, refuses_so}
-use Rattle.model_parser.proofs.Settling.{under_goes, under_other, under_past, under_any, mapping_no_document, mapping_under, under_reads, MayRead, empties, reads_node, closes, closes_so}
+use Rattle.model_parser.proofs.Common.{arith, alike, both_ways, ends_entry, ends_indentless_entry, ends_part, false, Goal, inl, is_over_document, is_past_directives, kind_of, Leaves, List, None, nothing_written, Raw, refl, Refuses, Some, State, Takes, Tok, true, ◌∷◌, ◌≡◌, ◌≢◌}
+use Rattle.model_parser.proofs.StepRows.{by_row, takes_so, leaves_so, refuses_so}
+use Rattle.model_parser.proofs.Settling.{under_goes, under_other, under_past, under_any, mapping_no_document, mapping_under, under_reads, MayRead, empties, reads_node}
 use Rattle.model_parser.specs.declared.kind.Kind.TheVariants as kind
 use Rattle.model_parser.specs.declared.context.NodeContext.TheVariants as context
 use Rattle.model_parser.specs.declared.state.State.TheVariants as state
@@ -31,14 +31,8 @@ entry_node ss t a = reads_node (entry_over ss) t context.Block (λ f. refl) (λ 
 pub indentless_entries_dash : (ss : List State) → Takes Goal.indentless_entries ss Tok.block_entry None Goal.indentless_entry ss
 indentless_entries_dash ss = takes_so (λ n f. (n, f)) (λ f. (refl, (λ k. refl), by_row _ refl refl)) refl (λ f. refl) (λ f. refl)
 
-indentless_leads : (ss : List State) (t : Tok) → is_in_mapping ss ≡ true → kind_of t ≢ kind.BlockEntry → Leads 2 Goal.indentless_entries ss (Some Raw.indentless_sequence_end) Goal.done ss t
-indentless_leads ss t f a = grind arith
-
-no_dash : (ss : List State) (t : Tok) → is_in_mapping ss ≡ true → closes ss (kind_of t) ≡ true → kind_of t ≢ kind.BlockEntry
-no_dash ss t f c e = grind arith
-
 pub indentless_entries_end : (ss : List State) (t : Tok) → kind_of t ≢ kind.BlockEntry → Leaves Goal.indentless_entries ss (Some t) (Some Raw.indentless_sequence_end) Goal.done ss
-indentless_entries_end ss t a = leaves_so 2 (λ n f. (n, under_goes ss (mapping_under ss f))) (λ f. under_reads ss (mapping_under ss f)) (λ f u r m. indentless_leads ss u f (no_dash ss u f (closes_so ss u (mapping_under ss f) (r 9)))) (λ f r m. indentless_leads ss t f a) refl
+indentless_entries_end ss t a = leaves_so 2 (λ n f. (n, under_goes ss (mapping_under ss f))) (λ f. under_reads ss (mapping_under ss f)) (λ f u r m. let h = r 9 in grind arith) (λ f r m. grind arith) refl
     (λ f. alike (under_other ss (mapping_under ss f)) refl) (λ f h. absurd (both_ways (is_past_directives Goal.done ss) (under_past ss (mapping_under ss f)) h))
 
 indentless_over : (ss : List State) → MayRead Goal.indentless_entry ss (state.IndentlessSequenceEntry ∷ ss)
@@ -77,14 +71,8 @@ after_key_empty ss t a = leaves_so 2 (λ n f. ((f, n), tt)) (λ f. refl) (λ f u
 part_over : (ss : List State) → MayRead Goal.part ss ss
 part_over ss = record { nested = λ n f. n; under = λ f. mapping_under ss f; work = refl; any = λ k. refl; opened = refl }
 
-closes_part : (ss : List State) (k : Kind) → is_in_mapping ss ≡ true → closes ss k ≡ ends_part k
-closes_part ss k f = grind arith
-
 pub part_empty : (ss : List State) (t : Tok) → ends_part (kind_of t) ≡ true → Leaves Goal.part ss (Some t) (Some nothing_written) Goal.done ss
-part_empty ss t a = empties (part_over ss) t (λ f. closes_part ss (kind_of t) f ∙ a)
-
-in_part : (ss : List State) → is_in_mapping ss ≡ true → context_at (place_of ss) ≡ context.Part
-in_part ss f = grind arith
+part_empty ss t a = empties (part_over ss) t (λ f. grind arith)
 
 pub part_has_node : (ss : List State) (t : Tok) → ends_part (kind_of t) ≡ false → Leaves Goal.part ss (Some t) None (Goal.node context.Part) ss
-part_has_node ss t a = reads_node (part_over ss) t context.Part (in_part ss) (λ f. closes_part ss (kind_of t) f ∙ a) (λ f. alike refl refl) (λ f h. absurd (both_ways (is_over_document ss) (mapping_no_document ss f) h))
+part_has_node ss t a = reads_node (part_over ss) t context.Part (λ f. grind arith) (λ f. grind arith) (λ f. alike refl refl) (λ f h. absurd (both_ways (is_over_document ss) (mapping_no_document ss f) h))

@@ -1,5 +1,5 @@
 -- Each row of the grammar that leaves its token weighs less than its goal, and each goal can be read to an end.
-use Rattle.model_parser.proofs.Common.{explicit_document, [], and_parts, ap, before, after_anchor, after_tag, block_mapping_entries, block_mapping_value, block_sequence_entries, Bool, by_leaving, by_taking, Case, cases, content, Derives, directives, document_end, documents, false, flow_mapping_comma, flow_mapping_entries, flow_mapping_value, flow_mapping_valued, flow_sequence_comma, flow_sequence_entries, flow_value, grammar, Held, if◌then◌else◌, in_pair, indentless_sequence_entries, key, leaves, List, ltb-true, nat_lt, no_flow_mapping_value, node, nothing_left, nothing_written, on, otherwise, Part, parts_weight, Place, Raw, reading, refl, Row, row_of, says, Some, stream, Style, sym, takes, Tok, true, value, weight, ℕ, ◌&&◌, ◌<◌, ◌∙◌, ◌∷◌, ◌≡◌}
+use Rattle.model_parser.proofs.Common.{explicit_document, [], and_parts, ap, before, after_anchor, after_tag, block_mapping_entries, block_mapping_value, block_sequence_entries, Bool, by_leaving, by_taking, Case, cases, content, Derives, directives, document_end, documents, false, flow_mapping_comma, flow_mapping_entries, flow_mapping_value, flow_mapping_valued, flow_sequence_comma, flow_sequence_entries, flow_value, grammar, Held, if◌then◌else◌, in_pair, indentless_sequence_entries, key, leaves, List, ltb-true, nat_lt, no_flow_mapping_value, node, nothing_left, nothing_written, on, otherwise, parts_weight, Place, Raw, reading, refl, Row, row_of, says, Some, stream, Style, sym, takes, Tok, true, value, weight, ℕ, ◌&&◌, ◌∙◌, ◌∷◌, ◌≡◌}
 use Rattle.defs_event.specs.Grammar.{Goal, Side, then_in_pair}
 use Rattle.model_parser.proofs.Steps.{Falls}
 use Rattle.model_parser.proofs.Completions.{Completes}

@@ -1,8 +1,7 @@
 -- The turns in flow collections.
-use Rattle.model_parser.proofs.Common.{alike, arith, ends_flow_key, ends_flow_pair, ends_item, ends_item_key, false, Goal, inl, kind_of, Leaves, List, may_begin, None, nothing_written, Option, Raw, refl, Refuses, Some, State, Takes, Tok, true, without_node, work_of, ◌∷◌, ◌≡◌, ◌≢◌}
-use Rattle.model_parser.proofs.StepRows.{by_row, takes_so, refuses, Leads, leaves_so, says_so, refuses_so}
-use Rattle.model_parser.proofs.First.{not_by}
-use Rattle.model_parser.proofs.Settling.{under_goes, under_other, under_past, under_any, flow_valued_goes, comes_so, MayRead, empties, reads_node, closes_so}
+use Rattle.model_parser.proofs.Common.{alike, arith, ends_flow_key, ends_flow_pair, ends_item, ends_item_key, false, Goal, inl, kind_of, Leaves, List, None, nothing_written, Option, Raw, refl, Refuses, Some, State, Takes, Tok, true, without_node, ◌∷◌, ◌≡◌, ◌≢◌}
+use Rattle.model_parser.proofs.StepRows.{by_row, takes_so, leaves_so, says_so, refuses_so}
+use Rattle.model_parser.proofs.Settling.{under_goes, under_other, under_past, under_any, flow_valued_goes, comes_so, MayRead, empties, reads_node}
 use Rattle.defs_text.specs.Position as chars
 use Rattle.model_parser.specs.declared.kind.Kind.TheVariants as kind
 use Rattle.model_parser.specs.declared.context.NodeContext.TheVariants as context

@@ -1,6 +1,6 @@
 -- The turns in nodes.
 use Rattle.std.proofs.Math.Bool.{or-true}
-use Rattle.model_parser.proofs.Common.{arith, alike, anchor_of, anchored, anchored_tagged, ap, before, begins_content, begins_node, Bool, both_ways, cases, context_at, event_of, false, Goal, goal_and, grammar, Held, in_block, in_flow, in_pair, inl, is_in_mapping, is_past_directives, is_under, Kind, kind_of, Leaves, List, may_begin, may_begin_content, narrows, NodeContext, None, not, nothing_held, Option, past, perhaps_anchor_of, perhaps_tag_of, Place, place_of, Properties, Raw, read, refl, Refuses, row_of, saying, show, Some, State, Style, subst, sym, Tag, tag_of, tag_token, tagged, tagged_anchored, Takes, takes, then_in, Tok, true, with_properties, work_of, Works, works, ℕ, ◌||◌, ◌∙◌, ◌∷◌, ◌≡◌, ◌≢◌}
+use Rattle.model_parser.proofs.Common.{arith, alike, anchor_of, anchored, anchored_tagged, ap, before, begins_content, begins_node, both_ways, cases, context_at, event_of, false, Goal, goal_and, grammar, Held, inl, is_past_directives, is_under, Kind, kind_of, Leaves, List, may_begin, may_begin_content, narrows, NodeContext, None, not, nothing_held, Option, past, perhaps_anchor_of, perhaps_tag_of, Place, place_of, Properties, Raw, read, refl, Refuses, row_of, saying, show, Some, State, Style, sym, Tag, tag_of, tag_token, tagged, tagged_anchored, Takes, takes, then_in, Tok, true, with_properties, work_of, Works, works, ℕ, ◌||◌, ◌∙◌, ◌∷◌, ◌≡◌, ◌≢◌}
 use Rattle.model_parser.proofs.StepRows.{Reads, by_row, takes_so, refuses, Leads, leaves_so}
 use Rattle.model_parser.proofs.Settling.{no_content, content_refuses, closes_so, none_begins, empty_content, under_goes, under_other, under_past, under_any, under_reads, past_alike, next_alike, then_works}
 use Rattle.defs_event.specs.Grammar as table
@@ -71,9 +71,6 @@ tag_alone p ss t u d = leaves_so 1 (λ n f. (n, (f.0, narrows_itself p _ f.1))) 
 own_begins : (p : NodeContext) (o : Option Properties) (c : NodeContext) (k : Kind) → begins_content p k ≡ true → may_begin_content p o c k ≡ true
 own_begins p o c k h = grind arith
 
-in_mapping : (ss : List State) → narrows context.Part (context_at (place_of ss)) ≡ true → is_in_mapping ss ≡ true
-in_mapping ss h = grind arith
-
 dash_reads : (ss : List State) (o : Option Properties) → narrows context.Part (context_at (place_of ss)) ≡ true
     → Reads (work_of (Goal.after_properties context.Part o) ss) Tok.block_entry (Some (Raw.indentless_sequence_start (perhaps_anchor_of o) (perhaps_tag_of o))) (work_of Goal.done (state.IndentlessSequenceItem ∷ ss))
 dash_reads (state.BlockMappingKey ∷ ss) o h = by_row _ refl refl
@@ -81,19 +78,10 @@ dash_reads (state.BlockMappingValue ∷ ss) o h = by_row _ refl refl
 dash_reads ss o h = cc
 
 pub after_dash : (ss : List State) (o : Option Properties) → Takes (Goal.after_properties context.Part o) ss Tok.block_entry (Some (Raw.indentless_sequence_start (perhaps_anchor_of o) (perhaps_tag_of o))) Goal.done (state.IndentlessSequenceItem ∷ ss)
-after_dash ss o = takes_so (λ n f. ((in_mapping ss f.1, n), tt)) (λ f. (own_begins context.Part o _ kind.BlockEntry refl, (λ k. refl), dash_reads ss o f.1)) refl (λ f. refl) (λ f. refl)
-
-part_is_block : (c : NodeContext) → narrows context.Part c ≡ true → narrows context.Block c ≡ true
-part_is_block c h = grind arith
-
-part_back : (o : Option Properties) (c : NodeContext) (k : Kind) → narrows context.Part c ≡ true → may_begin_content context.Block o c k ≡ true → may_begin_content context.Part o c k ≡ true
-part_back o c k h m = grind arith
-
-part_on : (o : Option Properties) (c : NodeContext) (k : Kind) → narrows context.Part c ≡ true → k ≢ kind.BlockEntry → may_begin_content context.Part o c k ≡ true → may_begin_content context.Block o c k ≡ true
-part_on o c k h a m = grind arith
+after_dash ss o = takes_so (λ n f. ((let h = f.1 in grind arith, n), tt)) (λ f. (own_begins context.Part o _ kind.BlockEntry refl, (λ k. refl), dash_reads ss o f.1)) refl (λ f. refl) (λ f. refl)
 
 pub part_block : (ss : List State) (o : Option Properties) (t : Tok) → kind_of t ≢ kind.BlockEntry → Leaves (Goal.after_properties context.Part o) ss (Some t) None (Goal.after_properties context.Block o) ss
-part_block ss o t a = leaves_so 0 (λ n f. (n, (f.0, part_is_block _ f.1))) (λ f. refl) (λ f u r m. cc (m, part_back o (context_at (place_of ss)) (kind_of u) f.1 m)) (λ f r m. cc (m, part_on o (context_at (place_of ss)) (kind_of t) f.1 a m)) refl
+part_block ss o t a = leaves_so 0 (λ n f. (n, (f.0, let h = f.1 in grind arith))) (λ f. refl) (λ f u r m. let h = f.1 in grind arith) (λ f r m. let h = f.1 in grind arith) refl
     (λ f. alike (next_alike context.Part context.Block o) refl) (λ f h. inl (past_alike context.Part context.Block o ss ∙ h))
 
 block_row : (p : Place) → narrows context.Block (context_at p) ≡ true → row_of (cases (table.content p)) Tok.block_sequence_start ≡ Some (takes (show ∷ read table.block_sequence_entries ∷ then_in p))
@@ -110,14 +98,8 @@ pub after_mapping : (ss : List State) (o : Option Properties) → Takes (Goal.af
 after_mapping ss o = takes_so (λ n f. ((f.0, n), tt))
     (λ f. (own_begins context.Block o _ kind.BlockMappingStart refl, (λ k. refl), by_row _ (mapping_row (place_of ss) f.1) (shows_and ss (with_properties o) Tok.block_mapping_start table.block_mapping_entries))) refl (λ f. refl) (λ f. refl)
 
-flow_back : (o : Option Properties) (c : NodeContext) (k : Kind) → narrows context.Block c ≡ true → may_begin_content context.Flow o c k ≡ true → may_begin_content context.Block o c k ≡ true
-flow_back o c k h m = grind arith
-
-flow_on : (o : Option Properties) (c : NodeContext) (k : Kind) → narrows context.Block c ≡ true → k ≢ kind.BlockSequenceStart → k ≢ kind.BlockMappingStart → may_begin_content context.Block o c k ≡ true → may_begin_content context.Flow o c k ≡ true
-flow_on o c k h a b m = grind arith
-
 pub block_flow : (ss : List State) (o : Option Properties) (t : Tok) → kind_of t ≢ kind.BlockSequenceStart → kind_of t ≢ kind.BlockMappingStart → Leaves (Goal.after_properties context.Block o) ss (Some t) None (Goal.after_properties context.Flow o) ss
-block_flow ss o t a b = leaves_so 0 (λ n f. (n, (f.0, refl))) (λ f. refl) (λ f u r m. cc (m, flow_back o (context_at (place_of ss)) (kind_of u) f.1 m)) (λ f r m. cc (m, flow_on o (context_at (place_of ss)) (kind_of t) f.1 a b m)) refl
+block_flow ss o t a b = leaves_so 0 (λ n f. (n, (f.0, refl))) (λ f. refl) (λ f u r m. let h = f.1 in grind arith) (λ f r m. let h = f.1 in grind arith) refl
     (λ f. alike (next_alike context.Block context.Flow o) refl) (λ f h. inl (past_alike context.Block context.Flow o ss ∙ h))
 
 pub after_scalar : (ss : List State) (o : Option Properties) (y : Style) (v : List ℕ) → Takes (Goal.after_properties context.Flow o) ss (Tok.scalar y v) (Some (Raw.scalar v y (perhaps_anchor_of o) (perhaps_tag_of o))) Goal.done ss
@@ -135,12 +117,9 @@ only_leads ss o t f b =
     let may = ap (λ x. begins_content context.Flow (kind_of t) || not x) b ∙ or-true (begins_content context.Flow (kind_of t)) in
     cc (empty_content ss (with_properties (Some o)) t b, may, under_any ss f (kind_of t))
 
-no_such : (x y : Bool) → x ≡ false → (x || not y) ≡ true → y ≡ false
-no_such x y a m = grind arith
-
 pub properties_only : (ss : List State) (o : Properties) (t : Tok) → begins_content context.Flow (kind_of t) ≡ false → Leaves (Goal.after_properties context.Flow (Some o)) ss (Some t) (Some (Raw.empty_scalar (anchor_of o) (tag_of o))) Goal.done ss
 properties_only ss o t a = leaves_so 2 (λ n f. (n, under_goes ss f.0)) (λ f. under_reads ss f.0) (λ f u r m. only_leads ss o u f.0 (no_content (context_at (place_of ss)) (kind_of u) (none_begins ss u f.0 (closes_so ss u f.0 (r 9)))))
-    (λ f r m. only_leads ss o t f.0 (no_such (begins_content context.Flow (kind_of t)) (begins_content (context_at (place_of ss)) (kind_of t)) a m)) refl
+    (λ f r m. only_leads ss o t f.0 (grind arith)) refl
     (λ f. alike (under_other ss f.0) refl) (λ f h. absurd (both_ways (is_past_directives Goal.done ss) (under_past ss f.0) h))
 
 pub nothing_refuses : (ss : List State) (t : Tok) → begins_content context.Flow (kind_of t) ≡ false → Refuses (Goal.after_properties context.Flow None) ss t

@@ -1,5 +1,5 @@
 -- Of the same tokens, read so far, the same events are said, at the same positions.
-use Rattle.model_parser.proofs.Common.{[], AgreeAt, ap, before, Bool, cases, documents, Ev, events_of, Extent, false, grammar, HasPlacedTo, Held, IfSome, leaves, List, map, named, Names, names_after, no_names, None, Option, Part, placed_before, placed_by, PlacedWork, Places, Position, position_at, positions_of, Raw, raws_of, read, reading, refl, resolved_event, row_of, saying, show, Some, stream, StreamPlacesTo, subst, sym, takes, to_last, Tok, Token, true, Work, ◌&&◌, ◌++◌, ◌∙◌, ◌∷◌, ◌≡◌, ◌≢◌}
+use Rattle.model_parser.proofs.Common.{arith, [], and_parts, AgreeAt, ap, before, Bool, cases, documents, Ev, events_of, Extent, false, grammar, HasPlacedTo, Held, IfSome, leaves, List, map, named, Names, names_after, no_names, None, Option, Part, placed_before, placed_by, PlacedWork, Places, Position, position_at, positions_of, Raw, raws_of, read, reading, refl, resolved_event, row_of, saying, show, Some, stream, StreamPlacesTo, subst, sym, takes, to_last, Tok, Token, true, Work, ◌&&◌, ◌++◌, ◌∙◌, ◌∷◌, ◌≡◌, ◌≢◌}
 use Rattle.defs_event.specs.Grammar.{Goal}
 use Rattle.defs_event.proofs.NameLemmas.{both_some}
 use Rattle.defs_event.specs.Stream as placed
@@ -18,8 +18,7 @@ are_due (reading g h ∷ w) = are_due w
 are_due (saying x ∷ w) = is_due x && are_due w
 
 due_at : (t : Token) (p : Position) (e : Raw) → is_due (e, position_at t (Some p) e) ≡ true
-due_at t p Raw.pair_end = refl
-due_at t p e = refl
+due_at t p e = grind arith
 
 due_before : (t : Token) (p : Position) (v : List (Work Goal Raw Held)) (w : PlacedWork) → are_due w ≡ true → are_due (placed_by (position_at t (Some p)) v ++ w) ≡ true
 due_before t p [] w d = d
@@ -45,22 +44,18 @@ at_one e (Some p) m n d x y other = x ∙ sym y
 at_one Raw.pair_end None m n d x y other = absurd (other refl)
 at_one e None m n d x y other = cc
 
-and_both : (a b : Bool) → (a && b) ≡ true → (a ≡ true) × (b ≡ true)
-and_both true b h = (refl, h)
-and_both false b h = cc
-
 pub one_placing : {x : Extent} {p : Position} {w : PlacedWork} {ts : List Token} {es fs : List (Raw × Position)} → are_due w ≡ true → Places x (Some p) w ts es → Places x (Some p) w ts fs → AreSame es fs
 one_placing due placed.nothing_left placed.nothing_left = tt
 one_placing due placed.wants_token placed.wants_token = tt
 one_placing due (placed.takes_last ps q) (placed.takes_last qs r) = tt
 one_placing due (placed.takes_last ps q) (placed.by_taking qs r d) = absurd (none_is_last _ _ _ d)
 one_placing due (placed.takes_last ps q) (placed.by_leaving qs r d) = cc
-one_placing due (placed.by_taking ps q d) (placed.takes_last qs r) = absurd (none_is_last _ _ _ d)
 one_placing due (placed.by_leaving ps q d) (placed.takes_last qs r) = cc
 one_placing due (placed.by_taking ps q d) (placed.by_leaving qs r c) = cc
 one_placing due (placed.by_leaving ps q d) (placed.by_taking qs r c) = cc
+one_placing due (placed.by_taking ps q d) (placed.takes_last qs r) = absurd (none_is_last _ _ _ d)
 one_placing due (placed.says {e = e} {o = o} {m = m} {w = w} a d) (placed.says {m = n} b c) =
-    let both = and_both (is_due (e, o)) (are_due w) due in
+    let both = and_parts (is_due (e, o)) (are_due w) due in
     (refl, λ other. at_one e o m n both.0 a b other, one_placing both.1 d c)
 one_placing {x} {p} due (placed.by_taking {h = h} {w = w} {t = t} {ts = ts} {es = es} ps q d) (placed.by_taking {es = fs} qs r c) =
     let same : qs ≡ ps = cc (q, r) in
@@ -80,8 +75,7 @@ start_due t h ps q = by t.tok q
     by u r = cc
 
 none_leaves : (u : Tok) (ps : List (Part Goal Raw)) → row_of (cases stream) u ≡ Some (leaves ps) → ⊥
-none_leaves Tok.stream_start ps r = cc
-none_leaves u ps r = cc
+none_leaves u ps r = grind arith
 
 pub one_stream : {x : Extent} {ts : List Token} {es fs : List (Raw × Position)} → StreamPlacesTo x ts es → StreamPlacesTo x ts fs → AreSame es fs
 one_stream placed.wants_token placed.wants_token = tt
@@ -101,12 +95,6 @@ some_is h = cc
 pub same_events : (keep : Bool) (s : Names) (rs us : List (Raw × Position)) (es fs : List (Ev × Position)) → AreSame rs us
     → named keep s (raws_of rs) ≡ Some (events_of es) → map (λ e. e.1) rs ≡ positions_of es → named keep s (raws_of us) ≡ Some (events_of fs) → map (λ e. e.1) us ≡ positions_of fs → AgreeAt es fs
 same_events keep s [] [] [] [] a n p m q = tt
-same_events keep s [] [] (e ∷ es) fs a n p m q = cc
-same_events keep s [] [] [] (f ∷ fs) a n p m q = cc
-same_events keep s [] (u ∷ us) es fs a n p m q = absurd a
-same_events keep s (r ∷ rs) [] es fs a n p m q = absurd a
-same_events keep s (r ∷ rs) (u ∷ us) [] fs a n p m q = cc
-same_events keep s (r ∷ rs) (u ∷ us) (e ∷ es) [] a n p m q = cc
 same_events keep s (r ∷ rs) (u ∷ us) (e ∷ es) (f ∷ fs) a n p m q =
     let x = both_some (resolved_event s r.0) (named keep (names_after keep s r.0) (raws_of rs)) (e.0 ∷ events_of es) n in
     let y = both_some (resolved_event s u.0) (named keep (names_after keep s u.0) (raws_of us)) (f.0 ∷ events_of fs) m in
@@ -123,6 +111,7 @@ same_events keep s (r ∷ rs) (u ∷ us) (e ∷ es) (f ∷ fs) a n p m q =
       same_events keep (names_after keep s r.0) rs us es fs a.2 (x.are_more ∙ ap Some (sym ones)) ats
           (ap (λ k. named keep (names_after keep s k) (raws_of us)) a.0 ∙ y.are_more ∙ ap Some (sym others)) other_ats,
     )
+same_events keep s rs us es fs a n p m q = grind arith
 
 -- Tokens that are read so far have one list of events.
 pub one_list_so_far : (x : Extent) (keep_tags : Bool) (tokens : List Token) (es fs : List (Ev × Position)) → HasPlacedTo x keep_tags tokens es → HasPlacedTo x keep_tags tokens fs → AgreeAt es fs

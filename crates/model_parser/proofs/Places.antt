@@ -1,5 +1,5 @@
 -- The events of tokens with their positions: they are the events without, and each reading of the tokens has positions.
-use Rattle.model_parser.proofs.Common.{[], ap, before, by_leaving, by_taking, cases, Derives, grammar, Held, IfSome, List, None, nothing_left, Option, Part, placed_before, placed_by, PlacedWork, Places, Position, position_at, Raw, raws_of, reading, refl, row_of, saying, says, Some, subst, to_end, Tok, Token, toks, Work, ◌++◌, ◌∙◌, ◌∷◌, ◌≡◌}
+use Rattle.model_parser.proofs.Common.{arith, [], ap, before, by_leaving, by_taking, cases, Derives, grammar, Held, IfSome, List, None, nothing_left, Option, Part, placed_before, placed_by, PlacedWork, Places, Position, position_at, Raw, raws_of, reading, refl, row_of, saying, says, Some, subst, to_end, Tok, Token, toks, Work, ◌++◌, ◌∙◌, ◌∷◌, ◌≡◌}
 use Rattle.defs_event.specs.Grammar.{Goal}
 use Rattle.model_parser.proofs.Completions.{before_along}
 use Rattle.defs_event.specs.Stream as placed
@@ -32,13 +32,13 @@ without_positions (placed.by_leaving {b = b} {h = h} {w = w} {t = t} {ts = ts} {
 abbrev pub nowhere : Position
 nowhere = record { index = 0; line = 1; col = 0 }
 
-abbrev pub or_nowhere : Option Position → Position
-or_nowhere None = nowhere
-or_nowhere (Some p) = p
+-- the place that is promised, or this one
+abbrev pub or_at : Position → Option Position → Position
+or_at m None = m
+or_at m (Some p) = p
 
-pub at_own : (o : Option Position) → IfSome o (λ p. or_nowhere o ≡ p)
-at_own None = tt
-at_own (Some p) = refl
+pub or_at_own : (m : Position) (o : Option Position) → IfSome o (λ p. or_at m o ≡ p)
+or_at_own m o = grind arith
 
 abbrev pub HasPlaces : Option Position → PlacedWork → List Token → List Raw → Type 0
 HasPlaces b w ts rs = (es : List (Raw × Position)) × (raws_of es ≡ rs) × Places to_end b w ts es
@@ -54,7 +54,7 @@ with_positions (says {e = e} {w = v} {es = rs} d) b (saying x ∷ w) ts p q =
     let same : x.0 ≡ e = cc p in
     let rest : plain_work w ≡ v = cc p in
     let i = with_positions d b w ts rest q in
-    ((x.0, or_nowhere x.1) ∷ i.0, ap (λ l. x.0 ∷ l) i.1 ∙ ap (λ y. y ∷ rs) same, placed.says (at_own x.1) i.2)
+    ((x.0, or_at nowhere x.1) ∷ i.0, ap (λ l. x.0 ∷ l) i.1 ∙ ap (λ y. y ∷ rs) same, placed.says (or_at_own nowhere x.1) i.2)
 with_positions (by_taking {g = g'} {h = h'} {w = w'} {t = t'} {ts = us} ps r d) b (reading g h ∷ w) (t ∷ ts) p q =
     let goal : g ≡ g' = cc p in
     let held : h ≡ h' = cc p in

@@ -3,7 +3,7 @@ use Rattle.model_parser.proofs.Common.{[], BeginsPlaced, cases, codes, Ev, false
 use Rattle.defs_event.specs.Grammar.{Goal}
 use Rattle.defs_event.specs.Stream.{nothing_left, says, by_taking, by_leaving}
 use Rattle.model_parser.proofs.OnePlacing.{some_is}
-use Rattle.model_parser.proofs.Places.{or_nowhere, at_own}
+use Rattle.model_parser.proofs.Places.{nowhere, or_at, or_at_own}
 
 -- ---- a machine
 
@@ -19,7 +19,7 @@ abbrev run : ℕ → Option Position → PlacedWork → List Token → Found
 run zero b w ts = None
 run (suc n) b [] [] = Some []
 run (suc n) b [] (t ∷ ts) = None
-run (suc n) b (saying x ∷ w) ts = option_map (λ es. (x.0, or_nowhere x.1) ∷ es) (run n b w ts)
+run (suc n) b (saying x ∷ w) ts = option_map (λ es. (x.0, or_at nowhere x.1) ∷ es) (run n b w ts)
 run (suc n) b (reading g h ∷ w) [] = None
 run (suc n) b (reading g h ∷ w) (t ∷ ts) = turn b h w t ts (λ c v us. run n c v us) (row_of (cases g) t.tok)
 
@@ -29,9 +29,9 @@ run_so (suc n) b [] [] es h = subst (Places to_end b [] []) (some_is h) nothing_
 run_so (suc n) b [] (t ∷ ts) es h = cc
 run_so (suc n) b (saying x ∷ w) ts es h = by (run n b w ts) (λ fs. run_so n b w ts fs) h
   where
-    by : (o : Found) → ((fs : List (Raw × Position)) → o ≡ Some fs → Places to_end b w ts fs) → option_map (λ es. (x.0, or_nowhere x.1) ∷ es) o ≡ Some es → Places to_end b (saying x ∷ w) ts es
+    by : (o : Found) → ((fs : List (Raw × Position)) → o ≡ Some fs → Places to_end b w ts fs) → option_map (λ es. (x.0, or_at nowhere x.1) ∷ es) o ≡ Some es → Places to_end b (saying x ∷ w) ts es
     by None again k = cc
-    by (Some fs) again k = subst (Places to_end b (saying x ∷ w) ts) (some_is k) (says (at_own x.1) (again fs refl))
+    by (Some fs) again k = subst (Places to_end b (saying x ∷ w) ts) (some_is k) (says (or_at_own nowhere x.1) (again fs refl))
 run_so (suc n) b (reading g h ∷ w) [] es k = cc
 run_so (suc n) b (reading g h ∷ w) (t ∷ ts) es k = by (row_of (cases g) t.tok) refl (λ c v us f. run_so n c v us es f) k
   where
@@ -110,7 +110,7 @@ at_a_bracket = stream_so _ _ refl
 in_a_sequence : StreamPlaces
     (whole_tokens 9 (token_at 0 Tok.flow_sequence_start ∷ token_at 1 (Tok.alias (codes "a")) ∷ token_at 3 Tok.flow_entry ∷ token_at 5 Tok.key ∷ token_at 7 (word (codes "b")) ∷ token_at 8 Tok.flow_sequence_end ∷ []))
     (whole 9 (raw_at 0 (Raw.flow_sequence_start None None) ∷ raw_at 1 (Raw.alias (codes "a")) ∷ raw_at 5 Raw.pair_start ∷ raw_at 7 (plain_raw (codes "b")) ∷ raw_at 8 nothing_written
-    ∷ (Raw.pair_end, or_nowhere None) ∷ raw_at 8 Raw.flow_sequence_end ∷ []))
+    ∷ (Raw.pair_end, or_at nowhere None) ∷ raw_at 8 Raw.flow_sequence_end ∷ []))
 in_a_sequence = stream_so _ _ refl
 
 -- ---- outside flow, in the places that the tokens have

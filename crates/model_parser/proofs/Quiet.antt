@@ -3,7 +3,6 @@ use Rattle.model_parser.proofs.Common.{arith, [], ap, before, Bool, false, Goal,
 use Rattle.defs_event.specs.Grammar.{Goal as Read}
 use Rattle.model_parser.proofs.Places.{plain_work}
 use Rattle.model_parser.proofs.Completions.{before_along}
-use Rattle.model_parser.specs.declared.state.State.TheVariants as state
 
 abbrev pub is_quiet : Works → Bool
 is_quiet [] = true

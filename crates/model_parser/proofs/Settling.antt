@@ -1,8 +1,7 @@
 -- What may come behind a node, and what is read next.
-use Rattle.model_parser.proofs.Common.{arith, [], and_parts, ap, before, begins_content, begins_node, Bool, both_ways, cases, context_at, empty, empty_event, ends_document, ends_entry, ends_flow_key, ends_flow_pair, ends_indentless_entry, ends_item, ends_item_key, ends_part, false, Goal, goal_and, grammar, Held, in_block, in_flow, in_pair, is_directive, is_in_mapping, is_node, is_over_document, is_past_directives, is_under, IsFor, IsGoing, IsNested, keep, Kind, kind_of, Leaves, leaves, List, may_begin, MayCome, next_at, next_in, NodeContext, None, not, nothing_held, nothing_written, open_at, Option, other_next, past, Place, place_of, Position, Properties, reading, refl, row_of, Settles, Some, State, step, sym, then_in, Tok, true, without_node, work_of, Works, works, ◌&&◌, ◌∙◌, ◌∷◌, ◌≡◌, ◌⊎◌, IsNoDirective}
+use Rattle.model_parser.proofs.Common.{arith, [], and_parts, ap, before, begins_content, begins_node, Bool, both_ways, cases, context_at, empty, empty_event, ends_document, ends_entry, ends_flow_key, ends_flow_pair, ends_indentless_entry, ends_item, ends_item_key, ends_part, false, Goal, goal_and, grammar, Held, is_directive, is_in_mapping, is_node, is_over_document, is_past_directives, is_under, IsFor, IsGoing, IsNested, keep, Kind, kind_of, Leaves, leaves, List, may_begin, MayCome, next_at, next_in, NodeContext, None, not, nothing_held, nothing_written, open_at, Option, other_next, past, Place, place_of, Position, Properties, reading, refl, row_of, Settles, Some, State, step, sym, then_in, Tok, true, without_node, work_of, Works, works, ◌&&◌, ◌∙◌, ◌∷◌, ◌≡◌, ◌⊎◌, IsNoDirective}
 use Rattle.model_parser.proofs.StepRows.{has_goal, is_going, Leads, leads_stay, leave_row, leaves_so, may_come, refuse_row, refuses, steps}
 use Rattle.defs_event.specs.Grammar as table
-use Rattle.model_parser.specs.declared.kind.Kind.TheVariants as kind
 use Rattle.model_parser.specs.declared.state.State.TheVariants as state
 
 -- ---- under a node

@@ -1,5 +1,5 @@
 -- Where a parser stands at first, after a look at the next token, at the next state of its stack, and at the end.
-use Rattle.model_parser.proofs.Common.{[], ap, append-nil, as_tokens, at_directive, Derives, first_may, Goal, goal_of, goes_on, grammar, is_after, is_node, is_past_directives, is_past_in, IsSettled, Kind, List, may_begin, next_in, None, nothing_left, Option, Raw, refl, State, StreamSays, subst, sym, Tok, top, ◌++◌, ◌∙◌, ◌∷◌, ◌≡◌}
+use Rattle.model_parser.proofs.Common.{arith, [], ap, append-nil, as_tokens, at_directive, Derives, first_may, Goal, goal_of, goes_on, grammar, is_after, is_node, is_past_directives, is_past_in, IsSettled, Kind, List, may_begin, next_in, None, nothing_left, Option, Raw, refl, State, StreamSays, subst, sym, Tok, top, ◌++◌, ◌∙◌, ◌∷◌, ◌≡◌}
 use Rattle.model_parser.specs.Stands.{IsOnTrack}
 use Rattle.model_parser.proofs.StepRows.{first_any}
 use Rattle.model_parser.specs.declared.state.State.TheVariants as state
@@ -34,16 +34,13 @@ looks {g} {ss} {taken} o s = record {
 
 -- What a state reads is read next.
 pub top_of : (s : State) (ss : List State) → top (goal_of s) ss ≡ goal_of s
-top_of state.StreamStart ss = refl
-top_of s ss = refl
+top_of s ss = grind arith
 
 past_of : (s : State) (ss : List State) → is_past_directives (goal_of s) ss ≡ is_past_in (goal_of s) ss
-past_of state.StreamStart ss = refl
-past_of s ss = refl
+past_of s ss = grind arith
 
 may_of : (s : State) (ss : List State) (k : Kind) → may_begin Goal.done (s ∷ ss) k ≡ may_begin (goal_of s) ss k
-may_of state.StreamStart ss k = refl
-may_of s ss k = refl
+may_of s ss k = grind arith
 
 pub first_of : (s : State) (ss : List State) (ts : List Tok) → first_may Goal.done (s ∷ ss) ts ≡ first_may (goal_of s) ss ts
 first_of s ss [] = refl

@@ -1,11 +1,10 @@
 -- A turn of the parser by the rows of the grammar's table.
-use Rattle.std.specs.Option.{IfSome}
-use Rattle.model_parser.proofs.Common.{[], ap, Awaits, AwaitsAt, before, Bool, by_leaving, by_taking, cases, Derives, event_at, event_then, Extent, false, first_may, Goal, goes, grammar, Held, is_past_directives, IsAt, IsAtFirst, IsFor, IsNested, IsNext, IsNoDirective, IsThere, Kind, kind_of, Leaves, leaves, List, may_begin, next_at, next_past, None, open_at, open_past, Option, Part, placed, placed_before, placed_by, PlacedWork, Places, Position, position_at, Raw, reading, refl, refused, Refuses, Row, row_of, saying, says, Settles, Some, State, step, subst, suc, sym, Takes, takes, Then, Tok, Token, toks, true, Turned, work_of, Works, zero, ℕ, ◌++◌, ◌∙◌, ◌∷◌, ◌≡◌, ◌⊎◌}
+use Rattle.model_parser.proofs.Common.{arith, [], ap, Awaits, AwaitsAt, before, Bool, by_leaving, by_taking, cases, Derives, event_at, event_then, Extent, false, first_may, Goal, goes, grammar, Held, is_past_directives, IsAt, IsAtFirst, IsFor, IsNested, IsNext, IsNoDirective, IsThere, Kind, kind_of, Leaves, leaves, List, may_begin, next_at, next_past, None, open_at, open_past, Option, Part, placed, placed_before, placed_by, PlacedWork, Places, Position, position_at, Raw, reading, refl, refused, Refuses, Row, row_of, saying, says, Settles, Some, State, step, subst, suc, sym, Takes, takes, Then, Tok, Token, toks, true, Turned, work_of, Works, zero, ℕ, ◌++◌, ◌∙◌, ◌∷◌, ◌≡◌, ◌⊎◌}
 use Rattle.model_parser.proofs.CameBy.{taken_by, left_by, none_by, said_by}
 use Rattle.model_parser.proofs.Completions.{all_complete}
 use Rattle.model_parser.proofs.Falls.{grammar_completes}
 use Rattle.model_parser.proofs.Steps.{Sound, step_sound}
-use Rattle.model_parser.proofs.Places.{plain_work, plain_before}
+use Rattle.model_parser.proofs.Places.{or_at, or_at_own, plain_work, plain_before}
 use Rattle.model_parser.proofs.Quiet.{is_quiet, work_quiet, quiet_placed, plain_placed, placed_row}
 use Rattle.defs_event.specs.Stream as places
 use Rattle.defs_event.specs.Grammar as table
@@ -111,14 +110,6 @@ abbrev pub event_list : Option Raw → List Raw
 event_list None = []
 event_list (Some e) = e ∷ []
 
-abbrev or_at : Position → Option Position → Position
-or_at m None = m
-or_at m (Some p) = p
-
-or_at_own : (m : Position) (o : Option Position) → IfSome o (λ p. or_at m o ≡ p)
-or_at_own m None = tt
-or_at_own m (Some p) = refl
-
 abbrev each_at : (Raw → Position) → List Raw → List (Raw × Position) → List (Raw × Position)
 each_at f [] fs = fs
 each_at f (e ∷ es) fs = (e, f e) ∷ each_at f es fs
@@ -139,12 +130,7 @@ steps_at (suc n) x b k m (reading g h ∷ w) = by (row_of (cases g) k.tok) refl 
     by None q again = λ ts fs d. d
 
 each_one : (b : Option Position) (k : Token) (e : Option Raw) (m : Position) (fs : List (Raw × Position)) → IsAt b k e m → each_at (λ x. or_at m (position_at k b x)) (event_list e) fs ≡ event_at e m fs
-each_one b k None m fs at = refl
-each_one b k (Some e) m fs at = by (position_at k b e) at
-  where
-    by : (o : Option Position) → IfSome o (λ p. m ≡ p) → (e, or_at m o) ∷ fs ≡ (e, m) ∷ fs
-    by None h = refl
-    by (Some p) h = ap (λ x. (e, x) ∷ fs) (sym h)
+each_one b k e m fs at = grind arith
 
 pub leads_at : (n : ℕ) (w : Works) (e : Option Raw) (w' : Works) (x : Extent) (b : Option Position) (k : Token) (m : Position) → is_quiet w ≡ true → is_quiet w' ≡ true → IsAt b k e m → steps n k.tok w ≡ (event_list e, w')
     → (ts : List Token) (fs : List (Raw × Position)) → Places x b (placed w') (k ∷ ts) fs → Places x b (placed w) (k ∷ ts) (event_at e m fs)
@@ -206,8 +192,7 @@ pub reads_first : (n : ℕ) (x : Extent) (b : Option Position) (k : Token) (w : 
 reads_first n x b k w ts es d = subst (λ u. refuses n k.tok u ≡ false) (plain_placed (λ e. None) w) (placed_admits n x b k (placed w) ts es d)
 
 in_list : (e : Option Raw) (es : List Raw) → event_list e ++ es ≡ event_then e es
-in_list None es = refl
-in_list (Some e) es = refl
+in_list e es = grind arith
 
 -- something is still to be read
 abbrev pub has_goal : Works → Bool

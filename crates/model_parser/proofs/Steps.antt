@@ -1,5 +1,5 @@
 -- A machine's turn at one token, over any table.
-use Rattle.model_parser.proofs.Common.{[], and_before, arith, before, by_leaving, by_taking, Derives, empty, goes, hold, keep, leaves, List, None, Option, Part, part_weight, part_work, parts_weight, read, reading, refl, refused, Row, row_of, say, saying, says, show, Some, step, suc, Table, takes, Turned, Work, work_weight, zero, ℕ, ◌++◌, ◌+◌, ◌<◌, ◌∷◌, ◌≡◌}
+use Rattle.model_parser.proofs.Common.{[], and_before, arith, before, by_leaving, by_taking, Derives, goes, leaves, List, None, Option, Part, part_weight, part_work, parts_weight, reading, refl, refused, Row, row_of, saying, says, Some, step, suc, Table, takes, Turned, Work, work_weight, zero, ℕ, ◌++◌, ◌+◌, ◌<◌, ◌∷◌, ◌≡◌}
 use Rattle.model_parser.specs.Machine.{by_row}
 
 -- ---- what the machine reads, the table reads
