@@ -1,5 +1,5 @@
 -- Tokens and their kinds.
-use Rattle.model_parser.proofs.Common.{ap, arith, Bool, ends_document, ends_flow_key, ends_flow_pair, ends_item, ends_item_key, ends_part, false, HasNoText, Kind, kind_of, refl, subst, sym, Tok, tok_of_kind, ◌∙◌, ◌≡◌, ◌≢◌, ends_entry, ends_indentless_entry, true}
+use Rattle.model_parser.proofs.Common.{ap, arith, ends_document, ends_flow_key, ends_flow_pair, ends_item, ends_item_key, ends_part, false, HasNoText, Kind, kind_of, refl, subst, sym, Tok, tok_of_kind, ◌∙◌, ◌≡◌, ◌≢◌, ends_entry, ends_indentless_entry}
 use Rattle.model_parser.specs.declared.kind.Kind.TheVariants as kind
 
 -- a token without texts is known by its kind
@@ -26,10 +26,6 @@ not_entry k a b = grind arith
 
 pub not_indentless : (k : Kind) → k ≢ kind.BlockEntry → ends_part k ≡ false → ends_indentless_entry k ≡ false
 not_indentless k a h = grind arith
-
--- one that is one of several is no other
-pub not_by : {k x : Kind} (ends : Kind → Bool) → ends k ≡ true → ends x ≡ false → k ≢ x
-not_by ends h none e = let clash : true ≡ false = sym h ∙ ap ends e ∙ none in cc
 
 pub not_flow_pair : (k : Kind) → k ≢ kind.FlowEntry → k ≢ kind.FlowMappingEnd → ends_flow_pair k ≡ false
 not_flow_pair k a b = grind arith
