@@ -68,9 +68,7 @@ declared_append (tag [] (c ∷ p) ∷ ds) es = ap (λ xs. ([], c ∷ p) ∷ xs) 
 declared_append (tag (c ∷ h) p ∷ ds) es = ap (λ xs. (c ∷ h, p) ∷ xs) (declared_append ds es)
 
 declared_one : (h p : List ℕ) (es : List Directive) → (h ≡ [] → p ≡ [] → ⊥) → declared (tag h p ∷ es) ≡ (h, p) ∷ declared es
-declared_one [] [] es a = absurd (a refl refl)
-declared_one [] (c ∷ p) es a = refl
-declared_one (c ∷ h) p es a = refl
+declared_one h p es a = grind arith
 
 declared_snoc : (ds : List Directive) (h p : List ℕ) → (h ≡ [] → p ≡ [] → ⊥) → declared (ds ++ tag h p ∷ []) ≡ declared ds ++ (h, p) ∷ []
 declared_snoc ds h p a = declared_append ds (tag h p ∷ []) ∙ ap (λ xs. declared ds ++ xs) (declared_one h p [] a)

@@ -173,8 +173,7 @@ breaks_none w u o = grind arith
 
 -- what is pending does not depend on the position
 pub pending_same : (w u : positions.NodeContext) (names : Names) (o : Option written.Properties) → IsPending names (Goal.after_properties w o) → IsPending names (Goal.after_properties u o)
-pending_same w u names None h = tt
-pending_same w u names (Some o) h = h
+pending_same w u names o h = grind arith
 
 -- no token of properties, and no alias
 pub record HasNoProperties (k : Kind) : Type 0 where
