@@ -4,8 +4,7 @@ use Rattle.model_parser.specs.declared.kind.Kind.TheVariants as kind
 
 -- a token without texts is known by its kind
 plain_tok : (t : Tok) → HasNoText (kind_of t) → tok_of_kind (kind_of t) ≡ t
-plain_tok Tok.stream_start h = refl
-plain_tok t h = cc
+plain_tok t h = grind arith
 
 pub tok_is : {t : Tok} {k : Kind} → kind_of t ≡ k → HasNoText k → t ≡ tok_of_kind k
 tok_is {t} {k} h e = sym (plain_tok t (subst HasNoText (sym h) e)) ∙ ap tok_of_kind h

@@ -43,8 +43,7 @@ may_of : (s : State) (ss : List State) (k : Kind) → may_begin Goal.done (s ∷
 may_of s ss k = grind arith
 
 pub first_of : (s : State) (ss : List State) (ts : List Tok) → first_may Goal.done (s ∷ ss) ts ≡ first_may (goal_of s) ss ts
-first_of s ss [] = refl
-first_of s ss (t ∷ ts) = may_of s ss _
+first_of s ss ts = grind arith
 
 pub pops : {s : State} {ss : List State} {taken : List Tok} {p : Option Tok} {given : List Raw} → IsOnTrack Goal.done (s ∷ ss) taken p given → IsOnTrack (goal_of s) ss taken p given
 pops {s} {ss} {taken} {p} h = record {

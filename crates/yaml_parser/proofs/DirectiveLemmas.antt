@@ -98,9 +98,7 @@ of_if f b x y = grind arith
 
 -- Every declaration is numbered, also after one more.
 numbered_by : (b : Bool) (d : Declaration) (o : Option Declaration) (n : ℕ) → d.number ≡ n + 1 → IfSome o (λ e. e.number ≤ n) → IfSome (if b then Some d else o) (λ e. e.number ≤ n + 1)
-numbered_by true d o n e h = omega (arith, e)
-numbered_by false d (Some x) n e h = omega (arith, h)
-numbered_by false d None n e h = tt
+numbered_by b d o n e h = grind arith
 
 -- A handle of which the code knows nothing of this document is declared now, under this number.
 pub has_declared : {code new : Names} {keep : Bool} {names : defs.Names} {read : List Directive} (handle : String Global) (d : Declaration)

@@ -219,12 +219,10 @@ pub is_some_of : {A : Type 0} {o : Option A} {x : A} → o ≡ Some x → IsSome
 is_some_of {A} {o} {x} h = ap is_some h
 
 pub anchor_text : {t : Tok} {x : List ℕ} → kind_of t ≡ kind.Anchor → (t ≡ Tok.alias x) ⊎ (t ≡ Tok.anchor x) → t ≡ Tok.anchor x
-anchor_text {t} {x} h (inl e) = let f : kind.Alias ≡ kind.Anchor = sym (ap kind_of e) ∙ h in cc
-anchor_text {t} {x} h (inr e) = e
+anchor_text h e = grind arith
 
 pub alias_text : {t : Tok} {x : List ℕ} → kind_of t ≡ kind.Alias → (t ≡ Tok.alias x) ⊎ (t ≡ Tok.anchor x) → t ≡ Tok.alias x
-alias_text {t} {x} h (inl e) = e
-alias_text {t} {x} h (inr e) = let f : kind.Anchor ≡ kind.Alias = sym (ap kind_of e) ∙ h in cc
+alias_text h e = grind arith
 
 pub alias_taken : {T : Type 0} (m : Position) {p r : Reader T} {t : Token} {w : positions.NodeContext} {x : List ℕ} {n : ℕ} {names : Names} {given : List (Ev × Position)}
     → p.tokens.peeked ≡ Some t → t.0 ≡ m → Skips p.tokens t r.tokens → r.stack ≡ p.stack → r.names ≡ p.names → tok_of t.1 ≡ Tok.alias x → under_name x names.anchors ≡ Some n
