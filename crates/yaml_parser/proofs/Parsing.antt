@@ -101,8 +101,7 @@ fault_misplaced {T} pull given current started ended misplaced p h none m =
 
 -- whether the end was read is whether it was given
 end_known : (given : List (Ev × Position)) (current : Option (Event × Position)) (ended : Bool) → ended ≡ has_end given → is_some current ≡ false → has_end (read_so given ended (option_map placed current)) ≡ ended
-end_known given None ended h n = ap has_end (read_none given ended) ∙ sym h
-end_known given (Some e) ended h n = cc
+end_known given current ended h n = grind arith
 
 reads_given : (given : List (Ev × Position)) (current : Option (Event × Position)) (ended : Bool) → is_some current ≡ false → read_so given ended (option_map placed current) ≡ given
 reads_given given current ended n = grind arith
