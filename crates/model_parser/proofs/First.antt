@@ -1,5 +1,5 @@
 -- Tokens and their kinds.
-use Rattle.model_parser.proofs.Common.{ap, arith, ends_document, ends_flow_key, ends_flow_pair, ends_item, ends_item_key, ends_part, false, HasNoText, Kind, kind_of, refl, subst, sym, Tok, tok_of_kind, ◌∙◌, ◌≡◌, ◌≢◌, ends_entry, ends_indentless_entry}
+use Rattle.model_parser.proofs.Common.{ap, arith, ends_document, ends_flow_key, ends_flow_pair, ends_item, ends_item_key, ends_part, false, HasNoText, Kind, kind_of, subst, sym, Tok, tok_of_kind, ◌∙◌, ◌≡◌, ◌≢◌, ends_entry, ends_indentless_entry}
 use Rattle.model_parser.specs.declared.kind.Kind.TheVariants as kind
 
 -- a token without texts is known by its kind
