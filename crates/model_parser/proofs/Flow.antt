@@ -21,17 +21,11 @@ items_item ss t a = leaves_so 0 (λ n f. (n, f)) (λ f. refl) (λ f u r m. cc m)
 pub more_items_end : (ss : List State) → Takes Goal.more_items ss Tok.flow_sequence_end (Some Raw.flow_sequence_end) Goal.done ss
 more_items_end ss = takes_so (λ n f. (n, under_goes ss f)) (λ f. (refl, under_any ss f, by_row _ refl refl)) refl (under_other ss) (under_past ss)
 
-pub more_items_comma : (ss : List State) → Takes Goal.more_items ss Tok.flow_entry None Goal.comma_items ss
+pub more_items_comma : (ss : List State) → Takes Goal.more_items ss Tok.flow_entry None Goal.items ss
 more_items_comma ss = takes_so (λ n f. (n, f)) (λ f. (refl, (λ k. refl), by_row _ refl refl)) refl (λ f. refl) (λ f. refl)
 
 pub more_items_refuses : (ss : List State) (t : Tok) → kind_of t ≢ kind.FlowSequenceEnd → kind_of t ≢ kind.FlowEntry → Refuses Goal.more_items ss t
 more_items_refuses ss t a b = refuses_so Goal.more_items ss t 9 (λ f. grind arith)
-
-pub comma_items_end : (ss : List State) → Takes Goal.comma_items ss Tok.flow_sequence_end (Some Raw.flow_sequence_end) Goal.done ss
-comma_items_end ss = takes_so (λ n f. (n, under_goes ss f)) (λ f. (refl, under_any ss f, by_row _ refl refl)) refl (under_other ss) (under_past ss)
-
-pub comma_items_item : (ss : List State) (t : Tok) → kind_of t ≢ kind.FlowSequenceEnd → Leaves Goal.comma_items ss (Some t) None Goal.item ss
-comma_items_item ss t a = leaves_so 0 (λ n f. (n, f)) (λ f. refl) (λ f u r m. cc m) (λ f r m. grind arith) refl (λ f. alike refl refl) (λ f h. inl h)
 
 pub item_key : (ss : List State) → Takes Goal.item ss Tok.key (Some Raw.pair_start) Goal.done (state.FlowSequenceEntryMappingKey ∷ ss)
 item_key ss = takes_so (λ n f. ((f, n), tt)) (λ f. (refl, (λ k. refl), by_row _ refl refl)) refl (λ f. refl) (λ f. refl)

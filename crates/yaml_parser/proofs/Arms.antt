@@ -131,9 +131,7 @@ went {T} m {g} {p} {r} {ss} {e} {v} {names} {given} s turn y anywhere colon over
 
 -- after a node none is
 pub under_no_colon : (ss : List State) → is_under ss ≡ true → HasNoColon Goal.done ss
-under_no_colon [] h o = cc
-under_no_colon (state.FlowMappingPart m ∷ ss) h o = cc
-under_no_colon (s ∷ ss) h o = tt
+under_no_colon ss h o = grind arith
 
 -- ---- what is answered
 

@@ -3,6 +3,7 @@ use Rattle.yaml_parser.proofs.Common.{arith, [], after_text_events, anchor_of, a
 use Rattle.defs_event.specs.Properties.{tag_of}
 use Rattle.yaml_parser.proofs.DirectiveLemmas.{some_map}
 use Rattle.model_parser.specs.Rest.{place_of as where_it_stands}
+use Rattle.model_parser.proofs.Quiet.{is_quiet, past_quiet, works_quiet}
 use Rattle.defs_event.specs.Grammar as table
 use Rattle.model_parser.specs.declared.kind.Kind.TheVariants as kind
 use Rattle.model_parser.specs.declared.context.NodeContext.TheVariants as context
@@ -58,17 +59,11 @@ free_named keep (e ∷ es) h s =
     name_one keep s e es (is_some_value (resolved_event s e) (free_some s e p.0)).1 (free_named keep es p.1)
 
 -- Of work on a stack all holds nothing, and what is said is the end of a pair.
-abbrev is_quiet : Raw → Bool
-is_quiet Raw.pair_end = true
-is_quiet _ = false
+abbrev holds_none : Held → Bool
+holds_none h = is_untagged h.tag && is_none h.directives
 
 abbrev pub is_plain : Works → Bool
-is_plain [] = true
-is_plain (saying e ∷ w) = is_quiet e && is_plain w
-is_plain (reading g h ∷ w) = is_untagged h.tag && (is_none h.directives && is_plain w)
-
-quiet_free : (e : Raw) → is_quiet e ≡ true → is_free e ≡ true
-quiet_free e h = grind arith
+is_plain w = is_quiet holds_none w
 
 after_free : (p : Place) (es : List Raw) → are_free es ≡ true → are_free (after_text_events p ++ es) ≡ true
 after_free p es h = grind arith
@@ -88,24 +83,21 @@ goal_free _ h es t d i = i
 
 pub plain_free : (w : Works) → is_plain w ≡ true → are_free (end_events w) ≡ true
 plain_free [] h = refl
-plain_free (saying e ∷ w) h = let p = and_parts (is_quiet e) (is_plain w) h in and_from (is_free e) (are_free (end_events w)) (quiet_free e p.0) (plain_free w p.1)
+plain_free (saying Raw.pair_end ∷ w) h = plain_free w h
+plain_free (saying e ∷ w) h = cc
 plain_free (reading g x ∷ w) h =
-    let p = and_parts (is_untagged x.tag) (is_none x.directives && is_plain w) h in
-    let q = and_parts (is_none x.directives) (is_plain w) p.1 in
-    goal_free g x (end_events w) p.0 q.0 (plain_free w q.1)
+    let p = and_parts (holds_none x) (is_plain w) h in
+    let q = and_parts (is_untagged x.tag) (is_none x.directives) p.0 in
+    goal_free g x (end_events w) q.0 q.1 (plain_free w p.1)
 
-past_plain : (ss : List State) → is_plain (works ss) ≡ true → is_plain (past ss (works ss)) ≡ true
-past_plain ss h = grind arith
+works_plain : (ss : List State) → is_plain (works ss) ≡ true
+works_plain ss = works_quiet holds_none ss refl
 
-state_plain : (s : State) (ss : List State) → is_plain (works ss) ≡ true → is_plain (works (s ∷ ss)) ≡ true
-state_plain s ss h = let q = past_plain ss h in grind arith
-
-pub works_plain : (ss : List State) → is_plain (works ss) ≡ true
-works_plain [] = refl
-works_plain (s ∷ ss) = state_plain s ss (works_plain ss)
+past_plain : (ss : List State) → is_plain (past ss (works ss)) ≡ true
+past_plain ss = past_quiet holds_none ss (works_plain ss)
 
 pub past_free : (ss : List State) → are_free (end_events (past ss (works ss))) ≡ true
-past_free ss = plain_free (past ss (works ss)) (past_plain ss (works_plain ss))
+past_free ss = plain_free (past ss (works ss)) (past_plain ss)
 
 pub works_free : (ss : List State) → are_free (end_events (works ss)) ≡ true
 works_free ss = plain_free (works ss) (works_plain ss)
@@ -128,8 +120,8 @@ goal_named (Goal.after_tag q t) ss keep s p = text_named ss keep s (record { anc
 goal_named (Goal.after_properties q None) ss keep s p = text_named ss keep s nothing_held refl
 goal_named (Goal.after_properties q (Some o)) ss keep s p = text_named ss keep s (record { anchor = anchor_of o; tag = tag_of o; directives = [] }) p
 goal_named Goal.part ss keep s p = text_named ss keep s nothing_held refl
-goal_named Goal.indentless_entries ss keep s p = free_named keep (end_events (work_of Goal.indentless_entries ss)) (plain_free (work_of Goal.indentless_entries ss) (past_plain ss (works_plain ss))) s
-goal_named Goal.indentless_entry ss keep s p = free_named keep (end_events (work_of Goal.indentless_entry ss)) (plain_free (work_of Goal.indentless_entry ss) (past_plain ss (works_plain ss))) s
+goal_named Goal.indentless_entries ss keep s p = free_named keep (end_events (work_of Goal.indentless_entries ss)) (plain_free (work_of Goal.indentless_entries ss) (past_plain ss)) s
+goal_named Goal.indentless_entry ss keep s p = free_named keep (end_events (work_of Goal.indentless_entry ss)) (plain_free (work_of Goal.indentless_entry ss) (past_plain ss)) s
 goal_named (Goal.flow_pair table.after_brace) ss keep s p = free_named keep (end_events (work_of (Goal.flow_pair table.after_brace) ss)) (works_free ss) s
 goal_named g ss keep s p = free_named keep (end_events (work_of g ss)) (works_free ss) s
 

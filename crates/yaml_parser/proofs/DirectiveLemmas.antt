@@ -68,9 +68,7 @@ declared_append (tag [] (c ∷ p) ∷ ds) es = ap (λ xs. ([], c ∷ p) ∷ xs) 
 declared_append (tag (c ∷ h) p ∷ ds) es = ap (λ xs. (c ∷ h, p) ∷ xs) (declared_append ds es)
 
 declared_one : (h p : List ℕ) (es : List Directive) → (h ≡ [] → p ≡ [] → ⊥) → declared (tag h p ∷ es) ≡ (h, p) ∷ declared es
-declared_one [] [] es a = absurd (a refl refl)
-declared_one [] (c ∷ p) es a = refl
-declared_one (c ∷ h) p es a = refl
+declared_one h p es a = grind arith
 
 declared_snoc : (ds : List Directive) (h p : List ℕ) → (h ≡ [] → p ≡ [] → ⊥) → declared (ds ++ tag h p ∷ []) ≡ declared ds ++ (h, p) ∷ []
 declared_snoc ds h p a = declared_append ds (tag h p ∷ []) ∙ ap (λ xs. declared ds ++ xs) (declared_one h p [] a)
@@ -100,9 +98,7 @@ of_if f b x y = grind arith
 
 -- Every declaration is numbered, also after one more.
 numbered_by : (b : Bool) (d : Declaration) (o : Option Declaration) (n : ℕ) → d.number ≡ n + 1 → IfSome o (λ e. e.number ≤ n) → IfSome (if b then Some d else o) (λ e. e.number ≤ n + 1)
-numbered_by true d o n e h = omega (arith, e)
-numbered_by false d (Some x) n e h = omega (arith, h)
-numbered_by false d None n e h = tt
+numbered_by b d o n e h = grind arith
 
 -- A handle of which the code knows nothing of this document is declared now, under this number.
 pub has_declared : {code new : Names} {keep : Bool} {names : defs.Names} {read : List Directive} (handle : String Global) (d : Declaration)

@@ -46,10 +46,7 @@ state_reads : (s : State) (ss : List State) → has_goal (work_of Goal.done (s �
 state_reads s ss = grind arith
 
 reads_on : (g : Goal) (ss : List State) → is_over g ≡ false → IsFor g ss → has_goal (work_of g ss) ≡ true
-reads_on Goal.done [] o f = absurd f
-reads_on Goal.done (s ∷ ss) o f = state_reads s ss
-reads_on Goal.ended ss o f = cc
-reads_on g ss o f = refl
+reads_on g ss o f = grind arith
 
 begin_ahead : {T : Type 0} (p : Reader T) (g : Goal) (names : Names) (given : List (Ev × Position)) (ts : List Tok) (es : List Raw) → At g p names given → Derives grammar (work_of g p.stack) ts es
     → BeginAt p.tokens.peeked (all_at (place_ahead p.tokens.peeked) ts)

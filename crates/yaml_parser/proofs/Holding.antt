@@ -232,8 +232,7 @@ pub many : (ks : List Bool) (k : Bool) (raw : List Raw) (es : List (Ev × Positi
 many ks k raw es h = since_length ks k no_names raw (events_of es) h ∙ events_length es
 
 bottom : (ss : List State) → IsBottom ss → ss ≡ []
-bottom [] b = refl
-bottom (s ∷ ss) b = absurd b
+bottom ss b = grind arith
 
 -- Events that come of tokens, where all settings were the same.
 derived_begins : {T : Type 0} (p : Reader T) (es : List (Ev × Position)) (before : List defs.Token) (raw : List Raw) → IsSteady p

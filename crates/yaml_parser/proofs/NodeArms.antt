@@ -172,8 +172,7 @@ breaks_none w u o = grind arith
 
 -- what is pending does not depend on the position
 pub pending_same : (w u : positions.NodeContext) (names : Names) (o : Option written.Properties) → IsPending names (Goal.after_properties w o) → IsPending names (Goal.after_properties u o)
-pending_same w u names None h = tt
-pending_same w u names (Some o) h = h
+pending_same w u names o h = grind arith
 
 -- no token of properties, and no alias
 pub record HasNoProperties (k : Kind) : Type 0 where
@@ -219,12 +218,10 @@ pub is_some_of : {A : Type 0} {o : Option A} {x : A} → o ≡ Some x → IsSome
 is_some_of {A} {o} {x} h = ap is_some h
 
 pub anchor_text : {t : Tok} {x : List ℕ} → kind_of t ≡ kind.Anchor → (t ≡ Tok.alias x) ⊎ (t ≡ Tok.anchor x) → t ≡ Tok.anchor x
-anchor_text {t} {x} h (inl e) = let f : kind.Alias ≡ kind.Anchor = sym (ap kind_of e) ∙ h in cc
-anchor_text {t} {x} h (inr e) = e
+anchor_text h e = grind arith
 
 pub alias_text : {t : Tok} {x : List ℕ} → kind_of t ≡ kind.Alias → (t ≡ Tok.alias x) ⊎ (t ≡ Tok.anchor x) → t ≡ Tok.alias x
-alias_text {t} {x} h (inl e) = e
-alias_text {t} {x} h (inr e) = let f : kind.Anchor ≡ kind.Alias = sym (ap kind_of e) ∙ h in cc
+alias_text h e = grind arith
 
 pub alias_taken : {T : Type 0} (m : Position) {p r : Reader T} {t : Token} {w : positions.NodeContext} {x : List ℕ} {n : ℕ} {names : Names} {given : List (Ev × Position)}
     → p.tokens.peeked ≡ Some t → t.0 ≡ m → Skips p.tokens t r.tokens → r.stack ≡ p.stack → r.names ≡ p.names → tok_of t.1 ≡ Tok.alias x → under_name x names.anchors ≡ Some n

@@ -101,12 +101,10 @@ fault_misplaced {T} pull given current started ended misplaced p h none m =
 
 -- whether the end was read is whether it was given
 end_known : (given : List (Ev × Position)) (current : Option (Event × Position)) (ended : Bool) → ended ≡ has_end given → is_some current ≡ false → has_end (read_so given ended (option_map placed current)) ≡ ended
-end_known given None ended h n = ap has_end (read_none given ended) ∙ sym h
-end_known given (Some e) ended h n = cc
+end_known given current ended h n = grind arith
 
 reads_given : (given : List (Ev × Position)) (current : Option (Event × Position)) (ended : Bool) → is_some current ≡ false → read_so given ended (option_map placed current) ≡ given
-reads_given given None ended n = read_none given ended
-reads_given given (Some e) ended n = cc
+reads_given given current ended n = grind arith
 
 fault_open : {T : Type 0} (p : Reader T) (es : List (Ev × Position)) (o : Option (Option Fault × Position)) {f : ErrorReport} → option_map (λ k. fault_seen k.0 k.1 (scanned p.tokens.scanner).fault) o ≡ Some f → IsHeld p es o → has_end es ≡ false
 fault_open {T} p es None h x = cc

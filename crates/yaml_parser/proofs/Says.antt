@@ -33,8 +33,7 @@ says_inside {T} {k} {g} {p} c inside a known t look kind =
 -- ---- where nothing is open
 
 bottom_open : (ss : List State) → IsBottom ss → open_under ss ≡ []
-bottom_open [] h = refl
-bottom_open (s ∷ ss) h = absurd h
+bottom_open ss h = grind arith
 
 no_directive_for : (k : Kind) (n : Next) → is_directive k ≡ false → problem_at n [] ≡ problem_for k n []
 no_directive_for k n h = ap (λ b. if b then problem.DirectiveWithoutDocumentEnd else problem_at n []) (sym h)

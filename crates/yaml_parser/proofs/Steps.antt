@@ -197,8 +197,7 @@ looked_places {T} p r g stands taken stack same x =
 
 -- the next token is the one that was looked at, where one was
 pub begins_peeked : (o : Option Token) (ts : List Tok) → IsNext (option_map (λ (t : Token). tok_of t.1) o) (toks (shown_list o) ++ ts)
-begins_peeked None ts = tt
-begins_peeked (Some t) ts = refl
+begins_peeked o ts = grind arith
 
 pub looks_on : {T : Type 0} {p r : Reader T} → r.tokens.taken ≡ p.tokens.taken → ((t : Token) → p.tokens.peeked ≡ Some t → r.tokens.peeked ≡ Some t) → (IsHanded p.tokens → IsHanded r.tokens) → (IsAwake p.tokens → IsAwake r.tokens)
     → r.stack ≡ p.stack → r.names ≡ p.names → {g : Goal} {names : Names} {given : List (Ev × Position)} → is_over g ≡ false → At g p names given → At g r names given
