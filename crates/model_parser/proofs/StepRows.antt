@@ -1,5 +1,5 @@
 -- A turn of the parser by the rows of the grammar's table.
-use Rattle.model_parser.proofs.Common.{[], ap, arith, Awaits, AwaitsAt, before, Bool, by_leaving, by_taking, cases, Derives, event_at, event_then, Extent, false, first_may, Goal, goes, grammar, Held, is_past_directives, IsAt, IsAtFirst, IsFor, IsNested, IsNext, IsNoDirective, IsThere, Kind, kind_of, Leaves, leaves, List, may_begin, next_at, next_past, None, open_at, open_past, Option, Part, placed, placed_before, placed_by, PlacedWork, Places, Position, position_at, Raw, reading, refl, refused, Refuses, Row, row_of, saying, says, Settles, Some, State, step, subst, suc, sym, Takes, takes, Then, Tok, Token, true, Turned, work_of, Works, zero, ℕ, ◌++◌, ◌∙◌, ◌∷◌, ◌≡◌, ◌⊎◌}
+use Rattle.model_parser.proofs.Common.{◌≡◌, [], ap, arith, Awaits, AwaitsAt, before, Bool, by_leaving, by_taking, cases, Derives, event_at, event_then, Extent, false, first_may, Goal, goes, grammar, Held, is_past_directives, IsAt, IsAtFirst, IsFor, IsNested, IsNext, IsNoDirective, IsThere, Kind, kind_of, Leaves, leaves, List, may_begin, next_at, next_past, None, open_at, open_past, Option, Part, placed, placed_before, placed_by, PlacedWork, Places, Position, position_at, Raw, reading, refl, refused, Refuses, Row, row_of, saying, says, Settles, Some, State, step, subst, suc, sym, Takes, takes, Then, Tok, Token, true, Turned, work_of, Works, zero, ℕ, ◌++◌, ◌∙◌, ◌∷◌, ◌≡◌, ◌⊎◌}
 use Rattle.model_parser.proofs.CameBy.{taken_by, left_by, none_by, said_by}
 use Rattle.model_parser.proofs.Completions.{all_complete}
 use Rattle.model_parser.proofs.Falls.{grammar_completes}
@@ -39,6 +39,18 @@ by_row {g} {h} {w} {t} {e} {w'} ps r b = record {
       places.by_taking {es = event_at e m es} ps (ap (λ u. row_of (cases g) u) same ∙ r)
       (subst (λ v. Places x (Some k.position) v ts (event_at e m es)) (sym there) (saying_at e w' c k m at q' x (Some k.position) ts es d));
 }
+
+-- what is left to show of the row that is the token's
+abbrev pub RowReads : Held → Works → Tok → Option Raw → Works → Option (Row table.Goal Raw) → Type 0
+RowReads h w t e w' (Some (takes ps)) = before grammar h t ps w ≡ and_saying e w'
+RowReads h w t e w' r = ⊥
+
+pub reads_so : {g : table.Goal} {h : Held} {w : Works} {t : Tok} {e : Option Raw} {w' : Works} → RowReads h w t e w' (row_of (cases g) t) → Reads (reading g h ∷ w) t e w'
+reads_so {g} {h} {w} {t} {e} {w'} b = by (row_of (cases g) t) refl b
+  where
+    by : (r : Option (Row table.Goal Raw)) → row_of (cases g) t ≡ r → RowReads h w t e w' r → Reads (reading g h ∷ w) t e w'
+    by (Some (takes ps)) r b = by_row ps r b
+    by r q b = absurd b
 
 pub first_any : (g : Goal) (ss : List State) (ts : List Tok) → ((k : Kind) → may_begin g ss k ≡ true) → first_may g ss ts ≡ true
 first_any g ss ts f = grind arith

@@ -153,7 +153,7 @@ wrote {T} p given h a = subst (λ e. Answers p given (Ok e)) (sym h) a
 pub wrote_event : {T : Type 0} (p : Reader T) (given : List (Ev × Position)) (r : Event × Position) {e : Event} → r.0 ≡ e → Answers p given (Ok (e, r.1)) → Answers p given (Ok r)
 wrote_event {T} p given r h a = subst (λ x. Answers p given (Ok (x, r.1))) (sym h) a
 
-pub faulted_as : {T : Type 0} (p : Reader T) (given : List (Ev × Position)) {s u : Fault} → s ≡ u → Faulted p given u → Faulted p given s
+pub faulted_as : {T : Type 0} (p : Reader T) (given : List (Ev × Position)) {s u : Option Fault} → s ≡ u → Faulted p given u → Faulted p given s
 faulted_as {T} p given h f = subst (Faulted p given) (sym h) f
 
 -- ---- one of several kinds

@@ -15,12 +15,12 @@ pub use Rattle.defs_text.specs.Text.{is_empty}
 unfoldable pub use Rattle.defs_text.specs.Text.{string_chars}
 pub use Rattle.defs_token.specs.Token.{Style, Tok}
 pub use Rattle.defs_token.specs.Toks.{toks}
-pub use Rattle.model_parser.proofs.Block.{after_key_empty, after_key_value, entries_dash, entries_end, entries_refuses, entry_empty, entry_node, indentless_entries_dash, indentless_entries_end, indentless_entry_empty, indentless_entry_node, key_pairs_end, key_pairs_key, key_pairs_refuses, pairs_key, pairs_value, part_empty, part_has_node}
-pub use Rattle.model_parser.proofs.Document.{after_marked, after_refuses, after_unmarked, content_empty, content_node, directed_more, directed_refuses, directed_start, documents_bare, documents_directives, documents_explicit, documents_marker, explicit_end, explicit_refuses, explicit_start, start_refuses, start_takes}
+pub use Rattle.model_parser.proofs.Block.{after_key_empty, entries_refuses, indentless_entries_end, key_pairs_refuses, pairs_key, part_empty, part_has_node, block_turns}
+pub use Rattle.model_parser.proofs.Document.{after_refuses, after_unmarked, content_empty, directed_more, directed_refuses, documents_bare, documents_directives, documents_explicit, explicit_refuses, start_refuses, document_turns}
 pub use Rattle.model_parser.proofs.Endings.{end_events, end_tokens, ends_so, goes_so, past_tokens}
 pub use Rattle.model_parser.proofs.Falls.{after_text, after_text_events, grammar_completes, text, text_event}
 pub use Rattle.model_parser.proofs.First.{not_document, not_entry, not_flow_key, not_flow_pair, not_indentless, not_item, not_item_key, not_part, tok_is}
-pub use Rattle.model_parser.proofs.Flow.{comma_flow_end, comma_flow_has_pair, flow_after_empty, flow_after_value, flow_empties, flow_key_empty, flow_key_node, flow_pair_key, flow_pair_node, flow_pair_value, flow_pairs_end, flow_pairs_pair, flow_valued_empty, flow_valued_node, item_key, item_node, items_end, items_item, more_flow_comma, more_flow_end, more_flow_refuses, more_items_comma, more_items_end, more_items_refuses, pair_ends, pair_key_empty, pair_key_node, pair_value_empty, pair_value_value, pair_valued_empty, pair_valued_node}
+pub use Rattle.model_parser.proofs.Flow.{comma_flow_has_pair, flow_after_empty, flow_empties, flow_pair_node, flow_pairs_pair, flow_valued_empty, flow_valued_node, item_node, items_item, more_flow_refuses, more_items_refuses, pair_ends, pair_value_empty, flow_turns}
 pub use Rattle.model_parser.proofs.Nodes.{after_braces, after_brackets, after_dash, after_mapping, after_scalar, after_sequence, anchor_alone, anchor_tag, block_flow, node_anchor, node_tag, nothing_refuses, part_block, properties_only, tag_alone, tag_anchor}
 pub use Rattle.model_parser.proofs.Places.{nowhere, plain_before, plain_work, with_positions}
 pub use Rattle.model_parser.proofs.Quiet.{plain_placed}

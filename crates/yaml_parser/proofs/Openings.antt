@@ -117,7 +117,7 @@ halted {T} p r {g} {names} {given} taken same none handed names_same busy a =
       goes_on = subst (λ ts. IsOpen (toks ts) (a.raw ++ perhaps o.missing)) (sym took) o.goes_on;
     }
 
-pub look_fails : {T : Type 0} (p r : Reader T) {s : Fault} → r.tokens.taken ≡ p.tokens.taken → ((t : Token) → p.tokens.peeked ≡ Some t → r.tokens.peeked ≡ Some t) → r.tokens.peeked ≡ None → (IsHanded p.tokens → IsHanded r.tokens) → r.names ≡ p.names
+pub look_fails : {T : Type 0} (p r : Reader T) {s : Option Fault} → r.tokens.taken ≡ p.tokens.taken → ((t : Token) → p.tokens.peeked ≡ Some t → r.tokens.peeked ≡ Some t) → r.tokens.peeked ≡ None → (IsHanded p.tokens → IsHanded r.tokens) → r.names ≡ p.names
     → s ≡ None → (IsAwake p.tokens → IsStopped (scanned r.tokens.scanner)) → (g : Goal) → is_idle g ≡ false → Fails g p r s
 look_fails {T} p r {s} taken same none handed names_same e h = λ g busy names given a.
     let k = h (a.awake (or_parts (is_over g) (is_done g || is_pair_end g) busy).0) in

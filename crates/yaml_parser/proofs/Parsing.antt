@@ -30,7 +30,7 @@ read_next given true e = sym (append-nil given)
 read_next given false e = refl
 
 no_fault : {T : Type 0} (pull : EventReader T) (misplaced : Option Position) → pull.kept ≡ None → misplaced ≡ None → fault_of_all misplaced pull ≡ None
-no_fault {T} pull misplaced h k = ap (λ m. fault_of_all m pull) k ∙ ap (option_map (λ x. fault_seen x.stop x.mark (scanned pull.reader.tokens.scanner).fault)) h
+no_fault {T} pull misplaced h k = ap (λ m. fault_of_all m pull) k ∙ ap (option_map (λ x. fault_seen x.0 x.1 (scanned pull.reader.tokens.scanner).fault)) h
 
 sound : {T : Type 0} (pull : EventReader T) (given : List (Ev × Position)) (current : Option (Event × Position)) (started ended : Bool) (misplaced : Option Position)
     → pull.kept ≡ None → misplaced ≡ None → IsHeld pull.reader (read_so given ended (option_map placed current)) pull.kept → KnowsSteady pull.reader → IsSound (seen pull given current started ended misplaced)
@@ -375,7 +375,7 @@ stopped {T} pull mid new given current started ended misplaced s f {v} view h ah
     let c = clear_parts pull misplaced (ap (λ u. u.fault) view ∙ fault) in
     let a = reads es (subst (IsHeld pull.reader es) c.0 h.held) in
     let y = keeps new es s kept stop (failed_as es s reader (a.1, a.2)) in
-    let before : fault_kept pull ≡ None = ap (option_map (λ x. fault_seen x.stop x.mark (scanned pull.reader.tokens.scanner).fault)) c.0 in
+    let before : fault_kept pull ≡ None = ap (option_map (λ x. fault_seen x.0 x.1 (scanned pull.reader.tokens.scanner).fault)) c.0 in
     let x : Continues pull es (Err f) new = (ap (λ r. r.names.keeping) reader ∙ a.0, y.0, λ b. y.1) in
     let again = subst (λ o. IfSome o (λ g. (◌≡◌ {A = Result (Event × Position) ErrorReport} (Err f) (Err g)) × (new ≡ pull))) (sym before) tt in
     let y = fault_given pull new given current started ended misplaced f h none c.1 x kept again in
@@ -408,7 +408,7 @@ settings_hold {T} pull given current started ended misplaced k h steady same = r
 }
   where
     none_of_all : (m : Option Position) → is_some (fault_of_all m pull) ≡ false → pull.kept ≡ None
-    none_of_all None e = none_before (λ x. fault_seen x.stop x.mark (scanned pull.reader.tokens.scanner).fault) pull.kept (none_if (fault_kept pull) e)
+    none_of_all None e = none_before (λ x. fault_seen x.0 x.1 (scanned pull.reader.tokens.scanner).fault) pull.kept (none_if (fault_kept pull) e)
     none_of_all (Some q) e = cc
 
     nothing_read : is_fresh (seen pull given current started ended misplaced) ≡ true → pull.reader.names.keeping.settings.items ≡ []

@@ -1,4 +1,4 @@
-use Rattle.yaml_parser.proofs.Answering.{answers_err, ap, directed_start, Ev, Goal, if◌then◌else◌, marked_begins, None, Some, directed_outside, directed_refuses, directed_ways, directives_begin, DocumentStartToken, faulted_as, goes_apart, kind_of, not_as, not_directive, push_after, refl, refuses_for, says_directed, wrote}
+use Rattle.yaml_parser.proofs.Answering.{answers_err, ap, Ev, Goal, if◌then◌else◌, marked_begins, None, Some, directed_outside, directed_refuses, directed_ways, directives_begin, DocumentStartToken, faulted_as, goes_apart, kind_of, not_as, not_directive, push_after, refl, refuses_for, says_directed, wrote, document_turns}
 use Rattle.yaml_parser.proofs.reader.Reader.directed_document.Goals as goal
 
 pub returns-in_err-next-clause-answers : goal.returns-in_err-next-clause-answers
@@ -7,7 +7,7 @@ returns-in_err-next-clause-answers g c = λ names given h. answers_err c.directi
 pub returns-in_ok-push-in-DocumentStart-clause-answers : goal.returns-in_ok-push-in-DocumentStart-clause-answers
 returns-in_ok-push-in-DocumentStart-clause-answers g c = λ names given h.
     let d = c.in_ok-next.ensures.at names given (directives_begin c.args.kind c.requires.looks c.requires.directive refl refl c.start_document.ensures.keep c.start_document.ensures.named c.start_document.ensures.own h) in
-    wrote _ given c.write.ensures (marked_begins _ (Goal.directed d.0) d.0 c.in_ok-next.ensures.peeked.0 c.in-DocumentStart.is c.skip-mark.ensures.mark refl refl refl (push_after c.skip-mark.ensures.took c.in_ok-push-in-DocumentStart.ensures.stayed) (directed_start _ d.0) refl d.1 d.1.code (ap (λ b. if b then Some Ev.document_start else None) d.1.pending))
+    wrote _ given c.write.ensures (marked_begins _ (Goal.directed d.0) d.0 c.in_ok-next.ensures.peeked.0 c.in-DocumentStart.is c.skip-mark.ensures.mark refl refl refl (push_after c.skip-mark.ensures.took c.in_ok-push-in-DocumentStart.ensures.stayed) ((document_turns _).directed_start d.0) refl d.1 d.1.code (ap (λ b. if b then Some Ev.document_start else None) d.1.pending))
 
 pub returns-in_default-clause-answers : goal.returns-in_default-clause-answers
 returns-in_default-clause-answers g c = λ names given h.

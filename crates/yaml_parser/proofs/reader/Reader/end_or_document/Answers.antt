@@ -1,4 +1,4 @@
-use Rattle.yaml_parser.proofs.Answering.{ap, DocumentStartToken, explicit_start, Goal, marked_begins, [], explicit_outside, explicit_refuses, explicit_right, explicit_ways, faulted_as, goes_apart, kind_of, not_as, push_after, refl, refuses_for, says_explicit, stream_ends, wrote}
+use Rattle.yaml_parser.proofs.Answering.{ap, DocumentStartToken, Goal, marked_begins, [], explicit_outside, explicit_refuses, explicit_right, explicit_ways, faulted_as, goes_apart, kind_of, not_as, push_after, refl, refuses_for, says_explicit, stream_ends, wrote, document_turns}
 use Rattle.yaml_parser.proofs.reader.Reader.end_or_document.Goals as goal
 
 pub returns-in-StreamEnd-clause-answers : goal.returns-in-StreamEnd-clause-answers
@@ -6,7 +6,7 @@ returns-in-StreamEnd-clause-answers g c = λ names given h. wrote _ given c.writ
 
 pub returns-in_ok-push-in-DocumentStart-clause-answers : goal.returns-in_ok-push-in-DocumentStart-clause-answers
 returns-in_ok-push-in-DocumentStart-clause-answers g c = λ names given h.
-    wrote _ given c.write-in-DocumentStart.ensures (marked_begins _ Goal.explicit [] c.requires c.in-DocumentStart.is c.skip-mark.ensures.mark refl refl c.start_document.ensures.keep (push_after c.skip-mark.ensures.took c.in_ok-push-in-DocumentStart.ensures.stayed) (explicit_start _) refl h (c.start_document.ensures.named names h.code) refl)
+    wrote _ given c.write-in-DocumentStart.ensures (marked_begins _ Goal.explicit [] c.requires c.in-DocumentStart.is c.skip-mark.ensures.mark refl refl c.start_document.ensures.keep (push_after c.skip-mark.ensures.took c.in_ok-push-in-DocumentStart.ensures.stayed) (document_turns _).explicit_start refl h (c.start_document.ensures.named names h.code) refl)
 
 pub returns-in_default-clause-answers : goal.returns-in_default-clause-answers
 returns-in_default-clause-answers g c = λ names given h.

@@ -1,11 +1,11 @@
-use Rattle.yaml_parser.proofs.Answering.{answers_err, ap, DocumentStartToken, false, faulted_as, gives, Goal, is_open, names_nothing, not_as, nothing_given, nothing_taken, push_after, refl, refuses_for, says_start, start_refuses, start_takes, wrote}
+use Rattle.yaml_parser.proofs.Answering.{answers_err, ap, DocumentStartToken, false, faulted_as, gives, Goal, is_open, names_nothing, not_as, nothing_given, nothing_taken, push_after, refl, refuses_for, says_start, start_refuses, wrote, document_turns}
 use Rattle.yaml_parser.proofs.reader.Reader.stream_start.Goals as goal
 
 pub returns-in_err-next-clause-answers : goal.returns-in_err-next-clause-answers
 returns-in_err-next-clause-answers g c = λ names given h. answers_err c.peek.new.self given c.from_residual.result _ c.peek.new.slot c.from_residual.ensures.1 (c.in_err-next.ensures.err Goal.start refl names given h)
 
 pub returns-in_ok-push-in-StreamStart-clause-answers : goal.returns-in_ok-push-in-StreamStart-clause-answers
-returns-in_ok-push-in-StreamStart-clause-answers g c = λ names given h. wrote _ given c.write.ensures (gives _ c.in_ok-next.ensures.peeked c.in-StreamStart.is refl c.skip-mark.ensures.mark (push_after c.skip-mark.ensures.took c.in_ok-push-in-StreamStart.ensures.stayed) (start_takes _) (names_nothing refl refl refl) (λ b k. refl) (λ o. tt) refl refl (c.in_ok-next.ensures.at Goal.start refl names given h))
+returns-in_ok-push-in-StreamStart-clause-answers g c = λ names given h. wrote _ given c.write.ensures (gives _ c.in_ok-next.ensures.peeked c.in-StreamStart.is refl c.skip-mark.ensures.mark (push_after c.skip-mark.ensures.took c.in_ok-push-in-StreamStart.ensures.stayed) (document_turns _).start_takes (names_nothing refl refl refl) (λ b k. refl) (λ o. tt) refl refl (c.in_ok-next.ensures.at Goal.start refl names given h))
 
 pub returns-in_default-clause-answers : goal.returns-in_default-clause-answers
 returns-in_default-clause-answers g c = λ names given h.
