@@ -5,7 +5,7 @@ use Rattle.model_parser.proofs.Completions.{all_complete}
 use Rattle.model_parser.proofs.Falls.{grammar_completes}
 use Rattle.model_parser.proofs.Steps.{Sound, step_sound}
 use Rattle.model_parser.proofs.Places.{plain_work, plain_before}
-use Rattle.model_parser.proofs.Quiet.{is_quiet, work_quiet, quiet_placed, plain_placed, placed_row}
+use Rattle.model_parser.proofs.Quiet.{any_held, is_quiet, work_quiet, quiet_placed, plain_placed, placed_row}
 use Rattle.defs_event.specs.Stream as places
 use Rattle.defs_event.specs.Grammar as table
 
@@ -19,10 +19,10 @@ and_saying (Some e) w = saying e ∷ w
 pub record Reads (w : Works) (t : Tok) (e : Option Raw) (w' : Works) : Type 0 where
   pub back : (ts : List Tok) (es : List Raw) → Derives grammar w' ts es → Derives grammar w (t ∷ ts) (event_then e es)
   pub on : (ts : List Tok) (es : List Raw) → Derives grammar w (t ∷ ts) es → (fs : List Raw) × (es ≡ event_then e fs) × Derives grammar w' ts fs
-  pub places : is_quiet w ≡ true → is_quiet w' ≡ true → (x : Extent) (b : Option Position) (k : Token) (m : Position) → k.tok ≡ t → IsAt b k e m
+  pub places : is_quiet any_held w ≡ true → is_quiet any_held w' ≡ true → (x : Extent) (b : Option Position) (k : Token) (m : Position) → k.tok ≡ t → IsAt b k e m
       → (ts : List Token) (es : List (Raw × Position)) → Places x (Some k.position) (placed w') ts es → Places x b (placed w) (k ∷ ts) (event_at e m es)
 
-saying_at : (e : Option Raw) (w : Works) (b : Option Position) (k : Token) (m : Position) → IsAt b k e m → is_quiet w ≡ true → (x : Extent) (c : Option Position) (ts : List Token) (es : List (Raw × Position))
+saying_at : (e : Option Raw) (w : Works) (b : Option Position) (k : Token) (m : Position) → IsAt b k e m → is_quiet any_held w ≡ true → (x : Extent) (c : Option Position) (ts : List Token) (es : List (Raw × Position))
     → Places x c (placed w) ts es → Places x c (placed_by (position_at k b) (and_saying e w)) ts (event_at e m es)
 saying_at None w b k m at q x c ts es d = subst (λ v. Places x c v ts es) (sym (quiet_placed k b w q)) d
 saying_at (Some y) w b k m at q x c ts es d = places.says at (subst (λ v. Places x c v ts es) (sym (quiet_placed k b w q)) d)
@@ -134,7 +134,7 @@ steps_at (suc n) x b k m (reading g h ∷ w) = by (row_of (cases g) k.tok) refl 
 each_one : (b : Option Position) (k : Token) (e : Option Raw) (m : Position) (fs : List (Raw × Position)) → IsAt b k e m → each_at (λ x. or_at m (position_at k b x)) (event_list e) fs ≡ event_at e m fs
 each_one b k e m fs at = grind arith
 
-pub leads_at : (n : ℕ) (w : Works) (e : Option Raw) (w' : Works) (x : Extent) (b : Option Position) (k : Token) (m : Position) → is_quiet w ≡ true → is_quiet w' ≡ true → IsAt b k e m → steps n k.tok w ≡ (event_list e, w')
+pub leads_at : (n : ℕ) (w : Works) (e : Option Raw) (w' : Works) (x : Extent) (b : Option Position) (k : Token) (m : Position) → is_quiet any_held w ≡ true → is_quiet any_held w' ≡ true → IsAt b k e m → steps n k.tok w ≡ (event_list e, w')
     → (ts : List Token) (fs : List (Raw × Position)) → Places x b (placed w') (k ∷ ts) fs → Places x b (placed w) (k ∷ ts) (event_at e m fs)
 leads_at n w e w' x b k m q q' at h ts fs d =
     let y = subst (StaysAt x b k m w) h (steps_at n x b k m w) ts fs (subst (λ v. Places x b v (k ∷ ts) fs) (sym (quiet_placed k b w' q')) d) in

@@ -1,5 +1,5 @@
 -- The words and lemmas that the answers of functions use, passed on from one place. Declares nothing.
-pub use Rattle.yaml_parser.proofs.Arms.{answers_err, answers_written, as_kind, either, faulted_as, gives, gives_past, goes, goes_by, leaves, leaves_at, names_nothing, no_key, not_as, on_err, one_of, one_of_five, one_of_four, push_after, stay, stay_push, stays, under_no_colon, went, wrote, wrote_event}
+pub use Rattle.yaml_parser.proofs.Arms.{answers_written, as_kind, either, faulted_as, is_error, passes, fails, gives, gives_past, goes, goes_by, leaves, leaves_at, names_nothing, no_key, not_as, on_err, one_of, one_of_five, one_of_four, push_after, stay, stay_push, stays, under_no_colon, went, wrote, wrote_event}
 pub use Rattle.yaml_parser.proofs.DocumentArms.{bare_begins, marked_begins, directing_on, directives_begin, not_directive, stream_ends, tag_directive_taken, version_refused, version_taken}
 pub use Rattle.yaml_parser.proofs.Ends.{refuses, refuses_for}
 pub use Rattle.yaml_parser.proofs.Holding.{advances_err, begun, failed, failed_as, keeps, kept_again, pulled}
@@ -10,7 +10,7 @@ pub use Rattle.yaml_parser.proofs.Nesting.{directed_outside, explicit_outside, n
 pub use Rattle.yaml_parser.proofs.NodeArms.{alias_taken, alias_text, alias_unknown, anchor_before, anchor_text, bare, BeginsNoBlock, block_alone, breaks_none, HasNoProperties, in_flow, is_some_of, nothing_there, pending_same, properties_left, resolve_fails, scalar_taken, starts, tag_unknown, tag_unknown_after, taken_with, with_number}
 pub use Rattle.yaml_parser.proofs.Openings.{look_fails}
 pub use Rattle.yaml_parser.proofs.Pairs.{answers_plain, at_same, if_none, key_taken, value_taken}
-pub use Rattle.yaml_parser.proofs.Parsing.{advanced, all_noted, event_given, fault_given, fault_holds, fault_misplaced, fresh_holds, given_at_once, given_holds, looks_err, misplaced_holds, next_holds, next_waits, none_waits, not_closed, seen, settings_hold, stopped, waits_still}
+pub use Rattle.yaml_parser.proofs.Parsing.{advanced, all_noted, event_given, fault_met, fault_misplaced, fresh_holds, given_at_once, given_holds, looks_err, misplaced_holds, next_read, none_waits, not_closed, seen, settings_hold, stopped, waits_still}
 pub use Rattle.yaml_parser.proofs.Says.{says_after, says_directed, says_explicit, says_inside, says_node, says_start}
 pub use Rattle.yaml_parser.proofs.Steps.{if_some_at, looked, looks_on}
 pub use Rattle.yaml_parser.proofs.Ways.{after_goes_apart, content_ways, directed_ways, entries_ways, explicit_right, explicit_ways, goes_apart, key_pairs_ways, more_flow_pairs_ways, more_items_ways}

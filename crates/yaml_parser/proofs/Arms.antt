@@ -1,9 +1,8 @@
 -- The arms of the productions.
-use Rattle.yaml_parser.proofs.Common.{arith, [], BlockMappingKey, fits, answered, Answers, ap, At, BeginAt, Bool, Err, Ev, Event, EventSlot, false, Faulted, Goal, goal_after_event, HasNoText, IfSome, inl, inr, is_end, is_over, is_under, IsAt, IsErrAnd, IsNamed, IsOfKind, IsPastColon, IsPending, Kind, kind_of, last_position, Leaves, List, Names, names_after, names_at, None, Ok, OnErr, Option, option_map, peeked_tok, placed, Position, position_at, Raw, Reader, refl, resolved_event, Result, shown, Skips, Some, State, Stayed, Fault, subst, sym, Takes, Tok, tok_is, tok_of, tok_of_kind, Token, Took, top, true, ◌++◌, ◌∙◌, ◌∷◌, ◌≡◌, ◌≢◌, ◌⊎◌}
+use Rattle.yaml_parser.proofs.Common.{arith, [], BlockMappingKey, fits, answered, Answers, ap, At, BeginAt, Bool, Err, Ev, Event, EventSlot, false, Faulted, Goal, goal_after_event, HasNoText, IfSome, inl, inr, is_end, is_over, is_under, IsAt, IsErrAnd, IsErr, Carries, Passes, IsNamed, IsOfKind, IsPastColon, IsPending, Kind, kind_of, last_position, Leaves, List, Names, names_after, names_at, None, Ok, OnErr, Option, option_map, peeked_tok, placed, Position, position_at, Raw, Reader, refl, resolved_event, Result, shown, Skips, Some, State, Stayed, Fault, subst, sym, Takes, Tok, tok_is, tok_of, tok_of_kind, Token, Took, top, true, ◌++◌, ◌∙◌, ◌∷◌, ◌≡◌, ◌≢◌, ◌⊎◌}
 use Rattle.yaml_parser.proofs.Steps.{looked, took, took_on, left, left_on, Named, breaks, if_some_at}
 use Rattle.defs_token.specs.Token as defs
 use Rattle.model_parser.specs.declared.kind.Kind.TheVariants as kind
-use Rattle.model_parser.specs.declared.state.State.TheVariants as state
 
 -- the token at hand is taken, and this is what there is after it
 abbrev pub Skipped : {T : Type 0} → Reader T → Reader T → List State → Type 0
@@ -139,9 +138,17 @@ pub on_err : {A E : Type 0} (P : Type 0) (r : Result A E) → P → OnErr r P
 on_err P (Ok e) f = tt
 on_err P (Err e) f = f
 
-pub answers_err : {T E : Type 0} (p : Reader T) (given : List (Ev × Position)) (r : Result (Unit {0}) E) (x : E) (slot : EventSlot) → IsErrAnd r (λ e. e ≡ x) → Faulted p given slot.fault → Answers p given (answered r slot)
-answers_err {T} p given (Ok u) x slot h f = absurd h
-answers_err {T} p given (Err e) x slot h f = f
+pub fails : {T E : Type 0} (p : Reader T) (given : List (Ev × Position)) (r : Result (Unit {0}) E) (slot : EventSlot) → IsErr r → Faulted p given slot.fault → Answers p given (answered r slot)
+fails {T} p given (Ok u) slot h f = cc
+fails {T} p given (Err e) slot h f = f
+
+pub is_error : {A E : Type 0} (r : Result A E) (x : E) → IsErrAnd r (λ e. e ≡ x) → IsErr r
+is_error (Ok u) x h = absurd h
+is_error (Err e) x h = refl
+
+-- What is awaited is carried on.
+pub passes : {T : Type 0} {g : Goal} {old new : Reader T} → Carries g old new → Passes g old new
+passes carries = λ final result slot f. record { so = λ names given a. f.so names given (carries names given a) }
 
 pub answers_written : {T : Type 0} (p : Reader T) (given : List (Ev × Position)) (r : Event × Position) {x : Ev × Position} → placed r ≡ x
     → ((names : Names) × At (goal_after_event x.0) p names (given ++ x ∷ [])) → Answers p given (Ok r)

@@ -45,11 +45,11 @@ pub use Rattle.std.proofs.lemmas.List.{length-append, map-append, nil_from_lengt
 pub use Rattle.std.proofs.lemmas.Slice.Eq.{bytes_eq-Decides}
 pub use Rattle.std.specs.BTreeMap.{BTreeMap, get_by_text}
 pub use Rattle.std.specs.Option.{IfNone, IfSome, IsSome}
-pub use Rattle.std.specs.Result.{IfErr, IsErrAnd, OnErr, OnOk}
+pub use Rattle.std.specs.Result.{IfErr, IsErr, IsErrAnd, OnErr, OnOk}
 pub use Rattle.std.specs.declared.alloc.Global.{Global}
 pub use Rattle.yaml_parser.specs.Ahead.{indicator_of, scalar_of, Skips, SkipsOne, TakesBoth}
 pub use Rattle.yaml_parser.specs.Apart.{GoesApart, GoesOnBy, GoesOnWith, IsOpen, SaysBefore, StandsApart, StandsBefore, token_at, two_that_come}
-pub use Rattle.yaml_parser.specs.At.{answered, Answers, At, Carries, Fails, Faulted, goal_after_event, is_done, is_idle, is_over, is_pair_end, IsPastColon, IsPending, named_by, names_at, names_by, Reads, Stayed, Took}
+pub use Rattle.yaml_parser.specs.At.{answered, Answers, At, Carries, Passes, Stops, Fails, Faulted, goal_after_event, is_done, is_idle, is_over, is_pair_end, IsPastColon, IsPending, named_by, names_at, names_by, Reads, Stayed, Took}
 pub use Rattle.yaml_parser.specs.Blames.{Blames, EndsInAnchor, fits, HasUndeclaredHandle, HasUnknownAnchor, is_of_names, IsCause, problem_at, problem_for, problem_in, problem_of, SpoilsDirectives, StandsAt}
 pub use Rattle.yaml_parser.specs.Declares.{Declares, HasRead}
 pub use Rattle.yaml_parser.specs.Derived.{IsDerived, stood}

@@ -137,7 +137,7 @@ pub pulled : {T E : Type 0} (p r : Reader T) (s : State) (ss : List State) (es :
 pulled {T} p r s ss es slot k h x reads bounds notes =
     let e = slot.next in
     let o = open_at (has_end es) p s ss h x.here in
-    let a = answered_at r es e o.0 (reads x.names es (popped p s ss h o.1)) in
+    let a = answered_at r es e o.0 (reads.so x.names es (popped p s ss h o.1)) in
     let keep : r.names.keeping ≡ p.names.keeping = bounds.input.keeping in
     let less : work r + 1 ≤ work (record p { stack = ss }) + weight s = bounds.bound in
     let popped_is = popped_work p s ss h in

@@ -114,48 +114,43 @@ fault_open {T} p es (Some k) h x = x
 abbrev IsKnownSteady : Keeping → Type 0
 IsKnownSteady k = k.steady ≡ true → AreAll k.tags k.settings.items
 
--- A fault is met.
-pub fault_holds : {T : Type 0} (pull new : EventReader T) (given : List (Ev × Position)) (current : Option (Event × Position)) (started ended : Bool) (misplaced : Option Position) {f : ErrorReport}
-    → Holds pull given (option_map placed current) started ended misplaced → is_some current ≡ false
-    → Continues pull (read_so given ended (option_map placed current)) (Err f) new → fault_kept new ≡ Some f → Holds new given (option_map placed current) started ended misplaced
-fault_holds {T} pull new given current started ended misplaced {f} h none x kept =
-    let going : ended ≡ false = sym (end_known given current ended h.end none) ∙ fault_open new.reader (read_so given ended (option_map placed current)) new.kept kept x.1 in
-    record {
-      held = x.1;
-      steady = subst IsKnownSteady (sym x.0) h.steady;
-      first = h.first;
-      end = h.end;
-      clear = λ b. let no : is_some (option_map placed current) ≡ false = ap (λ o. is_some (option_map placed o)) (none_if current none) in absurd (both_ways (is_some (option_map placed current)) no b);
-      over = λ b. absurd (both_ways ended going b);
-    }
-
 err_same : {x y : ErrorReport} → ◌≡◌ {A = Result (Event × Position) ErrorReport} (Err x) (Err y) → x ≡ y
 err_same {x} {y} h = cc
 
 none_before : {A B : Type 0} (f : A → B) (o : Option A) → option_map f o ≡ None → o ≡ None
 none_before f o h = grind arith
 
-pub fault_given : {T : Type 0} (pull new : EventReader T) (given : List (Ev × Position)) (current : Option (Event × Position)) (started ended : Bool) (misplaced : Option Position) (f : ErrorReport)
+-- A fault is met.
+pub fault_met : {T : Type 0} (pull new : EventReader T) (given : List (Ev × Position)) (current : Option (Event × Position)) (started ended : Bool) (misplaced : Option Position) (f : ErrorReport)
     → Holds pull given (option_map placed current) started ended misplaced → is_some current ≡ false → misplaced ≡ None
     → Continues pull (read_so given ended (option_map placed current)) (Err f) new → fault_kept new ≡ Some f
     → IfSome (fault_kept pull) (λ g. (◌≡◌ {A = Result (Event × Position) ErrorReport} (Err f) (Err g)) × (new ≡ pull))
-    → GivesFault (seen pull given current started ended misplaced) f (seen new given current started ended misplaced)
-fault_given {T} pull new given current started ended misplaced f h none clear x kept again =
+    → Holds new given (option_map placed current) started ended misplaced × GivesFault (seen pull given current started ended misplaced) f (seen new given current started ended misplaced)
+fault_met {T} pull new given current started ended misplaced f h none clear x kept again =
     let es = read_so given ended (option_map placed current) in
     let keeping = x.0 in
     let going : ended ≡ false = sym (end_known given current ended h.end none) ∙ fault_open new.reader es new.kept kept x.1 in
-    let ahead : option_map placed current ≡ None = ap (option_map placed) (none_if current none) in
-    record {
-      fault = ap (λ m. fault_of_all m new) clear ∙ kept;
-      given = refl;
-      started = refl;
-      ended = (going, going);
-      ahead = (ahead, ahead);
-      settings = record { keep_tags = ap (λ k. k.tags) keeping; steady = ap (λ k. k.steady) keeping };
-      noted = ap (λ k. k.settings.items) keeping;
-      again = subst (λ m. IfSome (fault_of_all m pull) (λ g. (f ≡ g) × (seen new given current started ended misplaced ≡ seen pull given current started ended misplaced))) (sym clear) (again_seen (fault_kept pull) again);
-      why = why;
-    }
+    let ahead : option_map placed current ≡ None = ap (option_map placed) (none_if current none) in (
+      record {
+        held = x.1;
+        steady = subst IsKnownSteady (sym keeping) h.steady;
+        first = h.first;
+        end = h.end;
+        clear = λ b. absurd (both_ways (is_some (option_map placed current)) (ap is_some ahead) b);
+        over = λ b. absurd (both_ways ended going b);
+      },
+      record {
+        fault = ap (λ m. fault_of_all m new) clear ∙ kept;
+        given = refl;
+        started = refl;
+        ended = (going, going);
+        ahead = (ahead, ahead);
+        settings = record { keep_tags = ap (λ k. k.tags) keeping; steady = ap (λ k. k.steady) keeping };
+        noted = ap (λ k. k.settings.items) keeping;
+        again = subst (λ m. IfSome (fault_of_all m pull) (λ g. (f ≡ g) × (seen new given current started ended misplaced ≡ seen pull given current started ended misplaced))) (sym clear) (again_seen (fault_kept pull) again);
+        why = why;
+      },
+    )
   where
     why : (seen pull given current started ended misplaced).fault ≡ None → Explains f (seen new given current started ended misplaced)
     why b =
@@ -221,40 +216,30 @@ next_held {T} pull new given current started ended e end held none (k, l, inr b)
       known = more_known pull.reader.names.keeping new.reader.names.keeping b.2;
     }
 
-pub next_holds : {T : Type 0} (pull new : EventReader T) (given : List (Ev × Position)) (current : Option (Event × Position)) (started ended : Bool) (misplaced : Option Position) (e : Event × Position)
+-- An event is read, and waits.
+pub next_read : {T : Type 0} (pull new : EventReader T) (given : List (Ev × Position)) (current : Option (Event × Position)) (started ended : Bool) (misplaced : Option Position) (e : Event × Position)
     → Holds pull given (option_map placed current) started ended misplaced → is_some current ≡ false → misplaced ≡ None
-    → Continues pull (read_so given ended (option_map placed current)) (Ok e) new → Holds new given (Some (placed e)) started ended misplaced
-next_holds {T} pull new given current started ended misplaced e h none clear x =
-    let n = next_held pull new given current started ended e h.end h.held none x in
-    record {
-      held = n.held;
-      steady = n.known h.steady;
-      first = h.first;
-      end = h.end;
-      clear = λ b. (n.after, clear);
-      over = λ b. (n.after, clear, n.over b);
-    }
-
-pub next_waits : {T : Type 0} (pull new : EventReader T) (given : List (Ev × Position)) (current : Option (Event × Position)) (started ended : Bool) (misplaced : Option Position) (e : Event × Position)
-    → Holds pull given (option_map placed current) started ended misplaced → is_some current ≡ false → misplaced ≡ None
-    → Continues pull (read_so given ended (option_map placed current)) (Ok e) new → Waits (seen pull given current started ended misplaced) (seen new given (Some e) started ended misplaced)
-next_waits {T} pull new given current started ended misplaced e h none clear x =
+    → Continues pull (read_so given ended (option_map placed current)) (Ok e) new
+    → Holds new given (Some (placed e)) started ended misplaced × Waits (seen pull given current started ended misplaced) (seen new given (Some e) started ended misplaced)
+next_read {T} pull new given current started ended misplaced e h none clear x =
     let n = next_held pull new given current started ended e h.end h.held none x in
     let ahead : is_some (option_map placed current) ≡ false = ap (λ o. is_some (option_map placed o)) (none_if current none) in
-    let ks = pull.reader.names.keeping.settings.items in
-    record {
-      some = refl;
-      waited = λ b. absurd (both_ways (is_some (option_map placed current)) ahead b);
-      given = refl;
-      started = refl;
-      ended = refl;
-      over = n.over;
-      left = λ k. let less = n.less k in omega arith;
-      settings = record { keep_tags = n.tags; steady = n.steady };
-      noted = n.settings ∙ ap (λ b. if b || ended then ks else ks ++ pull.reader.names.keeping.tags ∷ []) (sym ahead);
-      clear = no_fault pull misplaced n.before clear;
-      sound = sound new given (Some e) started ended misplaced n.after clear n.held (n.known h.steady);
-    }
+    let ks = pull.reader.names.keeping.settings.items in (
+      record { held = n.held; steady = n.known h.steady; first = h.first; end = h.end; clear = λ b. (n.after, clear); over = λ b. (n.after, clear, n.over b) },
+      record {
+        some = refl;
+        waited = λ b. absurd (both_ways (is_some (option_map placed current)) ahead b);
+        given = refl;
+        started = refl;
+        ended = refl;
+        over = n.over;
+        left = λ k. let less = n.less k in omega arith;
+        settings = record { keep_tags = n.tags; steady = n.steady };
+        noted = n.settings ∙ ap (λ b. if b || ended then ks else ks ++ pull.reader.names.keeping.tags ∷ []) (sym ahead);
+        clear = no_fault pull misplaced n.before clear;
+        sound = sound new given (Some e) started ended misplaced n.after clear n.held (n.known h.steady);
+      },
+    )
 
 -- ---- an event is given
 
@@ -308,21 +293,20 @@ pub given_at_once : {T : Type 0} (pull new : EventReader T) (given more : List (
 given_at_once {T} pull new given more current started ended ended' misplaced e h none clear x noted end =
     let no = none_if current none in
     let less = (next_held pull new given current started ended e h.end h.held none x).less in
-    let read = next_waits pull new given current started ended misplaced e h none clear x in
-    let held = next_holds pull new given current started ended misplaced e h none clear x in
-    let gives = event_given new given more e started ended ended' misplaced held noted end in (
-      subst (λ o. Holds new more (option_map placed o) true ended' misplaced) (sym no) (given_holds new given more (placed e) started ended ended' misplaced held noted end),
+    let read = next_read pull new given current started ended misplaced e h none clear x in
+    let gives = event_given new given more e started ended ended' misplaced read.0 noted end in (
+      subst (λ o. Holds new more (option_map placed o) true ended' misplaced) (sym no) (given_holds new given more (placed e) started ended ended' misplaced read.0 noted end),
       record {
         given = noted;
         ended = end;
         started = refl;
         ahead = ap (option_map placed) no;
         waited = subst (λ o. IfSome (option_map placed o) (λ y. placed e ≡ y)) (sym no) tt;
-        over = read.over;
+        over = read.1.over;
         left = λ k. let w = less k in omega arith;
-        settings = record { keep_tags = read.settings.keep_tags; steady = read.settings.steady };
-        noted = read.noted;
-        clear = read.clear;
+        settings = record { keep_tags = read.1.settings.keep_tags; steady = read.1.settings.steady };
+        noted = read.1.noted;
+        clear = read.1.clear;
         sound = subst (λ o. IsSound (seen new more o true ended' misplaced)) (sym no) gives.sound;
       },
     )
@@ -378,8 +362,8 @@ stopped {T} pull mid new given current started ended misplaced s f {v} view h ah
     let before : fault_kept pull ≡ None = ap (option_map (λ x. fault_seen x.0 x.1 (scanned pull.reader.tokens.scanner).fault)) c.0 in
     let x : Continues pull es (Err f) new = (ap (λ r. r.names.keeping) reader ∙ a.0, y.0, λ b. y.1) in
     let again = subst (λ o. IfSome o (λ g. (◌≡◌ {A = Result (Event × Position) ErrorReport} (Err f) (Err g)) × (new ≡ pull))) (sym before) tt in
-    let y = fault_given pull new given current started ended misplaced f h none c.1 x kept again in
-    (fault_holds pull new given current started ended misplaced h none x kept, subst (λ u. GivesFault u f (seen new given current started ended misplaced)) view y)
+    let y = fault_met pull new given current started ended misplaced f h none c.1 x kept again in
+    (y.0, subst (λ u. GivesFault u f (seen new given current started ended misplaced)) view y.1)
 
 -- ---- a setting
 
