@@ -1,5 +1,6 @@
 -- The arms of the productions.
-use Rattle.yaml_parser.proofs.Common.{arith, [], BlockMappingKey, fits, answered, Answers, ap, At, BeginAt, Bool, Err, Ev, Event, EventSlot, false, Faulted, Goal, goal_after_event, HasNoText, IfSome, inl, inr, is_end, is_over, is_under, IsAt, IsErrAnd, IsErr, Carries, Passes, IsNamed, IsOfKind, IsPastColon, IsPending, Kind, kind_of, last_position, Leaves, List, Names, names_after, names_at, None, Ok, OnErr, Option, option_map, peeked_tok, placed, Position, position_at, Raw, Reader, refl, resolved_event, Result, shown, Skips, Some, State, Stayed, Fault, subst, sym, Takes, Tok, tok_is, tok_of, tok_of_kind, Token, Took, top, true, ◌++◌, ◌∙◌, ◌∷◌, ◌≡◌, ◌≢◌, ◌⊎◌}
+use Rattle.yaml_parser.proofs.Common.{all_shown, behind, IsRightAfter, Tokens, arith, [], BlockMappingKey, fits, answered, Answers, ap, At, BeginAt, Bool, Err, Ev, Event, EventSlot, false, Faulted, Goal, goal_after_event, HasNoText, IfSome, inl, inr, is_end, is_over, is_under, IsAt, IsErrAnd, IsErr, Carries, Passes, IsNamed, IsOfKind, IsPastColon, IsPending, Kind, kind_of, last_position, Leaves, List, Names, names_after, names_at, None, Ok, OnErr, Option, option_map, peeked_tok, placed, Position, position_at, Raw, Reader, refl, resolved_event, Result, shown, Skips, Some, State, Stayed, Fault, subst, sym, Takes, Tok, tok_is, tok_of, tok_of_kind, Token, Took, top, true, ◌++◌, ◌∙◌, ◌∷◌, ◌≡◌, ◌≢◌, ◌⊎◌}
+use Rattle.yaml_parser.proofs.Positions.{behind_more}
 use Rattle.yaml_parser.proofs.Steps.{looked, took, took_on, left, left_on, Named, breaks, if_some_at}
 use Rattle.defs_token.specs.Token as defs
 use Rattle.model_parser.specs.declared.kind.Kind.TheVariants as kind
@@ -165,24 +166,12 @@ faulted_as {T} p given h f = subst (Faulted p given) (sym h) f
 
 -- ---- one of several kinds
 
-pub either : (P : Kind → Type 0) {k a b : Kind} → P a → P b → (k ≡ a) ⊎ (k ≡ b) → P k
-either P x y (inl h) = subst P (sym h) x
-either P x y (inr h) = subst P (sym h) y
-
-pub one_of : (P : Kind → Type 0) {k a b c : Kind} → P a → P b → P c → (k ≡ a) ⊎ ((k ≡ b) ⊎ (k ≡ c)) → P k
-one_of P x y z (inl h) = subst P (sym h) x
-one_of P x y z (inr h) = either P y z h
-
-pub one_of_four : (P : Kind → Type 0) {k a b c d : Kind} → P a → P b → P c → P d → (k ≡ a) ⊎ ((k ≡ b) ⊎ ((k ≡ c) ⊎ (k ≡ d))) → P k
-one_of_four P x y z w (inl h) = subst P (sym h) x
-one_of_four P x y z w (inr h) = one_of P y z w h
-
-pub one_of_five : (P : Kind → Type 0) {k a b c d e : Kind} → P a → P b → P c → P d → P e → (k ≡ a) ⊎ ((k ≡ b) ⊎ ((k ≡ c) ⊎ ((k ≡ d) ⊎ (k ≡ e)))) → P k
-one_of_five P x y z w v (inl h) = subst P (sym h) x
-one_of_five P x y z w v (inr h) = one_of_four P y z w v h
-
 pub as_kind : (test : Kind → Bool) {b : Bool} {k k' : Kind} → test k ≡ b → k' ≡ k → test k' ≡ b
 as_kind test e h = ap test h ∙ e
+
+pub one_of : {A : Type 0} (test : Kind → Bool) {b : Bool} {k a : Kind} → test a ≡ b → (A → test k ≡ b) → (k ≡ a) ⊎ A → test k ≡ b
+one_of test x f (inl h) = as_kind test x h
+one_of test x f (inr h) = f h
 
 pub not_as : {k k' x : Kind} → k ≢ x → k' ≡ k → k' ≢ x
 not_as a h e = a (sym h ∙ e)
@@ -194,3 +183,14 @@ names_nothing a b c = record { resolves = a; after_it = b; seen = c }
 
 pub no_key : (k : Kind) → k ≢ kind.Key → k ≢ kind.BlockEnd → fits BlockMappingKey k ≡ true
 no_key k a b = grind arith
+
+-- ---- after a comma
+
+-- A comma is taken.
+pub comma_skipped : {T : Type 0} {m : Position} {p r : Reader T} (k : Kind) {ss : List State} → IsOfKind k p.tokens.peeked → IfSome p.tokens.peeked (λ t. t.0 ≡ m) → Skipped p r ss → IsRightAfter m r.tokens
+comma_skipped {T} {m} {p} {r} k o mark s =
+    let l = looked k p.tokens.peeked o in
+    behind_more p.tokens.taken.items l.0 r.tokens.taken.items (s l.0 l.1).tokens.taken ∙ ap Some (if_some_at (λ (u : Token). u.0 ≡ m) mark l.1)
+
+pub still_after : {T : Type 0} {m : Position} (p r : Tokens T) → r.taken ≡ p.taken → IsRightAfter m p → IsRightAfter m r
+still_after p r same after = ap (λ x. behind None (all_shown x.items)) same ∙ after

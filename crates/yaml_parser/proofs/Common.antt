@@ -2,7 +2,7 @@
 pub use Rattle.defs_event.proofs.NameLemmas.{after_append, append_named, both_some, named_append, NamedFirst}
 pub use Rattle.defs_event.proofs.Shaped.{named_shaped, Shaped}
 pub use Rattle.defs_event.specs.Event.{Ev}
-pub use Rattle.defs_event.specs.Grammar.{cases, empty_event, event_of, grammar, Held, in_pair, key, nothing_held, Place}
+pub use Rattle.defs_event.specs.Grammar.{cases, empty_event, event_of, grammar, Held, in_pair, nothing_held, Place}
 pub use Rattle.defs_event.specs.Names.{are_allowed, at_document, both, declared, is_each_once, named, Names, names_after, names_after_all, no_names, number, perhaps_resolved, prefix_or_undeclared, resolved, resolved_event, undeclared, under_name, versions, with_anchor}
 pub use Rattle.defs_event.specs.Place.{block_mapping, block_sequence, Collection, directive_next, flow_mapping, flow_sequence, Next, next_after, node_next, open_after, other_next}
 pub use Rattle.defs_event.specs.Properties.{anchor_of, directive_token, directives_tokens, perhaps_anchor_of}
@@ -18,7 +18,7 @@ pub use Rattle.defs_token.specs.Toks.{toks}
 pub use Rattle.model_parser.proofs.Block.{after_key_empty, entries_refuses, indentless_entries_end, key_pairs_refuses, pairs_key, part_empty, part_has_node, block_turns}
 pub use Rattle.model_parser.proofs.Document.{after_refuses, after_unmarked, content_empty, directed_more, directed_refuses, documents_bare, documents_directives, documents_explicit, explicit_refuses, start_refuses, document_turns}
 pub use Rattle.model_parser.proofs.Endings.{end_events, end_tokens, ends_so, goes_so, past_tokens}
-pub use Rattle.model_parser.proofs.Falls.{after_text, after_text_events, grammar_completes, text, text_event}
+pub use Rattle.model_parser.proofs.Falls.{after_text_events, grammar_completes, text, text_event}
 pub use Rattle.model_parser.proofs.First.{not_document, not_entry, not_flow_key, not_flow_pair, not_indentless, not_item, not_item_key, not_part, tok_is}
 pub use Rattle.model_parser.proofs.Flow.{comma_flow_has_pair, flow_after_empty, flow_empties, flow_pair_node, flow_pairs_pair, flow_valued_empty, flow_valued_node, item_node, items_item, more_flow_refuses, more_items_refuses, pair_ends, pair_value_empty, flow_turns}
 pub use Rattle.model_parser.proofs.Nodes.{after_braces, after_brackets, after_dash, after_mapping, after_scalar, after_sequence, anchor_alone, anchor_tag, block_flow, node_anchor, node_tag, nothing_refuses, part_block, properties_only, tag_alone, tag_anchor}

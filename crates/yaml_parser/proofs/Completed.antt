@@ -49,14 +49,11 @@ is_some_value : {A : Type 0} (o : Option A) → IsSome o → (x : A) × (o ≡ S
 is_some_value None h = cc
 is_some_value (Some x) h = (x, refl)
 
-free_some : (s : Names) (e : Raw) → is_free e ≡ true → IsSome (resolved_event s e)
-free_some s e h = grind arith
-
 pub free_named : (keep : Bool) (es : List Raw) → are_free es ≡ true → AnyNameable keep es
 free_named keep [] h s = ([], refl)
 free_named keep (e ∷ es) h s =
     let p = and_parts (is_free e) (are_free es) h in
-    name_one keep s e es (is_some_value (resolved_event s e) (free_some s e p.0)).1 (free_named keep es p.1)
+    name_one keep s e es (is_some_value (resolved_event s e) (grind arith)).1 (free_named keep es p.1)
 
 -- Of work on a stack all holds nothing, and what is said is the end of a pair.
 abbrev holds_none : Held → Bool
@@ -154,14 +151,6 @@ may_end Goal.done (state.BlockMappingNextKey ∷ ss) h = refl
 may_end Goal.done (s ∷ ss) h = first_any Goal.done (s ∷ ss) (end_tokens (works (s ∷ ss))) (λ k. refl)
 may_end g ss h = first_any g ss (end_tokens (work_of g ss)) (λ k. refl)
 
-on_the_shortest : (g : Goal) (ss : List State) → is_barred g ≡ false → Completed g ss
-on_the_shortest g ss h = record {
-  tokens = end_tokens (work_of g ss);
-  events = end_events (work_of g ss);
-  awaits = (ends_so (work_of g ss), may_end g ss h);
-  nameable = λ keep s p. goal_named g ss keep s p;
-}
-
 -- by a scalar first
 by_text : (g : Goal) (ss : List State) (v : Works) → past_tokens (work_of g ss) (text ∷ []) ≡ Some ([], saying (text_event nothing_held) ∷ v) → may_begin g ss kind.Scalar ≡ true → is_plain v ≡ true → Completed g ss
 by_text g ss v h m p = record {
@@ -174,4 +163,9 @@ by_text g ss v h m p = record {
 pub completed : (g : Goal) (ss : List State) → Completed g ss
 completed Goal.item ss = by_text Goal.item ss _ refl refl (works_plain ss)
 completed (Goal.flow_pair s) ss = by_text (Goal.flow_pair s) ss _ refl refl (works_plain ss)
-completed g ss = on_the_shortest g ss refl
+completed g ss = record {
+  tokens = end_tokens (work_of g ss);
+  events = end_events (work_of g ss);
+  awaits = (ends_so (work_of g ss), may_end g ss refl);
+  nameable = λ keep s p. goal_named g ss keep s p;
+}

@@ -1,5 +1,5 @@
 -- The arms of the productions of documents.
-use Rattle.yaml_parser.proofs.Common.{[], all_shown, and_from, and_left, and_parts, and_right, ap, append-nil, append_assoc, are_allowed, arith, At, at_document, BeginAt, begins_node, Bool, Carries, declared, Declares, Derives, directed_more, Directing, Directive, directive_token, directives_tokens, DirectsTo, documents_directives, Err, Ev, events_of, false, Faulted, fits, Goal, grammar, HasRead, IfSome, if◌then◌else◌, inl, is_directive, is_each_once, is_end, is_of_names, is_over, IsAfter, IsCause, IsNamed, IsOfKind, IsOwn, Kind, kind_of, last_position, Leaves, List, lt-leb, named, nat_le, needs_tokens, none_by, None, Ok, Option, option_map, OutOfMemory, Position, Problem, Raw, Reader, reading, refl, RepeatedHandle, Result, taken_by, said_by, SecondVersion, shown, Skips, Some, SpoilsDirectives, Stayed, Fault, subst, sym, taken_toks, Takes, Tok, tok_is, tok_of, Token, Tokens, toks, true, UndeclaredHandle, versions, with_directives, Works, works, ℕ, ◌++◌, ◌+◌, ◌<◌, ◌∙◌, ◌∷◌, ◌≡◌, ◌≢◌, resolved_event, document_turns}
+use Rattle.yaml_parser.proofs.Common.{[], all_shown, and_from, and_left, and_parts, and_right, ap, append-nil, append_assoc, are_allowed, arith, At, at_document, BeginAt, Bool, Carries, declared, Declares, Derives, directed_more, Directing, Directive, directive_token, directives_tokens, DirectsTo, documents_directives, Err, Ev, events_of, false, Faulted, fits, Goal, grammar, HasRead, IfSome, if◌then◌else◌, inl, is_directive, is_each_once, is_end, is_of_names, is_over, IsAfter, IsCause, IsNamed, IsOfKind, IsOwn, Kind, kind_of, last_position, Leaves, List, lt-leb, named, nat_le, needs_tokens, none_by, None, Ok, Option, option_map, OutOfMemory, Position, Problem, Raw, Reader, reading, refl, RepeatedHandle, Result, taken_by, said_by, SecondVersion, shown, Skips, Some, SpoilsDirectives, Stayed, Fault, subst, sym, taken_toks, Takes, Tok, tok_is, tok_of, Token, Tokens, toks, true, UndeclaredHandle, versions, with_directives, Works, works, ℕ, ◌++◌, ◌+◌, ◌<◌, ◌∙◌, ◌∷◌, ◌≡◌, ◌≢◌, resolved_event, document_turns}
 use Rattle.yaml_parser.specs.declared.names.Names.{Names}
 use Rattle.yaml_parser.proofs.Steps.{looked, taken_snoc, took, took_on, left, left_as, if_some_at}
 use Rattle.yaml_parser.proofs.Arms.{Skipped, here_at, faulted_as}
@@ -11,7 +11,6 @@ use Rattle.yaml_tokens.specs.declared.problem.Fault.TheVariants as fault
 use Rattle.defs_event.specs.Raw as raw
 use Rattle.defs_event.specs.Names as defs
 use Rattle.model_parser.specs.declared.kind.Kind.TheVariants as kind
-use Rattle.model_parser.specs.declared.context.NodeContext.TheVariants as context
 use Rattle.model_parser.specs.declared.state.State.TheVariants as state
 use Rattle.defs_event.specs.Grammar as table
 
@@ -67,9 +66,6 @@ stream_ends {T} m {p} {r} {k} {names} {given} here h mark skip a =
 
 -- ---- directives
 
-no_node : (k : Kind) → is_directive k ≡ true → begins_node context.Block k ≡ false
-no_node k h = grind arith
-
 pub not_directive : (k : Kind) → k ≢ kind.VersionDirective → k ≢ kind.TagDirective → is_directive k ≡ false
 not_directive k a b = grind arith
 
@@ -81,7 +77,7 @@ directives_begin {T} {p} {q} k {names} {given} here h tokens stack keep starts o
     let e : is_directive (kind_of (tok_of l.0.1)) ≡ true = ap is_directive l.2 ∙ h in
     record {
       read = [];
-      here = left_as (ap (option_map (λ (x : Token). tok_of x.1)) l.1) tokens stack (documents_directives p.stack (tok_of l.0.1) e (no_node _ e)) keep
+      here = left_as (ap (option_map (λ (x : Token). tok_of x.1)) l.1) tokens stack (documents_directives p.stack (tok_of l.0.1) e (grind arith)) keep
           (subst (λ b. IsNamed q.names (at_document b.tags names [])) (sym keep) (starts names a.code)) refl refl tt a;
       own = own names a.code;
       version = refl;

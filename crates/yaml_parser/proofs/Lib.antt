@@ -3,7 +3,6 @@ pub mod Common
 mod ApartRows
 pub mod Arms
 pub mod Completed
-pub mod InFlow
 pub mod DirectiveLemmas
 pub mod DocumentArms
 pub mod Ends

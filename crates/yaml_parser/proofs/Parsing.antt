@@ -374,9 +374,6 @@ held_set {T} p k es (Some z) same x = x
 no_settings : {T : Type 0} (p : Reader T) (es : List (Ev × Position)) → IsHeld p es None → es ≡ [] → p.names.keeping.settings.items ≡ []
 no_settings {T} p es x h = nil_from_length p.names.keeping.settings.items (x.each ∙ ap length h)
 
-same_bool : (a b : Bool) → beq a b ≡ true → a ≡ b
-same_bool a b h = grind arith
-
 -- A setting that counts from the start on was made where nothing was read, or is what it was.
 pub settings_hold : {T : Type 0} (pull : EventReader T) (given : List (Ev × Position)) (current : Option (Event × Position)) (started ended : Bool) (misplaced : Option Position) (k : Keeping)
     → Holds pull given (option_map placed current) started ended misplaced
@@ -409,7 +406,7 @@ settings_hold {T} pull given current started ended misplaced k h steady same = r
         let one = and_parts (pull.reader.names.keeping.steady) (is_fresh (seen pull given current started ended misplaced) || beq k.tags pull.reader.names.keeping.tags) (sym steady ∙ s) in
         elim (or_cases (is_fresh (seen pull given current started ended misplaced)) (beq k.tags pull.reader.names.keeping.tags) one.1) [
           | inl a ↦ subst (AreAll k.tags) (sym (nothing_read a)) tt
-          | inr b ↦ subst (λ t. AreAll t pull.reader.names.keeping.settings.items) (sym (same_bool k.tags pull.reader.names.keeping.tags b)) (h.steady one.0)
+          | inr b ↦ subst (λ t. AreAll t pull.reader.names.keeping.settings.items) (sym (grind arith)) (h.steady one.0)
         ]
 
 -- ---- an event stands where a document must start

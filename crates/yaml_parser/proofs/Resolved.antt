@@ -1,9 +1,6 @@
 -- Events and the raw ones that they come of, side by side.
 use Rattle.yaml_parser.proofs.Common.{[], ap, Bool, both, both_some, Ev, List, named, named_shaped, named_since, NamedFirst, Names, names_after, Option, Raw, resolved_event, Shaped, Some, subst, sym, ◌++◌, ◌∷◌, ◌≡◌}
 
-alone : (k : Bool) (s : Names) (r : Raw) (v : Ev) → resolved_event s r ≡ Some v → Shaped (r ∷ []) (v ∷ [])
-alone k s r v h = named_shaped k s (r ∷ []) (v ∷ []) (ap (λ o. both o (Some [])) h)
-
 -- A resolved event has its raw one's shape.
 one_more : (r : Raw) (v : Ev) (rs : List Raw) (vs : List Ev) → Shaped (r ∷ []) (v ∷ []) → Shaped rs vs → Shaped (r ∷ rs) (v ∷ vs)
 one_more (Raw.alias name) v rs vs h k = (h.0, vs, cc, k)
@@ -18,7 +15,7 @@ one_more _ v rs vs h k = (vs, cc, k)
 
 -- the first event, and the shape of the others
 first_shaped : (k : Bool) (s : Names) (r : Raw) (rs : List Raw) (os : Option (List Ev)) (vs ws : List Ev) → (f : NamedFirst (resolved_event s r) os vs) → Shaped rs (f.more ++ ws) → Shaped (r ∷ rs) (vs ++ ws)
-first_shaped k s r rs os vs ws f x = subst (λ us. Shaped (r ∷ rs) (us ++ ws)) (sym f.whole) (one_more r f.event rs (f.more ++ ws) (alone k s r f.event f.is_first) x)
+first_shaped k s r rs os vs ws f x = subst (λ us. Shaped (r ∷ rs) (us ++ ws)) (sym f.whole) (one_more r f.event rs (f.more ++ ws) (named_shaped k s (r ∷ []) (f.event ∷ []) (ap (λ o. both o (Some [])) f.is_first)) x)
 
 -- Events, and others of this shape after them, have the shape of all.
 pub since_shaped : (ks : List Bool) (k : Bool) (s : Names) (rs more : List Raw) (vs ws : List Ev) → named_since ks k s rs ≡ Some vs → Shaped more ws → Shaped (rs ++ more) (vs ++ ws)

@@ -1,11 +1,11 @@
-use Rattle.yaml_parser.proofs.Answering.{as_kind, bare_begins, begins_node, documents_bare, documents_explicit, either, ends_document, false, is_directive, not_as, not_directive, not_document, refl, stay, stay_push, stays, true, wrote, ◌≡◌}
+use Rattle.yaml_parser.proofs.Answering.{as_kind, bare_begins, begins_node, documents_bare, documents_explicit, ends_document, is_directive, not_as, not_directive, not_document, refl, stay, stay_push, stays, wrote, one_of}
 use Rattle.model_parser.specs.declared.context.NodeContext.TheVariants as context
 use Rattle.yaml_parser.proofs.reader.Reader.document.Goals as goal
 
 pub returns-in-StreamEnd-clause-answers : goal.returns-in-StreamEnd-clause-answers
 returns-in-StreamEnd-clause-answers g c = record { so = λ names given h.
     c.end_or_document.ensures.answers.so names given (stays c.in_ok-next.ensures.peeked.0 stay
-    (λ t e. documents_explicit _ t (as_kind ends_document (either (λ k. ends_document k ≡ true) refl refl c.in-StreamEnd.is) e) (not_as c.in_ok-next.ensures.peeked.1 e) (as_kind (begins_node context.Block) (either (λ k. begins_node context.Block k ≡ false) refl refl c.in-StreamEnd.is) e))
+    (λ t e. documents_explicit _ t (as_kind ends_document (one_of ends_document refl (as_kind ends_document refl) c.in-StreamEnd.is) e) (not_as c.in_ok-next.ensures.peeked.1 e) (as_kind (begins_node context.Block) (one_of (begins_node context.Block) refl (as_kind (begins_node context.Block) refl) c.in-StreamEnd.is) e))
     refl tt (λ o. tt) refl (c.in_ok-next.ensures.at names given h)) }
 
 pub returns-in-VersionDirective-clause-answers : goal.returns-in-VersionDirective-clause-answers
