@@ -30,13 +30,8 @@ pub record Bare {T : Type 0} (g : Goal) (p : Reader T) (names : Names) (e : Raw)
   pub seen : names_at p.names.keeping.tags g names ≡ names
 
 plain_named : {T : Type 0} {g : Goal} {p r : Reader T} {names : Names} {e : Raw} {v : Ev} {given : List (Ev × Position)} → Bare g p names e v → r.names ≡ p.names → At g p names given → Named p r Goal.done names e v names
-plain_named {T} {g} {p} {r} {names} {e} {v} {given} y same a = record {
-  resolves = y.resolves;
-  after_it = y.after_it;
-  keep = ap (λ n. n.keeping) same;
-  code = subst (λ n. IsNamed n names) (sym same) (subst (IsNamed p.names) y.seen a.code);
-  pending = tt;
-}
+plain_named {T} {g} {p} {r} {names} {e} {v} {given} y same a =
+    assumption (ap (λ n. n.keeping) same, subst (λ n. IsNamed n names) (sym same) (subst (IsNamed p.names) y.seen a.code), y)
 
 -- ---- where it stands
 

@@ -42,9 +42,6 @@ toks_at m [] = refl
 toks_at m (t ∷ ts) = ap (λ us. t ∷ us) (toks_at m ts)
 
 -- something is still to be read where a token was looked at
-state_reads : (s : State) (ss : List State) → has_goal (work_of Goal.done (s ∷ ss)) ≡ true
-state_reads s ss = grind arith
-
 begin_ahead : {T : Type 0} (p : Reader T) (g : Goal) (names : Names) (given : List (Ev × Position)) (ts : List Tok) (es : List Raw) → At g p names given → Derives grammar (work_of g p.stack) ts es
     → BeginAt p.tokens.peeked (all_at (place_ahead p.tokens.peeked) ts)
 begin_ahead {T} p g names given ts es a d = by p.tokens.peeked refl ts d

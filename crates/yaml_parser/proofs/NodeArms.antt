@@ -43,13 +43,8 @@ made_resolves {mk} {f} {s} {o} {p} k h = k.resolves s _ _ ∙ ap (option_map (λ
 made_named : {T : Type 0} {p r : Reader T} {mk : Option (List ℕ) → Option event.Tag → Raw} {f : ℕ → Option event.Tag → Ev} {s : Names} {o : Option written.Properties} {x : Option Properties}
     → Makes mk f → Has s o x → r.names.keeping ≡ p.names.keeping → IsNamed r.names (with_anchor s (name_of x))
     → Named p r Goal.done s (mk (perhaps_anchor_of o) (perhaps_tag_of o)) (f (number s (name_of x)) (kept_tag x)) (with_anchor s (name_of x))
-made_named {T} {p} {r} {mk} {f} {s} {o} {x} k h keep code = record {
-  resolves = made_resolves k h;
-  after_it = k.after_it _ s _ _ ∙ ap (with_anchor s) h.anchor;
-  keep = keep;
-  code = code;
-  pending = tt;
-}
+made_named {T} {p} {r} {mk} {f} {s} {o} {x} k h keep code =
+    assumption (made_resolves k h, k.after_it p.names.keeping.tags s (perhaps_anchor_of o) (perhaps_tag_of o) ∙ ap (with_anchor s) h.anchor, keep, code)
 
 -- The start of a collection is taken, and its properties are registered.
 pub starts : {T E : Type 0} (m : Position) {p q : Reader T} (r : Reader T) {k k' : Kind} {w : positions.NodeContext} {o : Option written.Properties} {x : Option Properties} {ss : List State} (mk : Option (List ℕ) → Option event.Tag → Raw) (f : ℕ → Option event.Tag → Ev) {s : Names} {given : List (Ev × Position)} (res : Result (Unit {0}) E) (slot : EventSlot)

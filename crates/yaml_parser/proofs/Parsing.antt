@@ -1,6 +1,6 @@
 -- What is known of a parser, from call to call.
 use Rattle.std.specs.Bool.{beq}
-use Rattle.yaml_parser.proofs.Common.{[], Advances, all_placed, and_parts, ap, append-nil, AreAll, arith, Bool, both_ways, Continues, Err, ErrorReport, Ev, ev_of, Event, EventReader, events_left, Explains, false, false_from_ne_true, fault_kept, fault_of_all, fault_seen, GivesEvent, GivesFault, has_end, Holds, IfSome, if◌then◌else◌, inl, inr, is_fresh, is_some, is_stream_end, IsErrAnd, IsHeld, IsSound, Keeping, length, List, Looks, map-append, nil_from_length, no_document, None, not, not-true, Notes, Ok, Option, option_map, or_cases, Parsed, placed, Position, read_so, Reader, refl, Result, scanned, Some, stays_steady, Fault, subst, sym, true, Waits, work, ◌&&◌, ◌++◌, ◌<◌, ◌||◌, ◌∙◌, ◌∷◌, ◌≡◌, ◌≢◌}
+use Rattle.yaml_parser.proofs.Common.{IsSome, ◌≤◌, ◌+◌, [], Advances, all_placed, and_parts, ap, append-nil, AreAll, arith, Bool, both_ways, Continues, Err, ErrorReport, Ev, ev_of, Event, EventReader, events_left, Explains, false, false_from_ne_true, fault_kept, fault_of_all, fault_seen, GivesEvent, GivesFault, has_end, Holds, IfSome, if◌then◌else◌, inl, inr, is_fresh, is_some, is_stream_end, IsErrAnd, IsHeld, IsSound, Keeping, length, List, Looks, map-append, nil_from_length, no_document, None, not, not-true, Notes, Ok, Option, option_map, or_cases, Parsed, placed, Position, read_so, Reader, refl, Result, scanned, Some, stays_steady, Fault, subst, sym, true, Waits, work, ◌&&◌, ◌++◌, ◌<◌, ◌||◌, ◌∙◌, ◌∷◌, ◌≡◌, ◌≢◌}
 use Rattle.yaml_parser.proofs.Holding.{KnowsSteady, closed, keeps, failed_as, set_stands, held_sound, held_explained, has_end_snoc}
 use Rattle.yaml_parser.proofs.DirectiveLemmas.{none_if, some_map}
 use Rattle.yaml_parser.proofs.Since.{all_more}
@@ -59,19 +59,11 @@ pub waits_still : {T : Type 0} (pull : EventReader T) (given : List (Ev × Posit
 waits_still {T} pull given current started ended misplaced h some =
     let there = some_map placed current some in
     let c = h.clear there in
-    record {
-      some = there;
-      waited = λ b. refl;
-      given = refl;
-      started = refl;
-      ended = refl;
-      over = λ b. (h.over b).2;
-      left = if_any (option_map placed current) (λ e n. omega arith);
-      settings = record { keep_tags = refl; steady = refl };
-      clear = no_fault pull misplaced c.0 c.1;
-      noted = sym (settings_if (is_some (option_map placed current)) ended _ _ there);
-      sound = sound pull given current started ended misplaced c.0 c.1 h.held h.steady;
-    }
+    let ks = pull.reader.names.keeping.settings.items in
+    let over : ended ≡ true → IfSome (option_map placed current) (λ e. e.0 ≡ Ev.stream_end) = λ b. (h.over b).2 in
+    let left : IfSome (option_map placed current) (λ e. e.0 ≢ Ev.stream_end → events_left pull.reader current ≤ events_left pull.reader current) = if_any (option_map placed current) (λ e n. omega arith) in
+    let noted = sym (settings_if (is_some (option_map placed current)) ended ks (ks ++ pull.reader.names.keeping.tags ∷ []) there) in
+    assumption (there, over, left, noted, no_fault pull misplaced c.0 c.1, sound pull given current started ended misplaced c.0 c.1 h.held h.steady)
   where
     if_any : {A : Type 0} {P : A → Type 0} (o : Option A) → ((x : A) → P x) → IfSome o P
     if_any None f = tt
@@ -85,17 +77,10 @@ fault_misplaced {T} pull given current started ended misplaced p h none m =
     let f : fault_of_all misplaced pull ≡ Some (no_document p) = ap (λ x. fault_of_all x pull) m in
     let going : ended ≡ false = false_from_ne_true ended (λ b. let no : None ≡ Some p = sym (h.over b).1 ∙ m in cc) in
     let a = ap (option_map placed) (none_if current none) in
-    record {
-      fault = f;
-      given = refl;
-      started = refl;
-      ended = (going, going);
-      ahead = (a, a);
-      settings = record { keep_tags = refl; steady = refl };
-      noted = refl;
-      again = subst (λ o. IfSome o (λ g. (no_document p ≡ g) × (seen pull given current started ended misplaced ≡ seen pull given current started ended misplaced))) (sym f) (refl, refl);
-      why = λ b. let no : None ≡ Some (no_document p) = sym b ∙ f in cc;
-    }
+    let v = seen pull given current started ended misplaced in
+    let again = subst (λ o. IfSome o (λ g. (no_document p ≡ g) × (v ≡ v))) (sym f) (refl, refl) in
+    let why : fault_of_all misplaced pull ≡ None → Explains (no_document p) v = λ b. let no : None ≡ Some (no_document p) = sym b ∙ f in cc in
+    assumption (f, going, a, again, why)
 
 -- ---- where nothing waited
 
@@ -130,26 +115,12 @@ fault_met {T} pull new given current started ended misplaced f h none clear x ke
     let es = read_so given ended (option_map placed current) in
     let keeping = x.0 in
     let going : ended ≡ false = sym (end_known given current ended h.end none) ∙ fault_open new.reader es new.kept kept x.1 in
-    let ahead : option_map placed current ≡ None = ap (option_map placed) (none_if current none) in (
-      record {
-        held = x.1;
-        steady = subst IsKnownSteady (sym keeping) h.steady;
-        first = h.first;
-        end = h.end;
-        clear = λ b. absurd (both_ways (is_some (option_map placed current)) (ap is_some ahead) b);
-        over = λ b. absurd (both_ways ended going b);
-      },
-      record {
-        fault = ap (λ m. fault_of_all m new) clear ∙ kept;
-        given = refl;
-        started = refl;
-        ended = (going, going);
-        ahead = (ahead, ahead);
-        settings = record { keep_tags = ap (λ k. k.tags) keeping; steady = ap (λ k. k.steady) keeping };
-        noted = ap (λ k. k.settings.items) keeping;
-        again = subst (λ m. IfSome (fault_of_all m pull) (λ g. (f ≡ g) × (seen new given current started ended misplaced ≡ seen pull given current started ended misplaced))) (sym clear) (again_seen (fault_kept pull) again);
-        why = why;
-      },
+    let ahead : option_map placed current ≡ None = ap (option_map placed) (none_if current none) in
+    let shut : IsSome (option_map placed current) → (new.kept ≡ None) × (misplaced ≡ None) = λ b. absurd (both_ways (is_some (option_map placed current)) (ap is_some ahead) b) in
+    let over : ended ≡ true → (new.kept ≡ None) × (misplaced ≡ None) × IfSome (option_map placed current) (λ e. e.0 ≡ Ev.stream_end) = λ b. absurd (both_ways ended going b) in
+    let same = subst (λ m. IfSome (fault_of_all m pull) (λ g. (f ≡ g) × (seen new given current started ended misplaced ≡ seen pull given current started ended misplaced))) (sym clear) (again_seen (fault_kept pull) again) in (
+      assumption (shut, over, subst IsKnownSteady (sym keeping) h.steady),
+      assumption (ap (λ m. fault_of_all m new) clear ∙ kept, going, ahead, ap (λ k. k.tags) keeping, ap (λ k. k.steady) keeping, ap (λ k. k.settings.items) keeping, same, why),
     )
   where
     why : (seen pull given current started ended misplaced).fault ≡ None → Explains f (seen new given current started ended misplaced)
@@ -224,21 +195,12 @@ pub next_read : {T : Type 0} (pull new : EventReader T) (given : List (Ev × Pos
 next_read {T} pull new given current started ended misplaced e h none clear x =
     let n = next_held pull new given current started ended e h.end h.held none x in
     let ahead : is_some (option_map placed current) ≡ false = ap (λ o. is_some (option_map placed o)) (none_if current none) in
-    let ks = pull.reader.names.keeping.settings.items in (
+    let ks = pull.reader.names.keeping.settings.items in
+    let waited : IsSome (option_map placed current) → seen new given (Some e) started ended misplaced ≡ seen pull given current started ended misplaced = λ b. absurd (both_ways (is_some (option_map placed current)) ahead b) in
+    let left : ev_of e.0 ≢ Ev.stream_end → events_left new.reader (Some e) ≤ events_left pull.reader current = λ k. let less = n.less k in omega arith in
+    let noted = n.settings ∙ ap (λ b. if b || ended then ks else ks ++ pull.reader.names.keeping.tags ∷ []) (sym ahead) in (
       record { held = n.held; steady = n.known h.steady; first = h.first; end = h.end; clear = λ b. (n.after, clear); over = λ b. (n.after, clear, n.over b) },
-      record {
-        some = refl;
-        waited = λ b. absurd (both_ways (is_some (option_map placed current)) ahead b);
-        given = refl;
-        started = refl;
-        ended = refl;
-        over = n.over;
-        left = λ k. let less = n.less k in omega arith;
-        settings = record { keep_tags = n.tags; steady = n.steady };
-        noted = n.settings ∙ ap (λ b. if b || ended then ks else ks ++ pull.reader.names.keeping.tags ∷ []) (sym ahead);
-        clear = no_fault pull misplaced n.before clear;
-        sound = sound new given (Some e) started ended misplaced n.after clear n.held (n.known h.steady);
-      },
+      assumption (waited, left, noted, no_fault pull misplaced n.before clear, sound new given (Some e) started ended misplaced n.after clear n.held (n.known h.steady)),
     )
 
 -- ---- an event is given
@@ -267,19 +229,9 @@ pub event_given : {T : Type 0} (pull : EventReader T) (given new : List (Ev × P
 event_given {T} pull given new e started ended ended' misplaced h more end =
     let c = h.clear refl in
     let n = given_holds pull given new (placed e) started ended ended' misplaced h more end in
-    record {
-      given = more;
-      ended = end;
-      started = refl;
-      ahead = refl;
-      waited = refl;
-      over = λ b. (h.over b).2;
-      left = λ k. omega arith;
-      settings = record { keep_tags = refl; steady = refl };
-      noted = refl;
-      clear = no_fault pull misplaced c.0 c.1;
-      sound = sound pull new None true ended' misplaced c.0 c.1 n.held n.steady;
-    }
+    let over : ended ≡ true → ev_of e.0 ≡ Ev.stream_end = λ b. (h.over b).2 in
+    let left : ev_of e.0 ≢ Ev.stream_end → work pull.reader + 0 < work pull.reader + 1 = λ k. omega arith in
+    assumption (more, end, over, left, no_fault pull misplaced c.0 c.1, sound pull new None true ended' misplaced c.0 c.1 n.held n.steady)
 
 pub none_waits : (current : Option (Event × Position)) → is_some (option_map placed current) ≡ false → is_some current ≡ false
 none_waits current h = grind arith
@@ -294,21 +246,12 @@ given_at_once {T} pull new given more current started ended ended' misplaced e h
     let no = none_if current none in
     let less = (next_held pull new given current started ended e h.end h.held none x).less in
     let read = next_read pull new given current started ended misplaced e h none clear x in
-    let gives = event_given new given more e started ended ended' misplaced read.0 noted end in (
+    let gives = event_given new given more e started ended ended' misplaced read.0 noted end in
+    let waited = subst (λ o. IfSome (option_map placed o) (λ y. placed e ≡ y)) (sym no) tt in
+    let left : ev_of e.0 ≢ Ev.stream_end → events_left new.reader current < events_left pull.reader current = λ k. let w = less k in omega arith in
+    let sounds = subst (λ o. IsSound (seen new more o true ended' misplaced)) (sym no) gives.sound in (
       subst (λ o. Holds new more (option_map placed o) true ended' misplaced) (sym no) (given_holds new given more (placed e) started ended ended' misplaced read.0 noted end),
-      record {
-        given = noted;
-        ended = end;
-        started = refl;
-        ahead = ap (option_map placed) no;
-        waited = subst (λ o. IfSome (option_map placed o) (λ y. placed e ≡ y)) (sym no) tt;
-        over = read.1.over;
-        left = λ k. let w = less k in omega arith;
-        settings = record { keep_tags = read.1.settings.keep_tags; steady = read.1.settings.steady };
-        noted = read.1.noted;
-        clear = read.1.clear;
-        sound = subst (λ o. IsSound (seen new more o true ended' misplaced)) (sym no) gives.sound;
-      },
+      assumption (noted, end, ap (option_map placed) no, waited, left, sounds),
     )
 
 pub all_noted : (xs ys : List (Event × Position)) (x : Event × Position) (b : Bool) → ys ≡ xs ++ (if b then [] else x ∷ []) → all_placed ys ≡ all_placed xs ++ (if b then [] else placed x ∷ [])
@@ -379,14 +322,9 @@ pub settings_hold : {T : Type 0} (pull : EventReader T) (given : List (Ev × Pos
     → Holds pull given (option_map placed current) started ended misplaced
     → k.steady ≡ stays_steady (seen pull given current started ended misplaced) k.tags → k.settings ≡ pull.reader.names.keeping.settings
     → Holds (record pull { reader = record (pull.reader) { names = record (pull.reader.names) { keeping = k } } }) given (option_map placed current) started ended misplaced
-settings_hold {T} pull given current started ended misplaced k h steady same = record {
-  held = held_set pull.reader k (read_so given ended (option_map placed current)) pull.kept same h.held;
-  steady = λ b. subst (AreAll k.tags) (ap (λ x. x.items) (sym same)) (still b);
-  first = h.first;
-  end = h.end;
-  clear = h.clear;
-  over = h.over;
-}
+settings_hold {T} pull given current started ended misplaced k h steady same =
+    let kept : k.steady ≡ true → AreAll k.tags k.settings.items = λ b. subst (AreAll k.tags) (ap (λ x. x.items) (sym same)) (still b) in
+    assumption (held_set pull.reader k (read_so given ended (option_map placed current)) pull.kept same h.held, kept)
   where
     none_of_all : (m : Option Position) → is_some (fault_of_all m pull) ≡ false → pull.kept ≡ None
     none_of_all None e = none_before (λ x. fault_seen x.0 x.1 (scanned pull.reader.tokens.scanner).fault) pull.kept (none_if (fault_kept pull) e)
@@ -413,11 +351,7 @@ settings_hold {T} pull given current started ended misplaced k h steady same = r
 
 pub misplaced_holds : {T : Type 0} (pull : EventReader T) (given : List (Ev × Position)) (ahead : Option (Ev × Position)) (started ended : Bool) (misplaced : Option Position) (p : Position)
     → Holds pull given ahead started ended misplaced → ahead ≡ None → ended ≡ false → Holds pull given ahead started ended (Some p)
-misplaced_holds {T} pull given ahead started ended misplaced p h none going = record {
-  held = h.held;
-  steady = h.steady;
-  first = h.first;
-  end = h.end;
-  clear = λ b. let no : false ≡ true = sym (ap is_some none) ∙ b in cc;
-  over = λ b. absurd (both_ways ended going b);
-}
+misplaced_holds {T} pull given ahead started ended misplaced p h none going =
+    let clear : IsSome ahead → (pull.kept ≡ None) × (Some p ≡ None) = λ b. let no : false ≡ true = sym (ap is_some none) ∙ b in cc in
+    let over : ended ≡ true → (pull.kept ≡ None) × (Some p ≡ None) × IfSome ahead (λ e. e.0 ≡ Ev.stream_end) = λ b. absurd (both_ways ended going b) in
+    assumption (clear, over)

@@ -74,15 +74,9 @@ gave m {p = p} {r} {e = e} {v} {given} n a =
 
 gave_none : {T : Type 0} {g g' : Goal} {p r : Reader T} {names : Names} {given : List (Ev × Position)} → r.names.keeping ≡ p.names.keeping → IsNamed r.names (names_at r.names.keeping.tags g' names) → IsPending names g'
     → (a : At g p names given) → Gave nowhere a r g' None names given
-gave_none {given = given} keep code pending a = record {
-  count = a.count;
-  few = subst (λ k. length k.settings.items ≤ length a.raw) (sym keep) a.few;
-  stands = sym (append-nil (stood a.raw given));
-  events = ap (λ k. named_by k a.raw) keep ∙ a.events;
-  names_are = ap (λ k. names_by k a.raw) keep ∙ a.names_are;
-  code = code;
-  pending = pending;
-}
+gave_none {p = p} {r} {given = given} keep code pending a =
+    let few : length r.names.keeping.settings.items ≤ length a.raw = subst (λ k. length k.settings.items ≤ length a.raw) (sym keep) a.few in
+    assumption (few, sym (append-nil (stood a.raw given)), ap (λ k. named_by k a.raw) keep ∙ a.events, ap (λ k. names_by k a.raw) keep ∙ a.names_are, code, pending, a.count)
 
 -- The token is taken.
 took_any : {T : Type 0} {m : Position} {g g' : Goal} {p r : Reader T} {t : Token} {ss' : List State} {e : Option Raw} {names names' : Names} {given given' : List (Ev × Position)}
