@@ -4,7 +4,7 @@ use Rattle.model_parser.proofs.CameBy.{taken_by, left_by, none_by, said_by}
 use Rattle.model_parser.proofs.Completions.{all_complete}
 use Rattle.model_parser.proofs.Falls.{grammar_completes}
 use Rattle.model_parser.proofs.Steps.{Sound, step_sound}
-use Rattle.model_parser.proofs.Places.{plain_work, plain_before}
+use Rattle.model_parser.proofs.Places.{or_at, plain_work, plain_before}
 use Rattle.model_parser.proofs.Quiet.{any_held, is_quiet, work_quiet, quiet_placed, plain_placed, placed_row}
 use Rattle.defs_event.specs.Stream as places
 use Rattle.defs_event.specs.Grammar as table
@@ -108,10 +108,6 @@ by_steps (suc n) t (reading g h ∷ w) = by (row_of (cases g) t) refl (λ v. by_
 abbrev pub event_list : Option Raw → List Raw
 event_list None = []
 event_list (Some e) = e ∷ []
-
-abbrev or_at : Position → Option Position → Position
-or_at m None = m
-or_at m (Some p) = p
 
 abbrev each_at : (Raw → Position) → List Raw → List (Raw × Position) → List (Raw × Position)
 each_at f [] fs = fs

@@ -45,7 +45,7 @@ pub use Rattle.std.proofs.lemmas.List.{length-append, map-append, nil_from_lengt
 pub use Rattle.std.proofs.lemmas.Slice.Eq.{bytes_eq-Decides}
 pub use Rattle.std.specs.BTreeMap.{BTreeMap, get_by_text}
 pub use Rattle.std.specs.Option.{IfNone, IfSome, IsSome}
-pub use Rattle.std.specs.Result.{IfErr, IsErr, IsErrAnd, OnErr, OnOk}
+pub use Rattle.std.specs.Result.{is_err, IfErr, IsErr, IsErrAnd, OnErr, OnOk}
 pub use Rattle.std.specs.declared.alloc.Global.{Global}
 pub use Rattle.yaml_parser.specs.Ahead.{indicator_of, scalar_of, Skips, SkipsOne, TakesBoth}
 pub use Rattle.yaml_parser.specs.Apart.{GoesApart, GoesOnBy, GoesOnWith, IsOpen, SaysBefore, StandsApart, StandsBefore, token_at, two_that_come}

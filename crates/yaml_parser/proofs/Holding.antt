@@ -141,10 +141,6 @@ failed {T} p r s ss es u h x reads =
     let o = open_at (has_end es) p s ss h x.here in
     (o.0, reads x.names es (popped p s ss h o.1))
 
-pub advances_err : {T E : Type 0} (old new : EventReader T) (es : List (Ev × Position)) (r : Result (Unit {0}) E) (x : E) (slot : EventSlot) → IsErrAnd r (λ e. e ≡ x) → Advances old es (Err slot.fault) new → Advances old es (answered r slot) new
-advances_err old new es (Ok u) x slot h a = absurd h
-advances_err old new es (Err e) x slot h a = a
-
 pub keeps : {T : Type 0} (p : EventReader T) (es : List (Ev × Position)) (u : Option Fault) {f : ErrorReport} → fault_kept p ≡ Some f → IfSome p.kept (λ k. k.0 ≡ u) → (has_end es ≡ false) × Faulted p.reader es u → IsHeld p.reader es p.kept × IsMet p.reader es p.kept
 keeps {T} p es u {f} h k x = kept_at p.kept h k
   where

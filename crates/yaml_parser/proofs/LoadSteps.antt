@@ -171,11 +171,3 @@ module _ {R : Type 0} (takes : R → Ev → Position → Result (Unit {0}) Error
     received = g.received;
     runs = λ rest. g.runs rest ∙ ap (λ b. pushing g.events (if b then load_from run.between multi rest else ends run.well 0)) h;
   }
-
-  pub loads_err : (x : Result (Unit {0}) ErrorReport) (f : ErrorReport) {now : Parsed} {s : R} → IsErrAnd x (λ e. e ≡ f) → Loads takes multi old r (Err f) now s → Loads takes multi old r x now s
-  loads_err (Ok u) f {now} {s} h y = absurd h
-  loads_err (Err e) f {now} {s} h y = subst (λ z. Loads takes multi old r (Err z) now s) (sym h) y
-
-  pub starts_err : (x : Result (Unit {0}) ErrorReport) (f : ErrorReport) {now : Parsed} {s : R} → IsErrAnd x (λ e. e ≡ f) → Loads takes multi old r (Err f) now s → StartsSo takes multi old r x now s
-  starts_err (Ok u) f {now} {s} h y = absurd h
-  starts_err (Err e) f {now} {s} h y = subst (λ z. Loads takes multi old r (Err z) now s) (sym h) y

@@ -209,9 +209,6 @@ nothing_there (Some o) has f = let b : true ≡ false = has.both in cc
 
 -- ---- properties, one by one
 
-pub is_some_of : {A : Type 0} {o : Option A} {x : A} → o ≡ Some x → IsSome o
-is_some_of {A} {o} {x} h = ap is_some h
-
 pub anchor_text : {t : Tok} {x : List ℕ} → kind_of t ≡ kind.Anchor → (t ≡ Tok.alias x) ⊎ (t ≡ Tok.anchor x) → t ≡ Tok.anchor x
 anchor_text h e = grind arith
 

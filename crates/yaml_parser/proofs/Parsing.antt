@@ -132,10 +132,6 @@ fault_met {T} pull new given current started ended misplaced f h none clear x ke
     again_seen None a = tt
     again_seen (Some g) a = (err_same a.0, ap (λ p. seen p given current started ended misplaced) a.1)
 
-pub looks_err : (old new : Parsed) (r : Result (Unit {0}) ErrorReport) (f : ErrorReport) → IsErrAnd r (λ e. e ≡ f) → GivesFault old f new → Looks old r new
-looks_err old new (Ok u) f h x = absurd h
-looks_err old new (Err e) f h x = subst (λ y. GivesFault old y new) (sym h) x
-
 -- An event is read.
 record Next {T : Type 0} (pull new : EventReader T) (given : List (Ev × Position)) (started ended : Bool) (e : Event × Position) : Type 0 where
   pub held : IsHeld new.reader (read_so given ended (Some (placed e))) new.kept

@@ -122,9 +122,6 @@ took_on here s to turn keep code pending wakes past a = took_any here s to turn 
 abbrev pub breaks : Goal → Goal → Bool
 breaks g g' = is_over g || is_over g'
 
-unbroken : (g g' : Goal) → breaks g g' ≡ false → (is_over g ≡ false) × (is_over g' ≡ false)
-unbroken g g' h = or_parts (is_over g) (is_over g') h
-
 -- The token stays.
 left_any : {T : Type 0} {m : Position} {g g' : Goal} {p r : Reader T} {o : Option Tok} {ss' : List State} {e : Option Raw} {names names' : Names} {given given' : List (Ev × Position)}
     → peeked_tok p.tokens ≡ o → r.tokens ≡ p.tokens → r.stack ≡ ss' → Leaves g p.stack o e g' ss' → (a : At g p names given) → Gave m a r g' e names' given'
@@ -135,8 +132,8 @@ left_any {m = m} {g} {g'} {p} {r} {o} {ss'} {e} {given = given} {given'} here sa
       stands = subst (λ x. IsOnTrack g' ss' (taken_toks p.tokens) x (then_event a.raw e)) (sym here)
           (stands_leave g p.stack o e g' ss' (taken_toks p.tokens) a.raw turn (subst (λ x. IsOnTrack g p.stack (taken_toks p.tokens) x a.raw) here a.stands));
       handed = a.handed;
-      awake = λ w. a.awake (unbroken g g' wakes).0;
-      over = λ w. absurd (both_ways (is_over g') (unbroken g g' wakes).1 w);
+      awake = λ w. a.awake (or_parts (is_over g) (is_over g') wakes).0;
+      over = λ w. absurd (both_ways (is_over g') (or_parts (is_over g) (is_over g') wakes).1 w);
       count = y.count;
       few = y.few;
       places = placed_left p.tokens.peeked (all_shown p.tokens.taken.items) (stood a.raw given) (stood (then_event a.raw e) given') m here turn a.stands.nested a.stands.fits spot y.stands a.places;
