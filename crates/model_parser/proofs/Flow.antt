@@ -8,7 +8,7 @@ use Rattle.model_parser.specs.declared.context.NodeContext.TheVariants as contex
 use Rattle.model_parser.specs.declared.state.State.TheVariants as state
 use Rattle.defs_event.specs.Grammar as table
 use Rattle.defs_event.specs.Stream as places
-use Rattle.model_parser.proofs.CameBy.{said_by}
+use Rattle.model_parser.proofs.Completions.{said_by}
 
 -- ---- a flow sequence
 

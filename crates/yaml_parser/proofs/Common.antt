@@ -26,7 +26,7 @@ pub use Rattle.model_parser.proofs.Places.{nowhere, plain_before, plain_work, wi
 pub use Rattle.model_parser.proofs.Quiet.{plain_placed}
 pub use Rattle.model_parser.proofs.Settling.{mapping_under}
 pub use Rattle.model_parser.proofs.Standing.{first_of, looks, pops, top_of}
-pub use Rattle.model_parser.proofs.CameBy.{left_by, none_by, said_by, taken_by}
+pub use Rattle.model_parser.proofs.Completions.{left_by, none_by, said_by, taken_by}
 pub use Rattle.model_parser.proofs.StepRows.{by_steps, first_any, has_goal, needs_tokens, not_refused, steps}
 pub use Rattle.model_parser.specs.Goal.{Goal}
 pub use Rattle.model_parser.specs.Kinds.{begins_content, begins_node, ends_content, ends_document, ends_entry, ends_flow_key, ends_flow_pair, ends_indentless_entry, ends_item, ends_item_key, ends_part, HasNoText, is_directive, kind_of, tok_of_kind}

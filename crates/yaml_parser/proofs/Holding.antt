@@ -4,11 +4,10 @@ use Rattle.model_parser.specs.Rest.{placed as placed_work}
 use Rattle.model_parser.proofs.Standing.{begins, ends as read_whole}
 use Rattle.yaml_parser.specs.Handed.{ends}
 use Rattle.yaml_parser.proofs.Positions.{stood_raws, stood_positions}
-use Rattle.yaml_parser.proofs.Placing.{StandsSo}
 use Rattle.yaml_parser.specs.Follows.{Derives}
 use Rattle.yaml_parser.proofs.Since.{since_length, since_noted, names_noted, since_other, names_other, since_same}
 use Rattle.yaml_parser.proofs.Ends.{state_pending, at_derived}
-use Rattle.yaml_parser.proofs.Steps.{begins_peeked, if_some_at}
+use Rattle.yaml_parser.proofs.Steps.{StandsSo, begins_peeked, if_some_at}
 use Rattle.yaml_parser.proofs.Nesting.{at_begins_nested}
 use Rattle.defs_token.specs.Token as defs
 use Rattle.yaml_tokens.specs.declared.problem.Fault.TheVariants as fault

@@ -16,11 +16,8 @@ pub mod Pairs
 pub mod Parsing
 pub mod Peeking
 pub mod Positions
-pub mod Placing
 mod ProblemRows
-pub mod Resolved
 pub mod Says
 pub mod Since
 pub mod Steps
-mod Taken
 pub mod Ways
