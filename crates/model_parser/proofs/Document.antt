@@ -1,6 +1,6 @@
 -- The turns between documents.
 use Rattle.model_parser.proofs.Common.{subst, sym, arith, [], alike, alike_after, ap, Awaits, AwaitsAt, begins_node, Directive, directive_token, ends_content, ends_document, Extent, false, Goal, inl, inr, is_directive, IsNext, IsThere, kind_of, Leaves, List, None, nothing_written, Option, placed, Places, Position, Raw, refl, Refuses, row_of, Some, State, Takes, Then, Tok, Token, true, without_node, work_of, works, ◌++◌, ◌∙◌, ◌∷◌, ◌≡◌, ◌≢◌, before_directive}
-use Rattle.model_parser.proofs.StepRows.{by_row, takes_so, Stays, by_steps, alike_reads, after_steps, refuses, not_refused, reads_first, placed_alike, needs_tokens, leaves_so, refuses_so}
+use Rattle.model_parser.proofs.StepRows.{by_row, reads_so, takes_so, Stays, by_steps, alike_reads, after_steps, refuses, not_refused, reads_first, placed_alike, needs_tokens, leaves_so, refuses_so}
 use Rattle.model_parser.proofs.Settling.{comes_so, empties_as, reads_node, empties}
 use Rattle.defs_event.specs.Table as part
 use Rattle.defs_event.specs.Grammar as table
@@ -9,16 +9,23 @@ use Rattle.model_parser.specs.declared.kind.Kind.TheVariants as kind
 use Rattle.model_parser.specs.declared.context.NodeContext.TheVariants as context
 use Rattle.model_parser.specs.declared.state.State.TheVariants as state
 
-pub start_takes : (ss : List State) → Takes Goal.start ss Tok.stream_start (Some Raw.stream_start) Goal.done (state.ImplicitDocumentStart ∷ ss)
-start_takes ss = takes_so (λ n f. ((f, n), tt)) (λ f. (refl, (λ k. refl), by_row _ refl refl)) refl (λ f. refl) (λ f. refl)
+-- Turns that a search finds in the table.
+pub record DocumentTurns (ss : List State) : Type 0 where
+  pub start_takes : Takes Goal.start ss Tok.stream_start (Some Raw.stream_start) Goal.done (state.ImplicitDocumentStart ∷ ss)
+  pub documents_marker : Takes Goal.documents ss Tok.document_end None Goal.documents ss
+  pub directed_start : (read : List Directive) → Takes (Goal.directed read) ss Tok.document_start (Some (Raw.document_start read)) Goal.done (state.DocumentContent ∷ ss)
+  pub explicit_end : Takes Goal.explicit ss Tok.stream_end (Some Raw.stream_end) Goal.ended ss
+  pub explicit_start : Takes Goal.explicit ss Tok.document_start (Some (Raw.document_start [])) Goal.done (state.DocumentContent ∷ ss)
+  pub content_node : (t : Tok) → ends_document (kind_of t) ≡ false → is_directive (kind_of t) ≡ false → Leaves Goal.content ss (Some t) None (Goal.node context.Block) (state.DocumentEnd ∷ ss)
+  pub after_marked : Takes Goal.after ss Tok.document_end (Some Raw.document_end) Goal.done (state.ImplicitDocumentStart ∷ ss)
+
+pub document_turns : (ss : List State) → DocumentTurns ss
+document_turns ss = search (takes_so, reads_so, reads_node, alike, inr)
 
 pub start_refuses : (ss : List State) (t : Tok) → kind_of t ≢ kind.StreamStart → Refuses Goal.start ss t
 start_refuses ss t a = refuses_so Goal.start ss t 9 (λ f. grind arith)
 
 -- ---- where a document may do without `---`
-
-pub documents_marker : (ss : List State) → Takes Goal.documents ss Tok.document_end None Goal.documents ss
-documents_marker ss = takes_so (λ n f. (n, f)) (λ f. (refl, (λ k. refl), by_row _ refl refl)) refl (λ f. refl) (λ f. refl)
 
 pub documents_explicit : (ss : List State) (t : Tok) → ends_document (kind_of t) ≡ true → kind_of t ≢ kind.DocumentEnd → begins_node context.Block (kind_of t) ≡ false → Leaves Goal.documents ss (Some t) None Goal.explicit ss
 documents_explicit ss t e a b = leaves_so 1 (λ n f. (n, f)) (λ f. refl) (λ f u r m. let h = r 9 in grind arith) (λ f r m. grind arith) refl (λ f. without_node refl (comes_so Goal.documents ss t (grind arith))) (λ f h. inr (grind arith))
@@ -77,19 +84,10 @@ pub directed_more : (ss : List State) (read : List Directive) (d : Directive) �
 directed_more ss read (Directive.version m n) = takes_so (λ n f. (n, f)) (λ f. (refl, (λ k. refl), by_row _ refl refl)) refl (λ f. refl) (λ f. refl)
 directed_more ss read (Directive.tag h p) = takes_so (λ n f. (n, f)) (λ f. (refl, (λ k. refl), by_row _ refl refl)) refl (λ f. refl) (λ f. refl)
 
-pub directed_start : (ss : List State) (read : List Directive) → Takes (Goal.directed read) ss Tok.document_start (Some (Raw.document_start read)) Goal.done (state.DocumentContent ∷ ss)
-directed_start ss read = takes_so (λ n f. ((f, n), tt)) (λ f. (refl, (λ k. refl), by_row _ refl refl)) refl (λ f. refl) (λ f. refl)
-
 pub directed_refuses : (ss : List State) (read : List Directive) (t : Tok) → kind_of t ≢ kind.VersionDirective → kind_of t ≢ kind.TagDirective → kind_of t ≢ kind.DocumentStart → Refuses (Goal.directed read) ss t
 directed_refuses ss read t a b c = refuses_so (Goal.directed read) ss t 9 (λ f. grind arith)
 
 -- ---- the stream's end, or a document that begins with `---`
-
-pub explicit_end : (ss : List State) → Takes Goal.explicit ss Tok.stream_end (Some Raw.stream_end) Goal.ended ss
-explicit_end ss = takes_so (λ n f. (n, f)) (λ f. (refl, (λ k. refl), by_row _ refl refl)) refl (λ f. refl) (λ f. refl)
-
-pub explicit_start : (ss : List State) → Takes Goal.explicit ss Tok.document_start (Some (Raw.document_start [])) Goal.done (state.DocumentContent ∷ ss)
-explicit_start ss = takes_so (λ n f. ((f, n), tt)) (λ f. (refl, (λ k. refl), by_row _ refl refl)) refl (λ f. refl) (λ f. refl)
 
 pub explicit_refuses : (ss : List State) (t : Tok) → kind_of t ≢ kind.StreamEnd → kind_of t ≢ kind.DocumentStart → Refuses Goal.explicit ss t
 explicit_refuses ss t a b = refuses_so Goal.explicit ss t 9 (λ f. grind arith)
@@ -102,13 +100,7 @@ content_empty ss (Tok.version_directive m n) a = empties_as (search) (Tok.versio
 content_empty ss (Tok.tag_directive m n) a = empties_as (search) (Tok.tag_directive m n) (λ f. refl) (λ f. before_directive refl refl)
 content_empty ss t a = empties (search) t (λ f. a)
 
-pub content_node : (ss : List State) (t : Tok) → ends_document (kind_of t) ≡ false → is_directive (kind_of t) ≡ false → Leaves Goal.content ss (Some t) None (Goal.node context.Block) (state.DocumentEnd ∷ ss)
-content_node ss t a b = reads_node (search) t context.Block (λ f. refl) (λ f. a) (λ f. alike refl refl) (λ f h. inr b)
-
 -- ---- after a document's node
-
-pub after_marked : (ss : List State) → Takes Goal.after ss Tok.document_end (Some Raw.document_end) Goal.done (state.ImplicitDocumentStart ∷ ss)
-after_marked ss = takes_so (λ n f. ((f, n), tt)) (λ f. (refl, (λ k. refl), by_row _ refl refl)) refl (λ f. refl) (λ f. refl)
 
 pub after_unmarked : (ss : List State) (t : Tok) → kind_of t ≢ kind.DocumentEnd → is_directive (kind_of t) ≡ false → Leaves Goal.after ss (Some t) (Some Raw.document_end) Goal.done (state.DocumentStart ∷ ss)
 after_unmarked ss t a b = leaves_so 2 (λ n f. ((f, n), tt)) (λ f. refl) (λ f u r m. let h = r 9 in grind arith) (λ f r m. grind arith) refl (λ f. alike_after refl b) (λ f h. inr b)

@@ -1,6 +1,6 @@
 -- The turns in flow collections.
 use Rattle.model_parser.proofs.Common.{says, toks, alike, arith, ends_flow_key, ends_flow_pair, ends_item, ends_item_key, false, Goal, inl, kind_of, Leaves, List, None, nothing_written, Option, Raw, refl, Refuses, Some, State, Takes, Tok, true, without_node, ◌∷◌, ◌≡◌, ◌≢◌}
-use Rattle.model_parser.proofs.StepRows.{by_row, takes_so, leaves_so, first_any, refuses_so}
+use Rattle.model_parser.proofs.StepRows.{by_row, reads_so, takes_so, leaves_so, first_any, refuses_so}
 use Rattle.model_parser.proofs.Settling.{under_goes, under_other, under_past, under_any, comes_so, empties, reads_node}
 use Rattle.defs_text.specs.Position as chars
 use Rattle.model_parser.specs.declared.kind.Kind.TheVariants as kind
@@ -8,56 +8,47 @@ use Rattle.model_parser.specs.declared.context.NodeContext.TheVariants as contex
 use Rattle.model_parser.specs.declared.state.State.TheVariants as state
 use Rattle.defs_event.specs.Grammar as table
 use Rattle.defs_event.specs.Stream as places
-use Rattle.model_parser.proofs.CameBy.{said_by}
+use Rattle.model_parser.proofs.Completions.{said_by}
 
 -- ---- a flow sequence
 
-pub items_end : (ss : List State) → Takes Goal.items ss Tok.flow_sequence_end (Some Raw.flow_sequence_end) Goal.done ss
-items_end ss = takes_so (λ n f. (n, under_goes ss f)) (λ f. (refl, under_any ss f, by_row _ refl refl)) refl (under_other ss) (under_past ss)
+-- Turns that a search finds in the table.
+pub record FlowTurns (ss : List State) : Type 0 where
+  pub items_end : Takes Goal.items ss Tok.flow_sequence_end (Some Raw.flow_sequence_end) Goal.done ss
+  pub more_items_end : Takes Goal.more_items ss Tok.flow_sequence_end (Some Raw.flow_sequence_end) Goal.done ss
+  pub more_items_comma : Takes Goal.more_items ss Tok.flow_entry None Goal.items ss
+  pub item_key : Takes Goal.item ss Tok.key (Some Raw.pair_start) Goal.done (state.FlowSequenceEntryMappingKey ∷ ss)
+  pub pair_key_empty : (t : Tok) → ends_item_key (kind_of t) ≡ true → Leaves Goal.pair_key ss (Some t) (Some nothing_written) Goal.done (state.FlowSequenceEntryMappingValue ∷ ss)
+  pub pair_key_node : (t : Tok) → ends_item_key (kind_of t) ≡ false → Leaves Goal.pair_key ss (Some t) None (Goal.node context.Flow) (state.FlowSequenceEntryMappingValue ∷ ss)
+  pub pair_value_value : Takes Goal.pair_value ss Tok.value None Goal.pair_valued ss
+  pub pair_valued_empty : (t : Tok) → ends_item (kind_of t) ≡ true → Leaves Goal.pair_valued ss (Some t) (Some nothing_written) Goal.done (state.FlowSequenceEntryMappingEnd ∷ ss)
+  pub pair_valued_node : (t : Tok) → ends_item (kind_of t) ≡ false → Leaves Goal.pair_valued ss (Some t) None (Goal.node context.Flow) (state.FlowSequenceEntryMappingEnd ∷ ss)
+  pub flow_pairs_end : Takes Goal.flow_pairs ss Tok.flow_mapping_end (Some Raw.flow_mapping_end) Goal.done ss
+  pub more_flow_end : Takes Goal.more_flow_pairs ss Tok.flow_mapping_end (Some Raw.flow_mapping_end) Goal.done ss
+  pub more_flow_comma : Takes Goal.more_flow_pairs ss Tok.flow_entry None Goal.comma_flow_pairs ss
+  pub comma_flow_end : Takes Goal.comma_flow_pairs ss Tok.flow_mapping_end (Some Raw.flow_mapping_end_at_comma) Goal.done ss
+  pub flow_pair_key : (s : table.Start) → Takes (Goal.flow_pair s) ss Tok.key None Goal.flow_key ss
+  pub flow_pair_value : (s : table.Start) (colon : chars.Position) → Takes (Goal.flow_pair s) ss Tok.value (Some nothing_written) Goal.done (state.FlowMappingPart colon ∷ ss)
+  pub flow_key_empty : (t : Tok) → ends_flow_key (kind_of t) ≡ true → Leaves Goal.flow_key ss (Some t) (Some nothing_written) Goal.done (state.FlowMappingValue ∷ ss)
+  pub flow_key_node : (t : Tok) → ends_flow_key (kind_of t) ≡ false → Leaves Goal.flow_key ss (Some t) None (Goal.node context.Flow) (state.FlowMappingValue ∷ ss)
+  pub flow_after_value : (m : chars.Position) → Takes Goal.flow_after_key ss Tok.value None (Goal.flow_valued m) ss
+
+pub flow_turns : (ss : List State) → FlowTurns ss
+flow_turns ss = search (takes_so, reads_so, under_goes, under_any, under_other, under_past, empties, reads_node, alike, inl)
 
 pub items_item : (ss : List State) (t : Tok) → kind_of t ≢ kind.FlowSequenceEnd → Leaves Goal.items ss (Some t) None Goal.item ss
 items_item ss t a = leaves_so 0 (λ n f. (n, f)) (λ f. refl) (λ f u r m. cc m) (λ f r m. grind arith) refl (λ f. alike refl refl) (λ f h. inl h)
 
-pub more_items_end : (ss : List State) → Takes Goal.more_items ss Tok.flow_sequence_end (Some Raw.flow_sequence_end) Goal.done ss
-more_items_end ss = takes_so (λ n f. (n, under_goes ss f)) (λ f. (refl, under_any ss f, by_row _ refl refl)) refl (under_other ss) (under_past ss)
-
-pub more_items_comma : (ss : List State) → Takes Goal.more_items ss Tok.flow_entry None Goal.comma_items ss
-more_items_comma ss = takes_so (λ n f. (n, f)) (λ f. (refl, (λ k. refl), by_row _ refl refl)) refl (λ f. refl) (λ f. refl)
-
 pub more_items_refuses : (ss : List State) (t : Tok) → kind_of t ≢ kind.FlowSequenceEnd → kind_of t ≢ kind.FlowEntry → Refuses Goal.more_items ss t
 more_items_refuses ss t a b = refuses_so Goal.more_items ss t 9 (λ f. grind arith)
-
-pub comma_items_end : (ss : List State) → Takes Goal.comma_items ss Tok.flow_sequence_end (Some Raw.flow_sequence_end) Goal.done ss
-comma_items_end ss = takes_so (λ n f. (n, under_goes ss f)) (λ f. (refl, under_any ss f, by_row _ refl refl)) refl (under_other ss) (under_past ss)
-
-pub comma_items_item : (ss : List State) (t : Tok) → kind_of t ≢ kind.FlowSequenceEnd → Leaves Goal.comma_items ss (Some t) None Goal.item ss
-comma_items_item ss t a = leaves_so 0 (λ n f. (n, f)) (λ f. refl) (λ f u r m. cc m) (λ f r m. grind arith) refl (λ f. alike refl refl) (λ f h. inl h)
-
-pub item_key : (ss : List State) → Takes Goal.item ss Tok.key (Some Raw.pair_start) Goal.done (state.FlowSequenceEntryMappingKey ∷ ss)
-item_key ss = takes_so (λ n f. ((f, n), tt)) (λ f. (refl, (λ k. refl), by_row _ refl refl)) refl (λ f. refl) (λ f. refl)
 
 pub item_node : (ss : List State) (t : Tok) → kind_of t ≢ kind.Key → Leaves Goal.item ss (Some t) None (Goal.node context.Flow) (state.FlowSequenceEntry ∷ ss)
 item_node ss t a = leaves_so 1 (λ n f. ((f, n), (refl, refl))) (λ f. refl) (λ f u r m. grind arith) (λ f r m. let h = r 9 in grind arith) refl (λ f. alike refl refl) (λ f h. inl h)
 
 -- ---- a pair that is an item
 
-pub pair_key_empty : (ss : List State) (t : Tok) → ends_item_key (kind_of t) ≡ true → Leaves Goal.pair_key ss (Some t) (Some nothing_written) Goal.done (state.FlowSequenceEntryMappingValue ∷ ss)
-pair_key_empty ss t a = empties (search) t (λ f. a)
-
-pub pair_key_node : (ss : List State) (t : Tok) → ends_item_key (kind_of t) ≡ false → Leaves Goal.pair_key ss (Some t) None (Goal.node context.Flow) (state.FlowSequenceEntryMappingValue ∷ ss)
-pair_key_node ss t a = reads_node (search) t context.Flow (λ f. refl) (λ f. a) (λ f. alike refl refl) (λ f h. inl h)
-
-pub pair_value_value : (ss : List State) → Takes Goal.pair_value ss Tok.value None Goal.pair_valued ss
-pair_value_value ss = takes_so (λ n f. (n, f)) (λ f. (refl, (λ k. refl), by_row _ refl refl)) refl (λ f. refl) (λ f. refl)
-
 pub pair_value_empty : (ss : List State) (t : Tok) → kind_of t ≢ kind.Value → Leaves Goal.pair_value ss (Some t) (Some nothing_written) Goal.done (state.FlowSequenceEntryMappingEnd ∷ ss)
 pair_value_empty ss t a = leaves_so 2 (λ n f. ((f, n), tt)) (λ f. refl) (λ f u r m. let h = r 9 in grind arith) (λ f r m. grind arith) refl (λ f. alike refl refl) (λ f h. inl h)
-
-pub pair_valued_empty : (ss : List State) (t : Tok) → ends_item (kind_of t) ≡ true → Leaves Goal.pair_valued ss (Some t) (Some nothing_written) Goal.done (state.FlowSequenceEntryMappingEnd ∷ ss)
-pair_valued_empty ss t a = empties (search) t (λ f. a)
-
-pub pair_valued_node : (ss : List State) (t : Tok) → ends_item (kind_of t) ≡ false → Leaves Goal.pair_valued ss (Some t) None (Goal.node context.Flow) (state.FlowSequenceEntryMappingEnd ∷ ss)
-pair_valued_node ss t a = reads_node (search) t context.Flow (λ f. refl) (λ f. a) (λ f. alike refl refl) (λ f h. inl h)
 
 pub pair_ends : (ss : List State) (p : Option Tok) → Leaves Goal.pair_end ss p (Some Raw.pair_end) Goal.done (state.FlowSequenceEntry ∷ ss)
 pair_ends ss p = record {
@@ -72,44 +63,17 @@ pair_ends ss p = record {
 
 -- ---- a flow mapping
 
-pub flow_pairs_end : (ss : List State) → Takes Goal.flow_pairs ss Tok.flow_mapping_end (Some Raw.flow_mapping_end) Goal.done ss
-flow_pairs_end ss = takes_so (λ n f. (n, under_goes ss f)) (λ f. (refl, under_any ss f, by_row _ refl refl)) refl (under_other ss) (under_past ss)
-
 pub flow_pairs_pair : (ss : List State) (t : Tok) → kind_of t ≢ kind.FlowMappingEnd → Leaves Goal.flow_pairs ss (Some t) None (Goal.flow_pair table.after_brace) ss
 flow_pairs_pair ss t a = leaves_so 0 (λ n f. (n, f)) (λ f. refl) (λ f u r m. cc m) (λ f r m. grind arith) refl (λ f. alike refl refl) (λ f h. inl h)
-
-pub more_flow_end : (ss : List State) → Takes Goal.more_flow_pairs ss Tok.flow_mapping_end (Some Raw.flow_mapping_end) Goal.done ss
-more_flow_end ss = takes_so (λ n f. (n, under_goes ss f)) (λ f. (refl, under_any ss f, by_row _ refl refl)) refl (under_other ss) (under_past ss)
-
-pub more_flow_comma : (ss : List State) → Takes Goal.more_flow_pairs ss Tok.flow_entry None Goal.comma_flow_pairs ss
-more_flow_comma ss = takes_so (λ n f. (n, f)) (λ f. (refl, (λ k. refl), by_row _ refl refl)) refl (λ f. refl) (λ f. refl)
 
 pub more_flow_refuses : (ss : List State) (t : Tok) → kind_of t ≢ kind.FlowMappingEnd → kind_of t ≢ kind.FlowEntry → Refuses Goal.more_flow_pairs ss t
 more_flow_refuses ss t a b = refuses_so Goal.more_flow_pairs ss t 9 (λ f. grind arith)
 
-pub comma_flow_end : (ss : List State) → Takes Goal.comma_flow_pairs ss Tok.flow_mapping_end (Some Raw.flow_mapping_end_at_comma) Goal.done ss
-comma_flow_end ss = takes_so (λ n f. (n, under_goes ss f)) (λ f. (refl, under_any ss f, by_row _ refl refl)) refl (under_other ss) (under_past ss)
-
 pub comma_flow_has_pair : (ss : List State) (t : Tok) → kind_of t ≢ kind.FlowMappingEnd → Leaves Goal.comma_flow_pairs ss (Some t) None (Goal.flow_pair table.after_comma) ss
 comma_flow_has_pair ss t a = leaves_so 0 (λ n f. (n, f)) (λ f. refl) (λ f u r m. cc m) (λ f r m. grind arith) refl (λ f. alike refl refl) (λ f h. inl h)
 
-pub flow_pair_key : (s : table.Start) (ss : List State) → Takes (Goal.flow_pair s) ss Tok.key None Goal.flow_key ss
-flow_pair_key s ss = takes_so (λ n f. (n, f)) (λ f. (refl, (λ k. refl), by_row _ refl refl)) refl (λ f. refl) (λ f. refl)
-
-pub flow_pair_value : (s : table.Start) (ss : List State) (colon : chars.Position) → Takes (Goal.flow_pair s) ss Tok.value (Some nothing_written) Goal.done (state.FlowMappingPart colon ∷ ss)
-flow_pair_value s ss colon = takes_so (λ n f. ((f, n), tt)) (λ f. (refl, (λ k. refl), by_row _ refl refl)) refl (λ f. refl) (λ f. refl)
-
 pub flow_pair_node : (s : table.Start) (ss : List State) (t : Tok) → kind_of t ≢ kind.Key → kind_of t ≢ kind.Value → Leaves (Goal.flow_pair s) ss (Some t) None (Goal.node context.Flow) (state.FlowMappingEmptyValue ∷ ss)
 flow_pair_node s ss t a b = leaves_so 1 (λ n f. ((f, n), (refl, refl))) (λ f. refl) (λ f u r m. grind arith) (λ f r m. let h = r 9 in grind arith) refl (λ f. alike refl refl) (λ f h. inl h)
-
-pub flow_key_empty : (ss : List State) (t : Tok) → ends_flow_key (kind_of t) ≡ true → Leaves Goal.flow_key ss (Some t) (Some nothing_written) Goal.done (state.FlowMappingValue ∷ ss)
-flow_key_empty ss t a = empties (search) t (λ f. a)
-
-pub flow_key_node : (ss : List State) (t : Tok) → ends_flow_key (kind_of t) ≡ false → Leaves Goal.flow_key ss (Some t) None (Goal.node context.Flow) (state.FlowMappingValue ∷ ss)
-flow_key_node ss t a = reads_node (search) t context.Flow (λ f. refl) (λ f. a) (λ f. alike refl refl) (λ f h. inl h)
-
-pub flow_after_value : (ss : List State) (m : chars.Position) → Takes Goal.flow_after_key ss Tok.value None (Goal.flow_valued m) ss
-flow_after_value ss m = takes_so (λ n f. (n, f)) (λ f. (refl, (λ k. refl), by_row _ refl refl)) refl (λ f. refl) (λ f. refl)
 
 pub flow_after_empty : (ss : List State) (t : Tok) → kind_of t ≢ kind.Value → Leaves Goal.flow_after_key ss (Some t) (Some nothing_written) Goal.done (state.FlowMappingKey ∷ ss)
 flow_after_empty ss t a = leaves_so 2 (λ n f. ((f, n), tt)) (λ f. refl) (λ f u r m. let h = r 9 in grind arith) (λ f r m. grind arith) refl (λ f. alike refl refl) (λ f h. inl h)

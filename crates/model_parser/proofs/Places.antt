@@ -31,9 +31,10 @@ without_positions (placed.by_leaving {b = b} {h = h} {w = w} {t = t} {ts = ts} {
 abbrev pub nowhere : Position
 nowhere = record { index = 0; line = 1; col = 0 }
 
-abbrev pub or_nowhere : Option Position → Position
-or_nowhere None = nowhere
-or_nowhere (Some p) = p
+-- the position that is promised, or this one
+abbrev pub or_at : Position → Option Position → Position
+or_at m None = m
+or_at m (Some p) = p
 
 pub with_positions : {v : List (Work Goal Raw Held)} {us : List Tok} {rs : List Raw} → Derives grammar v us rs
     → (b : Option Position) (w : PlacedWork) (ts : List Token) → plain_work w ≡ v → toks ts ≡ us → (es : List (Raw × Position)) × (raws_of es ≡ rs) × Places to_end b w ts es
@@ -43,7 +44,7 @@ with_positions (says {e = e} {w = v} {es = rs} d) b (saying x ∷ w) ts p q =
     let same : x.0 ≡ e = cc p in
     let rest : plain_work w ≡ v = cc p in
     let i = with_positions d b w ts rest q in
-    ((x.0, or_nowhere x.1) ∷ i.0, ap (λ l. x.0 ∷ l) i.1 ∙ ap (λ y. y ∷ rs) same, placed.says (grind arith) i.2)
+    ((x.0, or_at nowhere x.1) ∷ i.0, ap (λ l. x.0 ∷ l) i.1 ∙ ap (λ y. y ∷ rs) same, placed.says (grind arith) i.2)
 with_positions (by_taking {h = h'} {w = w'} {t = t'} {ts = us} ps r d) b (reading g h ∷ w) (t ∷ ts) p q =
     let rest : plain_work (placed_before t b h ps w) ≡ before grammar h' t' ps w' = cc (plain_before t b h ps w, p, q) in
     let more : toks ts ≡ us = cc q in

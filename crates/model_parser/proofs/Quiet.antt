@@ -1,27 +1,32 @@
 -- What a parser still has to read has no event that is due at a place: that of the end of a single pair is promised nowhere.
-use Rattle.model_parser.proofs.Common.{arith, [], ap, append-nil, before, Bool, false, Goal, grammar, Held, List, Option, Part, past, placed, placed_before, placed_by, Position, position_at, Raw, reading, refl, saying, State, sym, Token, true, work_of, Works, works, ◌++◌, ◌∙◌, ◌∷◌, ◌≡◌}
+use Rattle.model_parser.proofs.Common.{◌&&◌, nothing_held, arith, [], ap, append-nil, before, Bool, false, Goal, grammar, Held, List, Option, Part, past, placed, placed_before, placed_by, Position, position_at, Raw, reading, refl, saying, State, sym, Token, true, work_of, Works, works, ◌++◌, ◌∙◌, ◌∷◌, ◌≡◌}
 use Rattle.defs_event.specs.Grammar.{Goal as Read}
 use Rattle.model_parser.proofs.Places.{plain_along, plain_work}
 use Rattle.model_parser.proofs.Completions.{before_along}
 
-abbrev pub is_quiet : Works → Bool
-is_quiet [] = true
-is_quiet (reading g h ∷ w) = is_quiet w
-is_quiet (saying Raw.pair_end ∷ w) = is_quiet w
-is_quiet (saying e ∷ w) = false
+-- What is said is the end of a pair, and what is held passes a test.
+abbrev pub is_quiet : (Held → Bool) → Works → Bool
+is_quiet f [] = true
+is_quiet f (reading g h ∷ w) = f h && is_quiet f w
+is_quiet f (saying Raw.pair_end ∷ w) = is_quiet f w
+is_quiet f (saying e ∷ w) = false
 
-past_quiet : (ss : List State) → is_quiet (works ss) ≡ true → is_quiet (past ss (works ss)) ≡ true
-past_quiet ss q = grind arith
+pub past_quiet : (f : Held → Bool) (ss : List State) → is_quiet f (works ss) ≡ true → is_quiet f (past ss (works ss)) ≡ true
+past_quiet f ss q = grind arith
 
-works_quiet : (ss : List State) → is_quiet (works ss) ≡ true
-works_quiet [] = refl
-works_quiet (s ∷ ss) = let q = works_quiet ss in let h = past_quiet ss q in grind arith
+pub works_quiet : (f : Held → Bool) (ss : List State) → f nothing_held ≡ true → is_quiet f (works ss) ≡ true
+works_quiet f [] n = refl
+works_quiet f (s ∷ ss) n = let q = works_quiet f ss n in let h = past_quiet f ss q in grind arith
 
-pub work_quiet : (g : Goal) (ss : List State) → is_quiet (work_of g ss) ≡ true
-work_quiet g ss = let q = works_quiet ss in let h = past_quiet ss q in grind arith
+-- whatever is held
+abbrev pub any_held : Held → Bool
+any_held h = true
+
+pub work_quiet : (g : Goal) (ss : List State) → is_quiet any_held (work_of g ss) ≡ true
+work_quiet g ss = let q = works_quiet any_held ss refl in let h = past_quiet any_held ss q in grind arith
 
 -- So it is the same wherever its events would stand.
-pub quiet_placed : (k : Token) (b : Option Position) (w : Works) → is_quiet w ≡ true → placed_by (position_at k b) w ≡ placed w
+pub quiet_placed : (k : Token) (b : Option Position) (w : Works) → is_quiet any_held w ≡ true → placed_by (position_at k b) w ≡ placed w
 quiet_placed k b [] q = refl
 quiet_placed k b (x ∷ w) q = let i = quiet_placed k b w in grind arith
 

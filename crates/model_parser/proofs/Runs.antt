@@ -2,8 +2,7 @@
 use Rattle.model_parser.proofs.Common.{[], after_events, and_before, ap, append-nil, append_assoc, arith, before, Begins, Bool, Derives, false, finish, go_on, goes, inl, inr, IsOnTrack, IsRight, leaves, List, NeverGoesOn, None, nothing_left, Option, Outcome, Part, part_work, reading, refl, refused, Row, row_of, run, saying, says, Some, step, subst, suc, sym, Table, takes, true, Turned, Work, work_weight, zero, ℕ, ◌++◌, ◌<◌, ◌∷◌, ◌≡◌, ◌⊎◌}
 use Rattle.model_parser.specs.Machine.{by_row}
 use Rattle.model_parser.proofs.Steps.{Falls, parts_weigh}
-use Rattle.model_parser.proofs.Completions.{Completes, all_complete}
-use Rattle.model_parser.proofs.CameBy.{said_by}
+use Rattle.model_parser.proofs.Completions.{said_by, Completes, all_complete}
 use Rattle.model_parser.proofs.Track.{LeavingRow, EndsGoal, starts, look, give, take, leave, refuse}
 
 -- ---- work that is not at its end, and work that is

@@ -1,11 +1,10 @@
 -- A turn of the parser by the rows of the grammar's table.
-use Rattle.model_parser.proofs.Common.{[], ap, arith, Awaits, AwaitsAt, before, Bool, by_leaving, by_taking, cases, Derives, event_at, event_then, Extent, false, first_may, Goal, goes, grammar, Held, is_past_directives, IsAt, IsAtFirst, IsFor, IsNested, IsNext, IsNoDirective, IsThere, Kind, kind_of, Leaves, leaves, List, may_begin, next_at, next_past, None, open_at, open_past, Option, Part, placed, placed_before, placed_by, PlacedWork, Places, Position, position_at, Raw, reading, refl, refused, Refuses, Row, row_of, saying, says, Settles, Some, State, step, subst, suc, sym, Takes, takes, Then, Tok, Token, true, Turned, work_of, Works, zero, ℕ, ◌++◌, ◌∙◌, ◌∷◌, ◌≡◌, ◌⊎◌}
-use Rattle.model_parser.proofs.CameBy.{taken_by, left_by, none_by, said_by}
-use Rattle.model_parser.proofs.Completions.{all_complete}
+use Rattle.model_parser.proofs.Common.{◌≡◌, [], ap, arith, Awaits, AwaitsAt, before, Bool, by_leaving, by_taking, cases, Derives, event_at, event_then, Extent, false, first_may, Goal, goes, grammar, Held, is_past_directives, IsAt, IsAtFirst, IsFor, IsNested, IsNext, IsNoDirective, IsThere, Kind, kind_of, Leaves, leaves, List, may_begin, next_at, next_past, None, open_at, open_past, Option, Part, placed, placed_before, placed_by, PlacedWork, Places, Position, position_at, Raw, reading, refl, refused, Refuses, Row, row_of, saying, says, Settles, Some, State, step, subst, suc, sym, Takes, takes, Then, Tok, Token, true, Turned, work_of, Works, zero, ℕ, ◌++◌, ◌∙◌, ◌∷◌, ◌≡◌, ◌⊎◌}
+use Rattle.model_parser.proofs.Completions.{taken_by, left_by, none_by, said_by, all_complete}
 use Rattle.model_parser.proofs.Falls.{grammar_completes}
 use Rattle.model_parser.proofs.Steps.{Sound, step_sound}
-use Rattle.model_parser.proofs.Places.{plain_work, plain_before}
-use Rattle.model_parser.proofs.Quiet.{is_quiet, work_quiet, quiet_placed, plain_placed, placed_row}
+use Rattle.model_parser.proofs.Places.{or_at, plain_work, plain_before}
+use Rattle.model_parser.proofs.Quiet.{any_held, is_quiet, work_quiet, quiet_placed, plain_placed, placed_row}
 use Rattle.defs_event.specs.Stream as places
 use Rattle.defs_event.specs.Grammar as table
 
@@ -19,10 +18,10 @@ and_saying (Some e) w = saying e ∷ w
 pub record Reads (w : Works) (t : Tok) (e : Option Raw) (w' : Works) : Type 0 where
   pub back : (ts : List Tok) (es : List Raw) → Derives grammar w' ts es → Derives grammar w (t ∷ ts) (event_then e es)
   pub on : (ts : List Tok) (es : List Raw) → Derives grammar w (t ∷ ts) es → (fs : List Raw) × (es ≡ event_then e fs) × Derives grammar w' ts fs
-  pub places : is_quiet w ≡ true → is_quiet w' ≡ true → (x : Extent) (b : Option Position) (k : Token) (m : Position) → k.tok ≡ t → IsAt b k e m
+  pub places : is_quiet any_held w ≡ true → is_quiet any_held w' ≡ true → (x : Extent) (b : Option Position) (k : Token) (m : Position) → k.tok ≡ t → IsAt b k e m
       → (ts : List Token) (es : List (Raw × Position)) → Places x (Some k.position) (placed w') ts es → Places x b (placed w) (k ∷ ts) (event_at e m es)
 
-saying_at : (e : Option Raw) (w : Works) (b : Option Position) (k : Token) (m : Position) → IsAt b k e m → is_quiet w ≡ true → (x : Extent) (c : Option Position) (ts : List Token) (es : List (Raw × Position))
+saying_at : (e : Option Raw) (w : Works) (b : Option Position) (k : Token) (m : Position) → IsAt b k e m → is_quiet any_held w ≡ true → (x : Extent) (c : Option Position) (ts : List Token) (es : List (Raw × Position))
     → Places x c (placed w) ts es → Places x c (placed_by (position_at k b) (and_saying e w)) ts (event_at e m es)
 saying_at None w b k m at q x c ts es d = subst (λ v. Places x c v ts es) (sym (quiet_placed k b w q)) d
 saying_at (Some y) w b k m at q x c ts es d = places.says at (subst (λ v. Places x c v ts es) (sym (quiet_placed k b w q)) d)
@@ -39,6 +38,18 @@ by_row {g} {h} {w} {t} {e} {w'} ps r b = record {
       places.by_taking {es = event_at e m es} ps (ap (λ u. row_of (cases g) u) same ∙ r)
       (subst (λ v. Places x (Some k.position) v ts (event_at e m es)) (sym there) (saying_at e w' c k m at q' x (Some k.position) ts es d));
 }
+
+-- what is left to show of the row that is the token's
+abbrev pub RowReads : Held → Works → Tok → Option Raw → Works → Option (Row table.Goal Raw) → Type 0
+RowReads h w t e w' (Some (takes ps)) = before grammar h t ps w ≡ and_saying e w'
+RowReads h w t e w' r = ⊥
+
+pub reads_so : {g : table.Goal} {h : Held} {w : Works} {t : Tok} {e : Option Raw} {w' : Works} → RowReads h w t e w' (row_of (cases g) t) → Reads (reading g h ∷ w) t e w'
+reads_so {g} {h} {w} {t} {e} {w'} b = by (row_of (cases g) t) refl b
+  where
+    by : (r : Option (Row table.Goal Raw)) → row_of (cases g) t ≡ r → RowReads h w t e w' r → Reads (reading g h ∷ w) t e w'
+    by (Some (takes ps)) r b = by_row ps r b
+    by r q b = absurd b
 
 pub first_any : (g : Goal) (ss : List State) (ts : List Tok) → ((k : Kind) → may_begin g ss k ≡ true) → first_may g ss ts ≡ true
 first_any g ss ts f = grind arith
@@ -97,10 +108,6 @@ abbrev pub event_list : Option Raw → List Raw
 event_list None = []
 event_list (Some e) = e ∷ []
 
-abbrev or_at : Position → Option Position → Position
-or_at m None = m
-or_at m (Some p) = p
-
 abbrev each_at : (Raw → Position) → List Raw → List (Raw × Position) → List (Raw × Position)
 each_at f [] fs = fs
 each_at f (e ∷ es) fs = (e, f e) ∷ each_at f es fs
@@ -122,7 +129,7 @@ steps_at (suc n) x b k m (reading g h ∷ w) = by (row_of (cases g) k.tok) refl 
 each_one : (b : Option Position) (k : Token) (e : Option Raw) (m : Position) (fs : List (Raw × Position)) → IsAt b k e m → each_at (λ x. or_at m (position_at k b x)) (event_list e) fs ≡ event_at e m fs
 each_one b k e m fs at = grind arith
 
-pub leads_at : (n : ℕ) (w : Works) (e : Option Raw) (w' : Works) (x : Extent) (b : Option Position) (k : Token) (m : Position) → is_quiet w ≡ true → is_quiet w' ≡ true → IsAt b k e m → steps n k.tok w ≡ (event_list e, w')
+pub leads_at : (n : ℕ) (w : Works) (e : Option Raw) (w' : Works) (x : Extent) (b : Option Position) (k : Token) (m : Position) → is_quiet any_held w ≡ true → is_quiet any_held w' ≡ true → IsAt b k e m → steps n k.tok w ≡ (event_list e, w')
     → (ts : List Token) (fs : List (Raw × Position)) → Places x b (placed w') (k ∷ ts) fs → Places x b (placed w) (k ∷ ts) (event_at e m fs)
 leads_at n w e w' x b k m q q' at h ts fs d =
     let y = subst (StaysAt x b k m w) h (steps_at n x b k m w) ts fs (subst (λ v. Places x b v (k ∷ ts) fs) (sym (quiet_placed k b w' q')) d) in

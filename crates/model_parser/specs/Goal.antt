@@ -37,8 +37,6 @@ pub data Goal : Type 0 where
   after_key : Goal
   items : Goal
   more_items : Goal
-  -- after `,`
-  comma_items : Goal
   item : Goal
   pair_key : Goal
   pair_value : Goal

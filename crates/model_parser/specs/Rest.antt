@@ -115,7 +115,6 @@ goal_work at.key_pairs ss w = goal_and table.block_mapping_entries w
 goal_work at.after_key ss w = goal_and table.block_mapping_value w
 goal_work at.items ss w = goal_and table.flow_sequence_entries w
 goal_work at.more_items ss w = goal_and table.flow_sequence_comma w
-goal_work at.comma_items ss w = goal_and table.flow_sequence_entries w
 goal_work at.item ss w = goal_and table.flow_sequence_entries w
 goal_work at.pair_key ss w = goal_and (table.node in_flow) (goal_and table.flow_value (saying Raw.pair_end ∷ goal_and table.flow_sequence_comma w))
 goal_work at.pair_value ss w = goal_and table.flow_value (saying Raw.pair_end ∷ goal_and table.flow_sequence_comma w)

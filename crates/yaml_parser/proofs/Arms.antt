@@ -1,9 +1,9 @@
 -- The arms of the productions.
-use Rattle.yaml_parser.proofs.Common.{arith, [], BlockMappingKey, fits, answered, Answers, ap, At, BeginAt, Bool, Err, Ev, Event, EventSlot, false, Faulted, Goal, goal_after_event, HasNoText, IfSome, inl, inr, is_end, is_over, is_under, IsAt, IsErrAnd, IsNamed, IsOfKind, IsPastColon, IsPending, Kind, kind_of, last_position, Leaves, List, Names, names_after, names_at, None, Ok, OnErr, Option, option_map, peeked_tok, placed, Position, position_at, Raw, Reader, refl, resolved_event, Result, shown, Skips, Some, State, Stayed, Fault, subst, sym, Takes, Tok, tok_is, tok_of, tok_of_kind, Token, Took, top, true, ◌++◌, ◌∙◌, ◌∷◌, ◌≡◌, ◌≢◌, ◌⊎◌}
+use Rattle.yaml_parser.proofs.Common.{all_shown, behind, IsRightAfter, Tokens, arith, [], BlockMappingKey, fits, answered, Answers, ap, At, BeginAt, Bool, Err, Ev, Event, EventSlot, false, Faulted, Goal, goal_after_event, HasNoText, IfSome, inl, inr, is_end, is_over, is_under, IsAt, IsErrAnd, IsErr, is_err, Carries, Passes, IsNamed, IsOfKind, IsPastColon, IsPending, Kind, kind_of, last_position, Leaves, List, Names, names_after, names_at, None, Ok, OnErr, Option, option_map, peeked_tok, placed, Position, position_at, Raw, Reader, refl, resolved_event, Result, shown, Skips, Some, State, Stayed, Fault, subst, sym, Takes, Tok, tok_is, tok_of, tok_of_kind, Token, Took, top, true, ◌++◌, ◌∙◌, ◌∷◌, ◌≡◌, ◌≢◌, ◌⊎◌}
+use Rattle.yaml_parser.proofs.Positions.{behind_more}
 use Rattle.yaml_parser.proofs.Steps.{looked, took, took_on, left, left_on, Named, breaks, if_some_at}
 use Rattle.defs_token.specs.Token as defs
 use Rattle.model_parser.specs.declared.kind.Kind.TheVariants as kind
-use Rattle.model_parser.specs.declared.state.State.TheVariants as state
 
 -- the token at hand is taken, and this is what there is after it
 abbrev pub Skipped : {T : Type 0} → Reader T → Reader T → List State → Type 0
@@ -30,13 +30,8 @@ pub record Bare {T : Type 0} (g : Goal) (p : Reader T) (names : Names) (e : Raw)
   pub seen : names_at p.names.keeping.tags g names ≡ names
 
 plain_named : {T : Type 0} {g : Goal} {p r : Reader T} {names : Names} {e : Raw} {v : Ev} {given : List (Ev × Position)} → Bare g p names e v → r.names ≡ p.names → At g p names given → Named p r Goal.done names e v names
-plain_named {T} {g} {p} {r} {names} {e} {v} {given} y same a = record {
-  resolves = y.resolves;
-  after_it = y.after_it;
-  keep = ap (λ n. n.keeping) same;
-  code = subst (λ n. IsNamed n names) (sym same) (subst (IsNamed p.names) y.seen a.code);
-  pending = tt;
-}
+plain_named {T} {g} {p} {r} {names} {e} {v} {given} y same a =
+    assumption (ap (λ n. n.keeping) same, subst (λ n. IsNamed n names) (sym same) (subst (IsNamed p.names) y.seen a.code), y)
 
 -- ---- where it stands
 
@@ -131,9 +126,7 @@ went {T} m {g} {p} {r} {ss} {e} {v} {names} {given} s turn y anywhere colon over
 
 -- after a node none is
 pub under_no_colon : (ss : List State) → is_under ss ≡ true → HasNoColon Goal.done ss
-under_no_colon [] h o = cc
-under_no_colon (state.FlowMappingPart m ∷ ss) h o = cc
-under_no_colon (s ∷ ss) h o = tt
+under_no_colon ss h o = grind arith
 
 -- ---- what is answered
 
@@ -141,9 +134,20 @@ pub on_err : {A E : Type 0} (P : Type 0) (r : Result A E) → P → OnErr r P
 on_err P (Ok e) f = tt
 on_err P (Err e) f = f
 
-pub answers_err : {T E : Type 0} (p : Reader T) (given : List (Ev × Position)) (r : Result (Unit {0}) E) (x : E) (slot : EventSlot) → IsErrAnd r (λ e. e ≡ x) → Faulted p given slot.fault → Answers p given (answered r slot)
-answers_err {T} p given (Ok u) x slot h f = absurd h
-answers_err {T} p given (Err e) x slot h f = f
+pub fails : {T E : Type 0} (p : Reader T) (given : List (Ev × Position)) (r : Result (Unit {0}) E) (slot : EventSlot) → IsErr r → Faulted p given slot.fault → Answers p given (answered r slot)
+fails {T} p given (Ok u) slot h f = cc
+fails {T} p given (Err e) slot h f = f
+
+pub error_is : {A E : Type 0} (r : Result A E) (x : E) → IsErrAnd r (λ e. e ≡ x) → r ≡ Err x
+error_is (Ok u) x h = absurd h
+error_is (Err e) x h = ap Err h
+
+pub is_error : {A E : Type 0} (r : Result A E) (x : E) → IsErrAnd r (λ e. e ≡ x) → IsErr r
+is_error r x h = ap is_err (error_is r x h)
+
+-- What is awaited is carried on.
+pub passes : {T : Type 0} {g : Goal} {old new : Reader T} → Carries g old new → Passes g old new
+passes carries = λ final result slot f. record { so = λ names given a. f.so names given (carries names given a) }
 
 pub answers_written : {T : Type 0} (p : Reader T) (given : List (Ev × Position)) (r : Event × Position) {x : Ev × Position} → placed r ≡ x
     → ((names : Names) × At (goal_after_event x.0) p names (given ++ x ∷ [])) → Answers p given (Ok r)
@@ -155,29 +159,17 @@ wrote {T} p given h a = subst (λ e. Answers p given (Ok e)) (sym h) a
 pub wrote_event : {T : Type 0} (p : Reader T) (given : List (Ev × Position)) (r : Event × Position) {e : Event} → r.0 ≡ e → Answers p given (Ok (e, r.1)) → Answers p given (Ok r)
 wrote_event {T} p given r h a = subst (λ x. Answers p given (Ok (x, r.1))) (sym h) a
 
-pub faulted_as : {T : Type 0} (p : Reader T) (given : List (Ev × Position)) {s u : Fault} → s ≡ u → Faulted p given u → Faulted p given s
+pub faulted_as : {T : Type 0} (p : Reader T) (given : List (Ev × Position)) {s u : Option Fault} → s ≡ u → Faulted p given u → Faulted p given s
 faulted_as {T} p given h f = subst (Faulted p given) (sym h) f
 
 -- ---- one of several kinds
 
-pub either : (P : Kind → Type 0) {k a b : Kind} → P a → P b → (k ≡ a) ⊎ (k ≡ b) → P k
-either P x y (inl h) = subst P (sym h) x
-either P x y (inr h) = subst P (sym h) y
-
-pub one_of : (P : Kind → Type 0) {k a b c : Kind} → P a → P b → P c → (k ≡ a) ⊎ ((k ≡ b) ⊎ (k ≡ c)) → P k
-one_of P x y z (inl h) = subst P (sym h) x
-one_of P x y z (inr h) = either P y z h
-
-pub one_of_four : (P : Kind → Type 0) {k a b c d : Kind} → P a → P b → P c → P d → (k ≡ a) ⊎ ((k ≡ b) ⊎ ((k ≡ c) ⊎ (k ≡ d))) → P k
-one_of_four P x y z w (inl h) = subst P (sym h) x
-one_of_four P x y z w (inr h) = one_of P y z w h
-
-pub one_of_five : (P : Kind → Type 0) {k a b c d e : Kind} → P a → P b → P c → P d → P e → (k ≡ a) ⊎ ((k ≡ b) ⊎ ((k ≡ c) ⊎ ((k ≡ d) ⊎ (k ≡ e)))) → P k
-one_of_five P x y z w v (inl h) = subst P (sym h) x
-one_of_five P x y z w v (inr h) = one_of_four P y z w v h
-
 pub as_kind : (test : Kind → Bool) {b : Bool} {k k' : Kind} → test k ≡ b → k' ≡ k → test k' ≡ b
 as_kind test e h = ap test h ∙ e
+
+pub one_of : {A : Type 0} (test : Kind → Bool) {b : Bool} {k a : Kind} → test a ≡ b → (A → test k ≡ b) → (k ≡ a) ⊎ A → test k ≡ b
+one_of test x f (inl h) = as_kind test x h
+one_of test x f (inr h) = f h
 
 pub not_as : {k k' x : Kind} → k ≢ x → k' ≡ k → k' ≢ x
 not_as a h e = a (sym h ∙ e)
@@ -189,3 +181,14 @@ names_nothing a b c = record { resolves = a; after_it = b; seen = c }
 
 pub no_key : (k : Kind) → k ≢ kind.Key → k ≢ kind.BlockEnd → fits BlockMappingKey k ≡ true
 no_key k a b = grind arith
+
+-- ---- after a comma
+
+-- A comma is taken.
+pub comma_skipped : {T : Type 0} {m : Position} {p r : Reader T} (k : Kind) {ss : List State} → IsOfKind k p.tokens.peeked → IfSome p.tokens.peeked (λ t. t.0 ≡ m) → Skipped p r ss → IsRightAfter m r.tokens
+comma_skipped {T} {m} {p} {r} k o mark s =
+    let l = looked k p.tokens.peeked o in
+    behind_more p.tokens.taken.items l.0 r.tokens.taken.items (s l.0 l.1).tokens.taken ∙ ap Some (if_some_at (λ (u : Token). u.0 ≡ m) mark l.1)
+
+pub still_after : {T : Type 0} {m : Position} (p r : Tokens T) → r.taken ≡ p.taken → IsRightAfter m p → IsRightAfter m r
+still_after p r same after = ap (λ x. behind None (all_shown x.items)) same ∙ after

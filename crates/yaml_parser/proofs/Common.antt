@@ -2,7 +2,7 @@
 pub use Rattle.defs_event.proofs.NameLemmas.{after_append, append_named, both_some, named_append, NamedFirst}
 pub use Rattle.defs_event.proofs.Shaped.{named_shaped, Shaped}
 pub use Rattle.defs_event.specs.Event.{Ev}
-pub use Rattle.defs_event.specs.Grammar.{cases, empty_event, event_of, grammar, Held, in_pair, key, nothing_held, Place}
+pub use Rattle.defs_event.specs.Grammar.{cases, empty_event, event_of, grammar, Held, in_pair, nothing_held, Place}
 pub use Rattle.defs_event.specs.Names.{are_allowed, at_document, both, declared, is_each_once, named, Names, names_after, names_after_all, no_names, number, perhaps_resolved, prefix_or_undeclared, resolved, resolved_event, undeclared, under_name, versions, with_anchor}
 pub use Rattle.defs_event.specs.Place.{block_mapping, block_sequence, Collection, directive_next, flow_mapping, flow_sequence, Next, next_after, node_next, open_after, other_next}
 pub use Rattle.defs_event.specs.Properties.{anchor_of, directive_token, directives_tokens, perhaps_anchor_of}
@@ -15,18 +15,18 @@ pub use Rattle.defs_text.specs.Text.{is_empty}
 unfoldable pub use Rattle.defs_text.specs.Text.{string_chars}
 pub use Rattle.defs_token.specs.Token.{Style, Tok}
 pub use Rattle.defs_token.specs.Toks.{toks}
-pub use Rattle.model_parser.proofs.Block.{after_key_empty, after_key_value, entries_dash, entries_end, entries_refuses, entry_empty, entry_node, indentless_entries_dash, indentless_entries_end, indentless_entry_empty, indentless_entry_node, key_pairs_end, key_pairs_key, key_pairs_refuses, pairs_key, pairs_value, part_empty, part_has_node}
-pub use Rattle.model_parser.proofs.Document.{after_marked, after_refuses, after_unmarked, content_empty, content_node, directed_more, directed_refuses, directed_start, documents_bare, documents_directives, documents_explicit, documents_marker, explicit_end, explicit_refuses, explicit_start, start_refuses, start_takes}
+pub use Rattle.model_parser.proofs.Block.{after_key_empty, entries_refuses, indentless_entries_end, key_pairs_refuses, pairs_key, part_empty, part_has_node, block_turns}
+pub use Rattle.model_parser.proofs.Document.{after_refuses, after_unmarked, content_empty, directed_more, directed_refuses, documents_bare, documents_directives, documents_explicit, explicit_refuses, start_refuses, document_turns}
 pub use Rattle.model_parser.proofs.Endings.{end_events, end_tokens, ends_so, goes_so, past_tokens}
-pub use Rattle.model_parser.proofs.Falls.{after_text, after_text_events, grammar_completes, text, text_event}
+pub use Rattle.model_parser.proofs.Falls.{after_text_events, grammar_completes, text, text_event}
 pub use Rattle.model_parser.proofs.First.{not_document, not_entry, not_flow_key, not_flow_pair, not_indentless, not_item, not_item_key, not_part, tok_is}
-pub use Rattle.model_parser.proofs.Flow.{comma_flow_end, comma_flow_has_pair, comma_items_end, comma_items_item, flow_after_empty, flow_after_value, flow_empties, flow_key_empty, flow_key_node, flow_pair_key, flow_pair_node, flow_pair_value, flow_pairs_end, flow_pairs_pair, flow_valued_empty, flow_valued_node, item_key, item_node, items_end, items_item, more_flow_comma, more_flow_end, more_flow_refuses, more_items_comma, more_items_end, more_items_refuses, pair_ends, pair_key_empty, pair_key_node, pair_value_empty, pair_value_value, pair_valued_empty, pair_valued_node}
+pub use Rattle.model_parser.proofs.Flow.{comma_flow_has_pair, flow_after_empty, flow_empties, flow_pair_node, flow_pairs_pair, flow_valued_empty, flow_valued_node, item_node, items_item, more_flow_refuses, more_items_refuses, pair_ends, pair_value_empty, flow_turns}
 pub use Rattle.model_parser.proofs.Nodes.{after_braces, after_brackets, after_dash, after_mapping, after_scalar, after_sequence, anchor_alone, anchor_tag, block_flow, node_anchor, node_tag, nothing_refuses, part_block, properties_only, tag_alone, tag_anchor}
 pub use Rattle.model_parser.proofs.Places.{nowhere, plain_before, plain_work, with_positions}
 pub use Rattle.model_parser.proofs.Quiet.{plain_placed}
 pub use Rattle.model_parser.proofs.Settling.{mapping_under}
 pub use Rattle.model_parser.proofs.Standing.{first_of, looks, pops, top_of}
-pub use Rattle.model_parser.proofs.CameBy.{left_by, none_by, said_by, taken_by}
+pub use Rattle.model_parser.proofs.Completions.{left_by, none_by, said_by, taken_by}
 pub use Rattle.model_parser.proofs.StepRows.{by_steps, first_any, has_goal, needs_tokens, not_refused, steps}
 pub use Rattle.model_parser.specs.Goal.{Goal}
 pub use Rattle.model_parser.specs.Kinds.{begins_content, begins_node, ends_content, ends_document, ends_entry, ends_flow_key, ends_flow_pair, ends_indentless_entry, ends_item, ends_item_key, ends_part, HasNoText, is_directive, kind_of, tok_of_kind}
@@ -45,11 +45,11 @@ pub use Rattle.std.proofs.lemmas.List.{length-append, map-append, nil_from_lengt
 pub use Rattle.std.proofs.lemmas.Slice.Eq.{bytes_eq-Decides}
 pub use Rattle.std.specs.BTreeMap.{BTreeMap, get_by_text}
 pub use Rattle.std.specs.Option.{IfNone, IfSome, IsSome}
-pub use Rattle.std.specs.Result.{IfErr, IsErrAnd, OnErr, OnOk}
+pub use Rattle.std.specs.Result.{is_err, IfErr, IsErr, IsErrAnd, OnErr, OnOk}
 pub use Rattle.std.specs.declared.alloc.Global.{Global}
 pub use Rattle.yaml_parser.specs.Ahead.{indicator_of, scalar_of, Skips, SkipsOne, TakesBoth}
 pub use Rattle.yaml_parser.specs.Apart.{GoesApart, GoesOnBy, GoesOnWith, IsOpen, SaysBefore, StandsApart, StandsBefore, token_at, two_that_come}
-pub use Rattle.yaml_parser.specs.At.{answered, Answers, At, Carries, Fails, Faulted, goal_after_event, is_done, is_idle, is_over, is_pair_end, IsPastColon, IsPending, named_by, names_at, names_by, Reads, Stayed, Took}
+pub use Rattle.yaml_parser.specs.At.{answered, Answers, At, Carries, Passes, Stops, Fails, Faulted, goal_after_event, is_done, is_idle, is_over, is_pair_end, IsPastColon, IsPending, named_by, names_at, names_by, Reads, Stayed, Took}
 pub use Rattle.yaml_parser.specs.Blames.{Blames, EndsInAnchor, fits, HasUndeclaredHandle, HasUnknownAnchor, is_of_names, IsCause, problem_at, problem_for, problem_in, problem_of, SpoilsDirectives, StandsAt}
 pub use Rattle.yaml_parser.specs.Declares.{Declares, HasRead}
 pub use Rattle.yaml_parser.specs.Derived.{IsDerived, stood}

@@ -3,6 +3,7 @@ use Rattle.yaml_parser.proofs.Common.{arith, [], after_text_events, anchor_of, a
 use Rattle.defs_event.specs.Properties.{tag_of}
 use Rattle.yaml_parser.proofs.DirectiveLemmas.{some_map}
 use Rattle.model_parser.specs.Rest.{place_of as where_it_stands}
+use Rattle.model_parser.proofs.Quiet.{is_quiet, past_quiet, works_quiet}
 use Rattle.defs_event.specs.Grammar as table
 use Rattle.model_parser.specs.declared.kind.Kind.TheVariants as kind
 use Rattle.model_parser.specs.declared.context.NodeContext.TheVariants as context
@@ -48,27 +49,18 @@ is_some_value : {A : Type 0} (o : Option A) → IsSome o → (x : A) × (o ≡ S
 is_some_value None h = cc
 is_some_value (Some x) h = (x, refl)
 
-free_some : (s : Names) (e : Raw) → is_free e ≡ true → IsSome (resolved_event s e)
-free_some s e h = grind arith
-
 pub free_named : (keep : Bool) (es : List Raw) → are_free es ≡ true → AnyNameable keep es
 free_named keep [] h s = ([], refl)
 free_named keep (e ∷ es) h s =
     let p = and_parts (is_free e) (are_free es) h in
-    name_one keep s e es (is_some_value (resolved_event s e) (free_some s e p.0)).1 (free_named keep es p.1)
+    name_one keep s e es (is_some_value (resolved_event s e) (grind arith)).1 (free_named keep es p.1)
 
 -- Of work on a stack all holds nothing, and what is said is the end of a pair.
-abbrev is_quiet : Raw → Bool
-is_quiet Raw.pair_end = true
-is_quiet _ = false
+abbrev holds_none : Held → Bool
+holds_none h = is_untagged h.tag && is_none h.directives
 
 abbrev pub is_plain : Works → Bool
-is_plain [] = true
-is_plain (saying e ∷ w) = is_quiet e && is_plain w
-is_plain (reading g h ∷ w) = is_untagged h.tag && (is_none h.directives && is_plain w)
-
-quiet_free : (e : Raw) → is_quiet e ≡ true → is_free e ≡ true
-quiet_free e h = grind arith
+is_plain w = is_quiet holds_none w
 
 after_free : (p : Place) (es : List Raw) → are_free es ≡ true → are_free (after_text_events p ++ es) ≡ true
 after_free p es h = grind arith
@@ -88,24 +80,21 @@ goal_free _ h es t d i = i
 
 pub plain_free : (w : Works) → is_plain w ≡ true → are_free (end_events w) ≡ true
 plain_free [] h = refl
-plain_free (saying e ∷ w) h = let p = and_parts (is_quiet e) (is_plain w) h in and_from (is_free e) (are_free (end_events w)) (quiet_free e p.0) (plain_free w p.1)
+plain_free (saying Raw.pair_end ∷ w) h = plain_free w h
+plain_free (saying e ∷ w) h = cc
 plain_free (reading g x ∷ w) h =
-    let p = and_parts (is_untagged x.tag) (is_none x.directives && is_plain w) h in
-    let q = and_parts (is_none x.directives) (is_plain w) p.1 in
-    goal_free g x (end_events w) p.0 q.0 (plain_free w q.1)
+    let p = and_parts (holds_none x) (is_plain w) h in
+    let q = and_parts (is_untagged x.tag) (is_none x.directives) p.0 in
+    goal_free g x (end_events w) q.0 q.1 (plain_free w p.1)
 
-past_plain : (ss : List State) → is_plain (works ss) ≡ true → is_plain (past ss (works ss)) ≡ true
-past_plain ss h = grind arith
+works_plain : (ss : List State) → is_plain (works ss) ≡ true
+works_plain ss = works_quiet holds_none ss refl
 
-state_plain : (s : State) (ss : List State) → is_plain (works ss) ≡ true → is_plain (works (s ∷ ss)) ≡ true
-state_plain s ss h = let q = past_plain ss h in grind arith
-
-pub works_plain : (ss : List State) → is_plain (works ss) ≡ true
-works_plain [] = refl
-works_plain (s ∷ ss) = state_plain s ss (works_plain ss)
+past_plain : (ss : List State) → is_plain (past ss (works ss)) ≡ true
+past_plain ss = past_quiet holds_none ss (works_plain ss)
 
 pub past_free : (ss : List State) → are_free (end_events (past ss (works ss))) ≡ true
-past_free ss = plain_free (past ss (works ss)) (past_plain ss (works_plain ss))
+past_free ss = plain_free (past ss (works ss)) (past_plain ss)
 
 pub works_free : (ss : List State) → are_free (end_events (works ss)) ≡ true
 works_free ss = plain_free (works ss) (works_plain ss)
@@ -128,8 +117,8 @@ goal_named (Goal.after_tag q t) ss keep s p = text_named ss keep s (record { anc
 goal_named (Goal.after_properties q None) ss keep s p = text_named ss keep s nothing_held refl
 goal_named (Goal.after_properties q (Some o)) ss keep s p = text_named ss keep s (record { anchor = anchor_of o; tag = tag_of o; directives = [] }) p
 goal_named Goal.part ss keep s p = text_named ss keep s nothing_held refl
-goal_named Goal.indentless_entries ss keep s p = free_named keep (end_events (work_of Goal.indentless_entries ss)) (plain_free (work_of Goal.indentless_entries ss) (past_plain ss (works_plain ss))) s
-goal_named Goal.indentless_entry ss keep s p = free_named keep (end_events (work_of Goal.indentless_entry ss)) (plain_free (work_of Goal.indentless_entry ss) (past_plain ss (works_plain ss))) s
+goal_named Goal.indentless_entries ss keep s p = free_named keep (end_events (work_of Goal.indentless_entries ss)) (plain_free (work_of Goal.indentless_entries ss) (past_plain ss)) s
+goal_named Goal.indentless_entry ss keep s p = free_named keep (end_events (work_of Goal.indentless_entry ss)) (plain_free (work_of Goal.indentless_entry ss) (past_plain ss)) s
 goal_named (Goal.flow_pair table.after_brace) ss keep s p = free_named keep (end_events (work_of (Goal.flow_pair table.after_brace) ss)) (works_free ss) s
 goal_named g ss keep s p = free_named keep (end_events (work_of g ss)) (works_free ss) s
 
@@ -162,14 +151,6 @@ may_end Goal.done (state.BlockMappingNextKey ∷ ss) h = refl
 may_end Goal.done (s ∷ ss) h = first_any Goal.done (s ∷ ss) (end_tokens (works (s ∷ ss))) (λ k. refl)
 may_end g ss h = first_any g ss (end_tokens (work_of g ss)) (λ k. refl)
 
-on_the_shortest : (g : Goal) (ss : List State) → is_barred g ≡ false → Completed g ss
-on_the_shortest g ss h = record {
-  tokens = end_tokens (work_of g ss);
-  events = end_events (work_of g ss);
-  awaits = (ends_so (work_of g ss), may_end g ss h);
-  nameable = λ keep s p. goal_named g ss keep s p;
-}
-
 -- by a scalar first
 by_text : (g : Goal) (ss : List State) (v : Works) → past_tokens (work_of g ss) (text ∷ []) ≡ Some ([], saying (text_event nothing_held) ∷ v) → may_begin g ss kind.Scalar ≡ true → is_plain v ≡ true → Completed g ss
 by_text g ss v h m p = record {
@@ -182,4 +163,9 @@ by_text g ss v h m p = record {
 pub completed : (g : Goal) (ss : List State) → Completed g ss
 completed Goal.item ss = by_text Goal.item ss _ refl refl (works_plain ss)
 completed (Goal.flow_pair s) ss = by_text (Goal.flow_pair s) ss _ refl refl (works_plain ss)
-completed g ss = on_the_shortest g ss refl
+completed g ss = record {
+  tokens = end_tokens (work_of g ss);
+  events = end_events (work_of g ss);
+  awaits = (ends_so (work_of g ss), may_end g ss refl);
+  nameable = λ keep s p. goal_named g ss keep s p;
+}

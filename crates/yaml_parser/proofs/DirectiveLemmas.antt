@@ -10,12 +10,6 @@ use Rattle.defs_event.specs.Names as defs
 under_both : (b : Bool) (v : List ℕ) (o : Option (List ℕ)) → (if b then Some v else o) ≡ None → (b ≡ false) × (o ≡ None)
 under_both b v o h = grind arith
 
-other_name : (x y z : List ℕ) → bytes_eq x z ≡ true → bytes_eq y z ≡ false → bytes_eq x y ≡ false
-other_name x y z h k = false_from_ne_true (bytes_eq x y) (λ e. both_ways (bytes_eq y z) k ((bytes_eq-Decides y z).1 (sym ((bytes_eq-Decides x y).0 e) ∙ (bytes_eq-Decides x z).0 h)))
-
-same_either_way : (x y : List ℕ) → bytes_eq x y ≡ false → bytes_eq y x ≡ false
-same_either_way x y h = false_from_ne_true (bytes_eq y x) (λ e. both_ways (bytes_eq x y) h ((bytes_eq-Decides x y).1 (sym ((bytes_eq-Decides y x).0 e))))
-
 swap_tests : (a b : Bool) (u v : List ℕ) (o : Option (List ℕ)) → (a ≡ true → b ≡ false) → (if a then Some u else (if b then Some v else o)) ≡ (if b then Some v else (if a then Some u else o))
 swap_tests a b u v o h = grind arith
 
@@ -25,7 +19,7 @@ insert_under x h p [] more e = refl
 insert_under x h p (q ∷ xs) more e =
     let b = under_both (bytes_eq h q.0) q.1 (under_name h xs) e in
     ap (λ o. if bytes_eq x q.0 then Some q.1 else o) (insert_under x h p xs more b.1)
-    ∙ swap_tests (bytes_eq x q.0) (bytes_eq x h) q.1 p (under_name x (xs ++ more)) (λ y. other_name x h q.0 y b.0)
+    ∙ swap_tests (bytes_eq x q.0) (bytes_eq x h) q.1 p (under_name x (xs ++ more)) (λ y. (false_from_ne_true (bytes_eq x h) (λ e. both_ways (bytes_eq h q.0) b.0 ((bytes_eq-Decides h q.0).1 (sym ((bytes_eq-Decides x h).0 e) ∙ (bytes_eq-Decides x q.0).0 y)))))
 
 some_if : (b : Bool) (v : List ℕ) (o : Option (List ℕ)) → is_some o ≡ true → is_some (if b then Some v else o) ≡ true
 some_if b v o h = grind arith
@@ -41,17 +35,14 @@ once_more h p [] e = refl
 once_more h p (q ∷ xs) e =
     let b = under_both (bytes_eq h q.0) q.1 (under_name h xs) e in
     let same : under_name q.0 (xs ++ (h, p) ∷ []) ≡ under_name q.0 xs =
-    insert_under q.0 h p xs [] b.1 ∙ ap (λ c. if c then Some p else under_name q.0 (xs ++ [])) (same_either_way h q.0 b.0) ∙ ap (under_name q.0) (append-nil xs) in
+    insert_under q.0 h p xs [] b.1 ∙ ap (λ c. if c then Some p else under_name q.0 (xs ++ [])) (false_from_ne_true (bytes_eq q.0 h) (λ e. both_ways (bytes_eq h q.0) b.0 ((bytes_eq-Decides h q.0).1 (sym ((bytes_eq-Decides q.0 h).0 e))))) ∙ ap (under_name q.0) (append-nil xs) in
     ap (λ o. not (is_some o) && is_each_once (xs ++ (h, p) ∷ [])) same ∙ ap (λ c. not (is_some (under_name q.0 xs)) && c) (once_more h p xs b.1)
-
-once_first : (o : Option (List ℕ)) (b : Bool) → is_some o ≡ true → (not (is_some o) && b) ≡ false
-once_first o b h = and_left (not (is_some o)) b (not_from_true (is_some o) h)
 
 twice_at : (h p : List ℕ) (q : List ℕ × List ℕ) (xs more : List (List ℕ × List ℕ)) (b : Bool) → bytes_eq h q.0 ≡ b → is_some (if b then Some q.1 else under_name h xs) ≡ true
     → (is_some (under_name h xs) ≡ true → is_each_once (xs ++ (h, p) ∷ more) ≡ false) → (not (is_some (under_name q.0 (xs ++ (h, p) ∷ more))) && is_each_once (xs ++ (h, p) ∷ more)) ≡ false
 twice_at h p q xs more true e k f =
     let same : h ≡ q.0 = (bytes_eq-Decides h q.0).0 e in
-    once_first (under_name q.0 (xs ++ (h, p) ∷ more)) (is_each_once (xs ++ (h, p) ∷ more)) (subst (λ z. is_some (under_name z (xs ++ (h, p) ∷ more)) ≡ true) same (is_there h p xs more))
+    and_left (not (is_some (under_name q.0 (xs ++ (h, p) ∷ more)))) (is_each_once (xs ++ (h, p) ∷ more)) (not_from_true (is_some (under_name q.0 (xs ++ (h, p) ∷ more))) (subst (λ z. is_some (under_name z (xs ++ (h, p) ∷ more)) ≡ true) same (is_there h p xs more)))
 twice_at h p q xs more false e k f = and_right (not (is_some (under_name q.0 (xs ++ (h, p) ∷ more)))) (is_each_once (xs ++ (h, p) ∷ more)) (f k)
 
 once_twice : (h p : List ℕ) (xs more : List (List ℕ × List ℕ)) → is_some (under_name h xs) ≡ true → is_each_once (xs ++ (h, p) ∷ more) ≡ false
@@ -68,15 +59,7 @@ declared_append (tag [] (c ∷ p) ∷ ds) es = ap (λ xs. ([], c ∷ p) ∷ xs) 
 declared_append (tag (c ∷ h) p ∷ ds) es = ap (λ xs. (c ∷ h, p) ∷ xs) (declared_append ds es)
 
 declared_one : (h p : List ℕ) (es : List Directive) → (h ≡ [] → p ≡ [] → ⊥) → declared (tag h p ∷ es) ≡ (h, p) ∷ declared es
-declared_one [] [] es a = absurd (a refl refl)
-declared_one [] (c ∷ p) es a = refl
-declared_one (c ∷ h) p es a = refl
-
-declared_snoc : (ds : List Directive) (h p : List ℕ) → (h ≡ [] → p ≡ [] → ⊥) → declared (ds ++ tag h p ∷ []) ≡ declared ds ++ (h, p) ∷ []
-declared_snoc ds h p a = declared_append ds (tag h p ∷ []) ∙ ap (λ xs. declared ds ++ xs) (declared_one h p [] a)
-
-ignored_snoc : (ds : List Directive) → declared (ds ++ tag [] [] ∷ []) ≡ declared ds
-ignored_snoc ds = declared_append ds (tag [] [] ∷ []) ∙ append-nil (declared ds)
+declared_one h p es a = grind arith
 
 pub version_ignored : (ds : List Directive) (m n : ℕ) → declared (ds ++ version m n ∷ []) ≡ declared ds
 version_ignored ds m n = declared_append ds (version m n ∷ []) ∙ append-nil (declared ds)
@@ -98,12 +81,6 @@ none_if o h = grind arith
 of_if : {A B : Type 0} (f : A → B) (b : Bool) (x y : A) → f (if b then x else y) ≡ (if b then f x else f y)
 of_if f b x y = grind arith
 
--- Every declaration is numbered, also after one more.
-numbered_by : (b : Bool) (d : Declaration) (o : Option Declaration) (n : ℕ) → d.number ≡ n + 1 → IfSome o (λ e. e.number ≤ n) → IfSome (if b then Some d else o) (λ e. e.number ≤ n + 1)
-numbered_by true d o n e h = omega (arith, e)
-numbered_by false d (Some x) n e h = omega (arith, h)
-numbered_by false d None n e h = tt
-
 -- A handle of which the code knows nothing of this document is declared now, under this number.
 pub has_declared : {code new : Names} {keep : Bool} {names : defs.Names} {read : List Directive} (handle : String Global) (d : Declaration)
     → HasRead code keep names read → new.count ≡ code.count → new.anchors ≡ code.anchors → new.earlier ≡ code.earlier → new.declared ≡ code.declared + 1 → d.number ≡ code.declared + 1
@@ -114,7 +91,7 @@ has_declared {code} {new} {keep} {names} {read} handle d h count anchors earlier
     let hs = string_chars handle in
     let ps = prefix_of d in
     let free : under_name hs (declared read) ≡ None = none_if (under_name hs (declared read)) (sym (h.own.own handle) ∙ first) in
-    let all = declared_snoc read hs ps named in
+    let all : declared (read ++ tag hs ps ∷ []) ≡ declared read ++ (hs, ps) ∷ [] = declared_append read (tag hs ps ∷ []) ∙ ap (λ xs. declared read ++ xs) (declared_one hs ps [] named) in
     let later : nat_lt code.earlier d.number ≡ true = grind (arith, nat_tests, h.own.earlier, number) in
     let older = (if keep then names.handles else []) in (
       record {
@@ -127,7 +104,7 @@ has_declared {code} {new} {keep} {names} {read} handle d h count anchors earlier
               ∙ sym (ap (under_name (string_chars x)) (append_assoc (declared read) ((hs, ps) ∷ []) older))
               ∙ sym (ap (λ xs. under_name (string_chars x) (xs ++ older)) all);
           numbers = λ x. subst (λ n. IfSome (get_by_text new.handles (string_bytes x)) (λ e. e.number ≤ n)) (sym more)
-              (subst (λ o. IfSome o (λ e. e.number ≤ code.declared + 1)) (sym (handles x)) (numbered_by (bytes_eq (string_chars x) hs) d (get_by_text code.handles (string_bytes x)) code.declared number (h.named.numbers x)));
+              (subst (λ o. IfSome o (λ e. e.number ≤ code.declared + 1)) (sym (handles x)) (grind arith));
         };
         own = record {
           own = λ x. ap (λ n. is_own n (get_by_text new.handles (string_bytes x))) earlier ∙ ap (is_own code.earlier) (handles x)
@@ -160,7 +137,7 @@ own_alike {code} read more same x = record { own = λ y. x.own y ∙ sym (ap (λ
 pub has_ignored : {code : Names} {keep : Bool} {names : defs.Names} {read : List Directive} (h p : List ℕ) → h ≡ [] → p ≡ [] → HasRead code keep names read
     → HasRead code keep names (read ++ tag h p ∷ []) × (is_each_once (declared (read ++ tag h p ∷ [])) ≡ is_each_once (declared read))
 has_ignored {code} {keep} {names} {read} h p a b x =
-    let none : declared (read ++ tag h p ∷ []) ≡ declared read = ap (λ z. declared (read ++ tag z p ∷ [])) a ∙ ap (λ z. declared (read ++ tag [] z ∷ [])) b ∙ ignored_snoc read in
+    let none : declared (read ++ tag h p ∷ []) ≡ declared read = ap (λ z. declared (read ++ tag z p ∷ [])) a ∙ ap (λ z. declared (read ++ tag [] z ∷ [])) b ∙ (declared_append read (tag [] [] ∷ []) ∙ append-nil (declared read)) in
     (record { named = named_alike keep names read (read ++ tag h p ∷ []) none x.named; own = own_alike read (read ++ tag h p ∷ []) none x.own }, ap is_each_once none)
 
 -- ---- versions

@@ -1,5 +1,5 @@
 -- The arms of the productions of documents.
-use Rattle.yaml_parser.proofs.Common.{[], all_shown, and_from, and_left, and_parts, and_right, ap, append-nil, append_assoc, are_allowed, arith, At, at_document, BeginAt, begins_node, Bool, Carries, declared, Declares, Derives, directed_more, directed_start, Directing, Directive, directive_token, directives_tokens, DirectsTo, documents_directives, Err, Ev, events_of, explicit_end, explicit_start, false, Faulted, fits, Goal, grammar, HasRead, IfSome, if◌then◌else◌, inl, is_directive, is_each_once, is_end, is_of_names, is_over, IsAfter, IsCause, IsNamed, IsOfKind, IsOwn, Kind, kind_of, last_position, Leaves, List, lt-leb, named, nat_le, needs_tokens, none_by, None, Ok, option_map, OutOfMemory, Position, Problem, Raw, Reader, reading, refl, RepeatedHandle, Result, taken_by, said_by, SecondVersion, shown, Skips, Some, SpoilsDirectives, Stayed, Fault, subst, sym, taken_toks, Takes, Tok, tok_is, tok_of, Token, Tokens, toks, true, UndeclaredHandle, versions, with_directives, Works, works, ℕ, ◌++◌, ◌+◌, ◌<◌, ◌∙◌, ◌∷◌, ◌≡◌, ◌≢◌}
+use Rattle.yaml_parser.proofs.Common.{[], all_shown, and_from, and_left, and_parts, and_right, ap, append-nil, append_assoc, are_allowed, arith, At, at_document, BeginAt, Bool, Carries, declared, Declares, Derives, directed_more, Directing, Directive, directive_token, directives_tokens, DirectsTo, documents_directives, Err, Ev, events_of, false, Faulted, fits, Goal, grammar, HasRead, IfSome, if◌then◌else◌, inl, is_directive, is_each_once, is_end, is_of_names, is_over, IsAfter, IsCause, IsNamed, IsOfKind, IsOwn, Kind, kind_of, last_position, Leaves, List, lt-leb, named, nat_le, needs_tokens, none_by, None, Ok, Option, option_map, OutOfMemory, Position, Problem, Raw, Reader, reading, refl, RepeatedHandle, Result, taken_by, said_by, SecondVersion, shown, Skips, Some, SpoilsDirectives, Stayed, Fault, subst, sym, taken_toks, Takes, Tok, tok_is, tok_of, Token, Tokens, toks, true, UndeclaredHandle, versions, with_directives, Works, works, ℕ, ◌++◌, ◌+◌, ◌<◌, ◌∙◌, ◌∷◌, ◌≡◌, ◌≢◌, resolved_event, document_turns}
 use Rattle.yaml_parser.specs.declared.names.Names.{Names}
 use Rattle.yaml_parser.proofs.Steps.{looked, taken_snoc, took, took_on, left, left_as, if_some_at}
 use Rattle.yaml_parser.proofs.Arms.{Skipped, here_at, faulted_as}
@@ -11,7 +11,6 @@ use Rattle.yaml_tokens.specs.declared.problem.Fault.TheVariants as fault
 use Rattle.defs_event.specs.Raw as raw
 use Rattle.defs_event.specs.Names as defs
 use Rattle.model_parser.specs.declared.kind.Kind.TheVariants as kind
-use Rattle.model_parser.specs.declared.context.NodeContext.TheVariants as context
 use Rattle.model_parser.specs.declared.state.State.TheVariants as state
 use Rattle.defs_event.specs.Grammar as table
 
@@ -34,20 +33,21 @@ bare_begins {T} m {p} {q} {r} {k} {names} {given} here mark turn tokens keep sta
           refl (λ j begins. here_at (last_position p.tokens) (Raw.document_start []) j m (λ b k. refl) (subst (λ o. BeginAt o (j ∷ [])) l.1 begins ∙ if_some_at (λ (u : Token). u.0 ≡ m) (subst (λ x. IfSome x.peeked (λ u. u.0 ≡ m)) (stayed.tokens ∙ tokens) mark) l.1)) tt a,
     )
 
--- A document begins with `---`.
-pub explicit_begins : {T : Type 0} (m : Position) {p q r : Reader T} {k : Kind} {names : defs.Names} {given : List (Ev × Position)}
-    → IsOfKind k p.tokens.peeked → k ≡ kind.DocumentStart → IfSome p.tokens.peeked (λ t. t.0 ≡ m) → q.tokens ≡ p.tokens → q.stack ≡ p.stack → q.names.keeping ≡ p.names.keeping → Starts p.names q.names → Skipped q r (state.DocumentContent ∷ q.stack)
-    → At Goal.explicit p names given → (names' : defs.Names) × At Goal.done r names' (given ++ (Ev.document_start, m) ∷ [])
-explicit_begins {T} m {p} {q} {r} {k} {names} {given} here h mark tokens stack keep starts skip a =
+-- A document begins with `---`, after these directives.
+pub marked_begins : {T : Type 0} (m : Position) {p q r : Reader T} {k : Kind} (g : Goal) (read : List Directive) {names : defs.Names} {given : List (Ev × Position)}
+    → IsOfKind k p.tokens.peeked → k ≡ kind.DocumentStart → IfSome p.tokens.peeked (λ t. t.0 ≡ m) → q.tokens ≡ p.tokens → q.stack ≡ p.stack → q.names.keeping ≡ p.names.keeping → Skipped q r (state.DocumentContent ∷ q.stack)
+    → Takes g p.stack Tok.document_start (Some (Raw.document_start read)) Goal.done (state.DocumentContent ∷ p.stack) → is_over g ≡ false → (a : At g p names given)
+    → IsNamed q.names (at_document p.names.keeping.tags names read) → resolved_event names (Raw.document_start read) ≡ Some Ev.document_start → (names' : defs.Names) × At Goal.done r names' (given ++ (Ev.document_start, m) ∷ [])
+marked_begins {T} m {p} {q} {r} {k} g read {names} {given} here h mark tokens stack keep skip turn over a code resolves =
     let l = looked k p.tokens.peeked here in
     let t = l.0 in
     let x = skip t (ap (λ y. y.peeked) tokens ∙ l.1) in
     let same : tok_of t.1 ≡ Tok.document_start = tok_is (l.2 ∙ h) refl in (
-      at_document p.names.keeping.tags names [],
+      at_document p.names.keeping.tags names read,
       took m l.1 (subst (λ y. Skips y t r.tokens) tokens x.tokens) (x.stack ∙ ap (λ ss. state.DocumentContent ∷ ss) stack)
-          (subst (λ u. Takes Goal.explicit p.stack u (Some (Raw.document_start [])) Goal.done (state.DocumentContent ∷ p.stack)) (sym same) (explicit_start p.stack))
-          (record { resolves = refl; after_it = refl; keep = ap (λ n. n.keeping) x.names ∙ keep; code = subst (λ n. IsNamed n (at_document p.names.keeping.tags names [])) (sym x.names) (starts names a.code); pending = tt })
-          (λ b. (refl, ap is_end same)) (here_at (last_position p.tokens) (Raw.document_start []) (shown t) m (λ b k. refl) (if_some_at (λ (u : Token). u.0 ≡ m) mark l.1)) tt a,
+          (subst (λ u. Takes g p.stack u (Some (Raw.document_start read)) Goal.done (state.DocumentContent ∷ p.stack)) (sym same) turn)
+          (record { resolves = resolves; after_it = refl; keep = ap (λ n. n.keeping) x.names ∙ keep; code = subst (λ n. IsNamed n (at_document p.names.keeping.tags names read)) (sym x.names) code; pending = tt })
+          (λ b. (over, ap is_end same)) (here_at (last_position p.tokens) (Raw.document_start read) (shown t) m (λ b k. refl) (if_some_at (λ (u : Token). u.0 ≡ m) mark l.1)) tt a,
     )
 
 -- The stream ends.
@@ -59,36 +59,12 @@ stream_ends {T} m {p} {r} {k} {names} {given} here h mark skip a =
     let x = skip t l.1 in
     let same : tok_of t.1 ≡ Tok.stream_end = tok_is (l.2 ∙ h) refl in (
       names,
-      took m l.1 x.tokens x.stack (subst (λ u. Takes Goal.explicit p.stack u (Some Raw.stream_end) Goal.ended p.stack) (sym same) (explicit_end p.stack))
+      took m l.1 x.tokens x.stack (subst (λ u. Takes Goal.explicit p.stack u (Some Raw.stream_end) Goal.ended p.stack) (sym same) (document_turns p.stack).explicit_end)
           (record { resolves = refl; after_it = refl; keep = ap (λ n. n.keeping) x.names; code = subst (λ n. IsNamed n names) (sym x.names) a.code; pending = tt })
           (λ b. let no : true ≡ false = b in cc) (here_at (last_position p.tokens) Raw.stream_end (shown t) m (λ b k. refl) (if_some_at (λ (u : Token). u.0 ≡ m) mark l.1)) tt a,
     )
 
--- The start of a document stands after its directives.
-pub directed_begins : {T : Type 0} (m : Position) {p r : Reader T} {k : Kind} {read : List Directive} {names : defs.Names} {given : List (Ev × Position)}
-    → IsOfKind k p.tokens.peeked → k ≡ kind.DocumentStart → IfSome p.tokens.peeked (λ t. t.0 ≡ m) → Skipped p r (state.DocumentContent ∷ p.stack)
-    → At (Goal.directed read) p names given → (names' : defs.Names) × At Goal.done r names' (given ++ (Ev.document_start, m) ∷ [])
-directed_begins {T} m {p} {r} {k} {read} {names} {given} here h mark skip a =
-    let l = looked k p.tokens.peeked here in
-    let t = l.0 in
-    let x = skip t l.1 in
-    let same : tok_of t.1 ≡ Tok.document_start = tok_is (l.2 ∙ h) refl in (
-      at_document p.names.keeping.tags names read,
-      took m l.1 x.tokens x.stack (subst (λ u. Takes (Goal.directed read) p.stack u (Some (Raw.document_start read)) Goal.done (state.DocumentContent ∷ p.stack)) (sym same) (directed_start p.stack read))
-          (record {
-            resolves = ap (λ b. if b then Some Ev.document_start else None) a.pending;
-            after_it = refl;
-            keep = ap (λ n. n.keeping) x.names;
-            code = subst (λ n. IsNamed n (at_document p.names.keeping.tags names read)) (sym x.names) a.code;
-            pending = tt;
-          })
-          (λ b. (refl, ap is_end same)) (here_at (last_position p.tokens) (Raw.document_start read) (shown t) m (λ b k. refl) (if_some_at (λ (u : Token). u.0 ≡ m) mark l.1)) tt a,
-    )
-
 -- ---- directives
-
-no_node : (k : Kind) → is_directive k ≡ true → begins_node context.Block k ≡ false
-no_node k h = grind arith
 
 pub not_directive : (k : Kind) → k ≢ kind.VersionDirective → k ≢ kind.TagDirective → is_directive k ≡ false
 not_directive k a b = grind arith
@@ -101,7 +77,7 @@ directives_begin {T} {p} {q} k {names} {given} here h tokens stack keep starts o
     let e : is_directive (kind_of (tok_of l.0.1)) ≡ true = ap is_directive l.2 ∙ h in
     record {
       read = [];
-      here = left_as (ap (option_map (λ (x : Token). tok_of x.1)) l.1) tokens stack (documents_directives p.stack (tok_of l.0.1) e (no_node _ e)) keep
+      here = left_as (ap (option_map (λ (x : Token). tok_of x.1)) l.1) tokens stack (documents_directives p.stack (tok_of l.0.1) e (grind arith)) keep
           (subst (λ b. IsNamed q.names (at_document b.tags names [])) (sym keep) (starts names a.code)) refl refl tt a;
       own = own names a.code;
       version = refl;

@@ -1,5 +1,5 @@
 -- The shortest way to the end from each position: so no fault is late.
-use Rattle.yaml_parser.proofs.Common.{[], all_shown, ap, append_assoc, as_tokens, At, at_directive, BeginAt, Bool, both_some, both_ways, Derives, Ev, events_of, false, Faulted, first_may, fits, Goal, goal_of, GoesOn, grammar, has_goal, IfSome, inl, is_after, is_of_names, is_over, IsCause, IsDerived, IsFor, IsOfKind, IsPending, IsSettled, Kind, kind_of, last_position, List, map-append, named, Names, names_after, names_by, needs_tokens, next_after, next_at, no_names, None, nowhere, Option, option_map, other_next, peeked_tok, plain_placed, Position, Problem, problem_of, Raw, raws_of, Reader, refl, Refuses, resolved_event, scanned, shown, shown_list, Some, StandsApart, StandsBefore, State, stood, StreamPlaces, StreamSays, subst, sym, taken_toks, to_end, Tok, tok_of, Token, token_at, toks, top, true, with_positions, work_of, ◌++◌, ◌∙◌, ◌∷◌, ◌≡◌, arith}
+use Rattle.yaml_parser.proofs.Common.{[], all_shown, ap, append_assoc, as_tokens, At, at_directive, BeginAt, Bool, both_some, both_ways, Derives, Ev, events_of, false, Faulted, first_may, fits, Goal, goal_of, GoesOn, grammar, has_goal, IfSome, inl, is_after, is_of_names, is_over, IsCause, IsDerived, IsOfKind, IsPending, IsSettled, Kind, kind_of, last_position, List, map-append, named, Names, names_after, names_by, needs_tokens, next_after, next_at, no_names, None, nowhere, Option, option_map, other_next, peeked_tok, plain_placed, Position, Problem, problem_of, Raw, raws_of, Reader, refl, Refuses, resolved_event, scanned, shown, shown_list, Some, StandsApart, StandsBefore, State, stood, StreamPlaces, StreamSays, subst, sym, taken_toks, to_end, Tok, tok_of, Token, token_at, toks, top, true, with_positions, work_of, ◌++◌, ◌∙◌, ◌∷◌, ◌≡◌, arith}
 use Rattle.model_parser.specs.Rest.{placed}
 use Rattle.yaml_parser.proofs.Completed.{completed}
 use Rattle.model_parser.specs.Stands.{IsNext as Begins1, goes_on}
@@ -42,15 +42,6 @@ toks_at m [] = refl
 toks_at m (t ∷ ts) = ap (λ us. t ∷ us) (toks_at m ts)
 
 -- something is still to be read where a token was looked at
-state_reads : (s : State) (ss : List State) → has_goal (work_of Goal.done (s ∷ ss)) ≡ true
-state_reads s ss = grind arith
-
-reads_on : (g : Goal) (ss : List State) → is_over g ≡ false → IsFor g ss → has_goal (work_of g ss) ≡ true
-reads_on Goal.done [] o f = absurd f
-reads_on Goal.done (s ∷ ss) o f = state_reads s ss
-reads_on Goal.ended ss o f = cc
-reads_on g ss o f = refl
-
 begin_ahead : {T : Type 0} (p : Reader T) (g : Goal) (names : Names) (given : List (Ev × Position)) (ts : List Tok) (es : List Raw) → At g p names given → Derives grammar (work_of g p.stack) ts es
     → BeginAt p.tokens.peeked (all_at (place_ahead p.tokens.peeked) ts)
 begin_ahead {T} p g names given ts es a d = by p.tokens.peeked refl ts d
@@ -62,7 +53,7 @@ begin_ahead {T} p g names given ts es a d = by p.tokens.peeked refl ts d
       where
         over_or : (b : Bool) → is_over g ≡ b → ⊥
         over_or true e = let clash : None ≡ Some t = sym (a.over e) ∙ h in cc
-        over_or false e = needs_tokens (work_of g p.stack) es (reads_on g p.stack e a.stands.fits) d
+        over_or false e = needs_tokens (work_of g p.stack) es (grind arith) d
 
 -- What was given comes of what was taken.
 pub at_derived : {T : Type 0} (g : Goal) (p : Reader T) (names : Names) (given : List (Ev × Position)) → (a : At g p names given)

@@ -1,14 +1,13 @@
 -- What holds between two calls, and what it says of the events.
-use Rattle.yaml_parser.proofs.Common.{[], Advances, all_shown, answered, Answers, ap, append-nil, append_assoc, AreAll, arith, At, BeginsPlaced, behind, Blames, Bool, both_ways, Err, ErrorReport, Ev, ev_of, Event, EventReader, events_of, EventSlot, Explains, Fails, false, fault_kept, fault_seen, Faulted, first_of, Follows, Goal, goal_after, goal_after_event, goal_of, has_end, HasPlacedTo, IfSome, inl, inr, is_over, is_stream_end, IsBottom, IsComplete, IsDerived, IsErrAnd, IsGoing, IsHalted, IsHeld, IsMet, IsNamed, IsOnTrack, IsPastColon, IsSome, IsSound, IsWhole, Keeping, last_position, length, length-append, List, listed, map-append, Moves, named, named_append, named_by, named_since, Names, names_at, names_by, names_since, no_names, None, Notes, nothing_left, Ok, Option, option_map, or-false, or_assoc, OutOfMemory, Parsed, peeked_tok, placed, Places, pops, Position, Raw, read, Reader, Reads, refl, Refused, Result, scanned, shown, shown_list, Some, Stands, State, stood, Fault, StreamPlaces, StreamPlacesTo, StreamSays, subst, sym, taken_toks, to_end, to_next, Tok, tok_of, Token, toks, top, top_of, true, unwrap_or, weight, weights, work, work_of, ◌++◌, ◌+◌, ◌<◌, ◌||◌, ◌∙◌, ◌∷◌, ◌≡◌, ◌≤◌}
+use Rattle.yaml_parser.proofs.Common.{[], Advances, all_shown, answered, Answers, ap, append-nil, append_assoc, AreAll, arith, At, BeginsPlaced, behind, Blames, Bool, both_ways, Err, ErrorReport, Ev, ev_of, Event, EventReader, events_of, EventSlot, Explains, Fails, false, fault_kept, fault_seen, Faulted, first_of, Follows, Goal, goal_after, goal_of, has_end, HasPlacedTo, IfSome, inl, inr, is_over, is_stream_end, IsBottom, IsComplete, IsDerived, IsErrAnd, IsGoing, IsHalted, IsHeld, IsMet, IsNamed, IsOnTrack, IsPastColon, IsSome, IsSound, IsWhole, Keeping, last_position, length, length-append, List, listed, map-append, Moves, named, named_append, named_by, named_since, Names, names_at, names_by, names_since, no_names, None, Notes, nothing_left, Ok, Option, option_map, or-false, or_assoc, OutOfMemory, Parsed, peeked_tok, placed, Places, pops, Position, Raw, read, Reader, Reads, refl, Refused, Result, scanned, shown, shown_list, Some, Stands, State, stood, Fault, StreamPlaces, StreamPlacesTo, StreamSays, subst, sym, taken_toks, to_end, to_next, Tok, tok_of, Token, toks, top, top_of, true, unwrap_or, weight, weights, work, work_of, ◌++◌, ◌+◌, ◌<◌, ◌||◌, ◌∙◌, ◌∷◌, ◌≡◌, ◌≤◌}
 use Rattle.model_parser.specs.Rest.{placed as placed_work}
 use Rattle.model_parser.proofs.Standing.{begins, ends as read_whole}
 use Rattle.yaml_parser.specs.Handed.{ends}
 use Rattle.yaml_parser.proofs.Positions.{stood_raws, stood_positions}
-use Rattle.yaml_parser.proofs.Placing.{StandsSo}
 use Rattle.yaml_parser.specs.Follows.{Derives}
 use Rattle.yaml_parser.proofs.Since.{since_length, since_noted, names_noted, since_other, names_other, since_same}
 use Rattle.yaml_parser.proofs.Ends.{state_pending, at_derived}
-use Rattle.yaml_parser.proofs.Steps.{begins_peeked, if_some_at}
+use Rattle.yaml_parser.proofs.Steps.{StandsSo, begins_peeked, if_some_at}
 use Rattle.yaml_parser.proofs.Nesting.{at_begins_nested}
 use Rattle.defs_token.specs.Token as defs
 use Rattle.yaml_tokens.specs.declared.problem.Fault.TheVariants as fault
@@ -16,19 +15,13 @@ use Rattle.model_parser.specs.declared.state.State.TheVariants as state
 
 -- ---- the stack
 
-state_going : (s : State) → is_over (goal_of s) ≡ false
-state_going s = grind arith
-
-state_seen : (s : State) (keep : Bool) (names : Names) → names_at keep (goal_of s) names ≡ names
-state_seen s keep names = grind arith
-
 popped : {T : Type 0} (p : Reader T) (s : State) (ss : List State) {names : Names} {given : List (Ev × Position)} → p.stack ≡ s ∷ ss → At Goal.done p names given → At (goal_of s) (record p { stack = ss }) names given
 popped {T} p s ss {names} {given} h a = record {
   raw = a.raw;
   stands = pops (subst (λ x. IsOnTrack Goal.done x (taken_toks p.tokens) (peeked_tok p.tokens) a.raw) h a.stands);
   handed = a.handed;
   awake = λ o. a.awake refl;
-  over = λ o. absurd (both_ways (is_over (goal_of s)) (state_going s) o);
+  over = λ o. absurd (both_ways (is_over (goal_of s)) (grind arith) o);
   count = a.count;
   few = a.few;
   places = λ x ts es begins y.
@@ -36,7 +29,7 @@ popped {T} p s ss {names} {given} h a = record {
   colon = subst (λ g. IsPastColon g (last_position p.tokens)) (sym (top_of s ss)) (subst (λ zs. IsPastColon (top Goal.done zs) (last_position p.tokens)) h a.colon);
   events = a.events;
   names_are = a.names_are;
-  code = subst (IsNamed p.names) (sym (state_seen s p.names.keeping.tags names)) a.code;
+  code = subst (IsNamed p.names) (sym (grind arith)) a.code;
   pending = state_pending s names;
 }
 
@@ -45,9 +38,6 @@ popped_work {T} p s ss h = let e : weights p.stack ≡ weight s + weights ss = a
 
 -- ---- events, and their end
 
-after_event : (v : Ev) → goal_after_event v ≡ goal_after (is_stream_end v)
-after_event v = grind arith
-
 pub has_end_snoc : (es : List (Ev × Position)) (e : Ev × Position) → has_end (es ++ e ∷ []) ≡ has_end es || is_stream_end e.0
 has_end_snoc [] e = or-false (is_stream_end e.0)
 has_end_snoc (x ∷ es) e = ap (λ b. is_stream_end x.0 || b) (has_end_snoc es e) ∙ sym (or_assoc (is_stream_end x.0) (has_end es) (is_stream_end e.0))
@@ -55,7 +45,7 @@ has_end_snoc (x ∷ es) e = ap (λ b. is_stream_end x.0 || b) (has_end_snoc es e
 answered_at : {T : Type 0} (r : Reader T) (es : List (Ev × Position)) (e : Event × Position) → has_end es ≡ false → Answers r es (Ok e) → (names : Names) × At (goal_after (has_end (es ++ placed e ∷ []))) r names (es ++ placed e ∷ [])
 answered_at {T} r es e h a = (
   a.0,
-  subst (λ g. At g r a.0 (es ++ placed e ∷ [])) (after_event (ev_of e.0) ∙ ap goal_after (sym (has_end_snoc es (placed e) ∙ ap (λ b. b || is_stream_end (ev_of e.0)) h))) a.1,
+  subst (λ g. At g r a.0 (es ++ placed e ∷ [])) ((grind arith) ∙ ap goal_after (sym (has_end_snoc es (placed e) ∙ ap (λ b. b || is_stream_end (ev_of e.0)) h))) a.1,
 )
 
 -- ---- settings
@@ -137,7 +127,7 @@ pub pulled : {T E : Type 0} (p r : Reader T) (s : State) (ss : List State) (es :
 pulled {T} p r s ss es slot k h x reads bounds notes =
     let e = slot.next in
     let o = open_at (has_end es) p s ss h x.here in
-    let a = answered_at r es e o.0 (reads x.names es (popped p s ss h o.1)) in
+    let a = answered_at r es e o.0 (reads.so x.names es (popped p s ss h o.1)) in
     let keep : r.names.keeping ≡ p.names.keeping = bounds.input.keeping in
     let less : work r + 1 ≤ work (record p { stack = ss }) + weight s = bounds.bound in
     let popped_is = popped_work p s ss h in
@@ -149,10 +139,6 @@ pub failed : {T : Type 0} (p r : Reader T) (s : State) (ss : List State) (es : L
 failed {T} p r s ss es u h x reads =
     let o = open_at (has_end es) p s ss h x.here in
     (o.0, reads x.names es (popped p s ss h o.1))
-
-pub advances_err : {T E : Type 0} (old new : EventReader T) (es : List (Ev × Position)) (r : Result (Unit {0}) E) (x : E) (slot : EventSlot) → IsErrAnd r (λ e. e ≡ x) → Advances old es (Err slot.fault) new → Advances old es (answered r slot) new
-advances_err old new es (Ok u) x slot h a = absurd h
-advances_err old new es (Err e) x slot h a = a
 
 pub keeps : {T : Type 0} (p : EventReader T) (es : List (Ev × Position)) (u : Option Fault) {f : ErrorReport} → fault_kept p ≡ Some f → IfSome p.kept (λ k. k.0 ≡ u) → (has_end es ≡ false) × Faulted p.reader es u → IsHeld p.reader es p.kept × IsMet p.reader es p.kept
 keeps {T} p es u {f} h k x = kept_at p.kept h k
@@ -199,12 +185,9 @@ begun {T} p stack peeked taken given ended clear code none = record {
 abbrev pub seen_of : {T : Type 0} → Reader T → Parsed → Parsed
 seen_of p v = record v { scanner = scanned p.tokens.scanner; keep_tags = p.names.keeping.tags; steady = p.names.keeping.steady; settings = p.names.keeping.settings.items }
 
-listed_shown : (o : Option Token) → listed (option_map shown o) ≡ shown_list o
-listed_shown o = grind arith
-
 -- the tokens handed out: those that were taken, and one that was looked at
 handed_all : {T : Type 0} {p : Reader T} {g : Goal} {names : Names} {es : List (Ev × Position)} → At g p names es → (scanned p.tokens.scanner).given ≡ all_shown p.tokens.taken.items ++ listed (option_map shown p.tokens.peeked)
-handed_all {T} {p} a = a.handed ∙ ap (λ xs. all_shown p.tokens.taken.items ++ xs) (sym (listed_shown p.tokens.peeked))
+handed_all {T} {p} a = a.handed ∙ ap (λ xs. all_shown p.tokens.taken.items ++ xs) (sym (grind arith))
 
 -- A stream that begins with them goes on from those that were taken.
 goes_from : {T : Type 0} {p : Reader T} {g : Goal} {names : Names} {es : List (Ev × Position)} (a : At g p names es) (ts : List Tok) (raw : List Raw) → StreamSays (toks (scanned p.tokens.scanner).given ++ ts) raw → (fs : List Raw) × (raw ≡ a.raw ++ fs)
@@ -232,8 +215,7 @@ pub many : (ks : List Bool) (k : Bool) (raw : List Raw) (es : List (Ev × Positi
 many ks k raw es h = since_length ks k no_names raw (events_of es) h ∙ events_length es
 
 bottom : (ss : List State) → IsBottom ss → ss ≡ []
-bottom [] b = refl
-bottom (s ∷ ss) b = absurd b
+bottom ss b = grind arith
 
 -- Events that come of tokens, where all settings were the same.
 derived_begins : {T : Type 0} (p : Reader T) (es : List (Ev × Position)) (before : List defs.Token) (raw : List Raw) → IsSteady p

@@ -3,7 +3,6 @@ pub mod Common
 mod ApartRows
 pub mod Arms
 pub mod Completed
-pub mod InFlow
 pub mod DirectiveLemmas
 pub mod DocumentArms
 pub mod Ends
@@ -17,11 +16,8 @@ pub mod Pairs
 pub mod Parsing
 pub mod Peeking
 pub mod Positions
-pub mod Placing
 mod ProblemRows
-pub mod Resolved
 pub mod Says
 pub mod Since
 pub mod Steps
-mod Taken
 pub mod Ways

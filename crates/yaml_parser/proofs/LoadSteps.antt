@@ -1,5 +1,5 @@
 -- The steps of `load`.
-use Rattle.yaml_parser.proofs.Common.{[], after_document, ap, append-nil, append_assoc, arith, BeginsNested, Bool, ends, EndsSo, Err, ErrorReport, Ev, events_of, false, false_from_ne_true, GivesEvent, Going, if◌then◌else◌, inl, inr, is_document_end, is_document_start, is_open, is_stream_end, IsErrAnd, IsInside, length, length-append, List, load, load_from, Loaded, Loads, no_call, no_document, no_event, None, not, Ok, one_call, one_event, opened, Option, or-true, or_from, Parsed, Position, Pulls, PullsAll, push, PushesNext, pushing, read, read_so, Receives, refl, Result, RunsOn, Some, StartsSo, subst, sym, true, ◌&&◌, ◌++◌, ◌+◌, ◌||◌, ◌∙◌, ◌∷◌, ◌≡◌, ◌≢◌}
+use Rattle.yaml_parser.proofs.Common.{[], after_document, ap, append-nil, append_assoc, arith, BeginsNested, Bool, ends, EndsSo, Err, ErrorReport, Ev, events_of, false, false_from_ne_true, GivesEvent, Going, if◌then◌else◌, inl, inr, is_document_end, is_document_start, is_open, is_stream_end, IsErrAnd, IsInside, length, length-append, List, load, load_from, Loaded, Loads, no_call, no_document, no_event, None, not, Ok, one_call, one_event, opened, or-true, or_from, Parsed, Position, Pulls, PullsAll, push, PushesNext, pushing, read, Receives, refl, Result, RunsOn, Some, StartsSo, subst, sym, true, ◌&&◌, ◌++◌, ◌+◌, ◌||◌, ◌∙◌, ◌∷◌, ◌≡◌, ◌≢◌}
 use Rattle.defs_event.specs.PulledList.{Answer, event, fault, given}
 use Rattle.yaml_parser.proofs.Nesting.{no_end_inside, open_more}
 use Rattle.defs_event.specs.Push as run
@@ -46,9 +46,6 @@ inside_run e p multi rest h = grind arith
 pub last_run : (e : Ev) (p : Position) (multi : Bool) (rest : List (Answer ErrorReport)) → is_document_end e ≡ true → load_from run.inside multi (event e p ∷ rest) ≡ push e p (after_document multi rest)
 last_run e p multi rest h = grind arith
 
-end_is : (e : Ev) → is_stream_end e ≡ true → e ≡ Ev.stream_end
-end_is e h = grind arith
-
 pub end_is_not : (e : Ev) → is_stream_end e ≡ false → e ≢ Ev.stream_end
 end_is_not e h k = let no : true ≡ false = sym (ap is_stream_end k) ∙ h in cc
 
@@ -69,9 +66,6 @@ not_ended {old} {new} {e} g h = g.ended ∙ or_from old.ended (is_stream_end e.0
 given_more : {old new : Parsed} {e : Ev × Position} → GivesEvent old e new → old.ended ≡ false → new.given ≡ old.given ++ e ∷ []
 given_more {old} {new} {e} g h = g.given ∙ ap (λ b. old.given ++ (if b then [] else e ∷ [])) h
 
-read_given : (es : List (Ev × Position)) (ended : Bool) (ahead : Option (Ev × Position)) → ahead ≡ None → read_so es ended ahead ≡ es
-read_given es ended ahead h = grind arith
-
 -- The stream's end does not come there.
 pub no_end : {now new : Parsed} {e : Ev} {p : Position} → IsInside now → GivesEvent now (e, p) new → is_stream_end e ≡ false
 no_end {now} {new} {e} {p} i g = by (is_stream_end e) refl
@@ -79,7 +73,7 @@ no_end {now} {new} {e} {p} i g = by (is_stream_end e) refl
     by : (b : Bool) → is_stream_end e ≡ b → b ≡ false
     by false h = refl
     by true h =
-        let all : read new ≡ now.given ++ (Ev.stream_end, p) ∷ [] = read_given new.given new.ended new.ahead g.ahead ∙ given_more g i.0 ∙ ap (λ v. now.given ++ (v, p) ∷ []) (end_is e h) in
+        let all : read new ≡ now.given ++ (Ev.stream_end, p) ∷ [] = (grind arith) ∙ given_more g i.0 ∙ ap (λ v. now.given ++ (v, p) ∷ []) (grind arith) in
         absurd (no_end_inside now.given p i.1 (subst (λ es. BeginsNested (events_of es)) all g.sound.nested))
 
 pub starts_inside : {now new : Parsed} {e : Ev} {p : Position} → GivesEvent now (e, p) new → is_stream_end e ≡ false → is_document_start e ≡ true → IsInside new
@@ -177,11 +171,3 @@ module _ {R : Type 0} (takes : R → Ev → Position → Result (Unit {0}) Error
     received = g.received;
     runs = λ rest. g.runs rest ∙ ap (λ b. pushing g.events (if b then load_from run.between multi rest else ends run.well 0)) h;
   }
-
-  pub loads_err : (x : Result (Unit {0}) ErrorReport) (f : ErrorReport) {now : Parsed} {s : R} → IsErrAnd x (λ e. e ≡ f) → Loads takes multi old r (Err f) now s → Loads takes multi old r x now s
-  loads_err (Ok u) f {now} {s} h y = absurd h
-  loads_err (Err e) f {now} {s} h y = subst (λ z. Loads takes multi old r (Err z) now s) (sym h) y
-
-  pub starts_err : (x : Result (Unit {0}) ErrorReport) (f : ErrorReport) {now : Parsed} {s : R} → IsErrAnd x (λ e. e ≡ f) → Loads takes multi old r (Err f) now s → StartsSo takes multi old r x now s
-  starts_err (Ok u) f {now} {s} h y = absurd h
-  starts_err (Err e) f {now} {s} h y = subst (λ z. Loads takes multi old r (Err z) now s) (sym h) y

@@ -17,13 +17,10 @@ pub chars_then_bytes : (a b : String Global) → string_chars a ≡ string_chars
 unfolding string_chars
 chars_then_bytes a b h = sym (encodes-chars (string_bytes a) (IsUtf8-string_bytes a)) ∙ ap encodes h ∙ encodes-chars (string_bytes b) (IsUtf8-string_bytes b)
 
-bytes_then_chars : (a b : String Global) → string_bytes a ≡ string_bytes b → string_chars a ≡ string_chars b
-unfolding string_chars
-bytes_then_chars a b h = ap chars h
-
 pub same_text : (a b : String Global) → bytes_eq (string_bytes a) (string_bytes b) ≡ bytes_eq (string_chars b) (string_chars a)
+unfolding string_chars
 same_text a b = same_from_decides _ _ (bytes_eq-Decides (string_bytes a) (string_bytes b))
-    (Decides-like _ (λ h. chars_then_bytes a b (sym h)) (λ h. bytes_then_chars b a (sym h)) (bytes_eq-Decides (string_chars b) (string_chars a)))
+    (Decides-like _ (λ h. chars_then_bytes a b (sym h)) (λ h. (ap chars (sym h))) (bytes_eq-Decides (string_chars b) (string_chars a)))
 
 pub put_text : {V : Type 0} (m n : BTreeMap (String Global) V) (key : String Global) (v : V) → tree.Updates string_cmp m n key (Some v) → (x : String Global)
     → get_by_text n (string_bytes x) ≡ (if bytes_eq (string_chars x) (string_chars key) then Some v else get_by_text m (string_bytes x))

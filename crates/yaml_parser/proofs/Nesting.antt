@@ -1,12 +1,40 @@
 -- The events that a parser gives are a beginning of nested events, so the stream's end comes in no document.
-use Rattle.yaml_parser.proofs.Common.{[], ap, arith, At, Awaits, BeginsNested, Bool, both, by_steps, Derives, Directive, end_events, end_tokens, Ev, events_of, false, false_from_ne_true, Goal, goes_so, if◌then◌else◌, is_open, length, List, named, named_shaped, Names, names_after, needs_tokens, no_names, none_by, None, not_refused, opened, Option, Position, Raw, Reader, reading, refl, resolved_event, left_by, taken_by, said_by, Some, steps, StreamSays, subst, sym, taken_toks, Tok, true, works, ◌++◌, ◌∙◌, ◌∷◌, ◌≡◌}
+use Rattle.yaml_parser.proofs.Common.{[], ap, arith, At, Awaits, BeginsNested, Bool, both, by_steps, Derives, Directive, end_events, end_tokens, Ev, events_of, false, false_from_ne_true, Goal, goes_so, if◌then◌else◌, is_open, length, List, named, named_shaped, Names, names_after, needs_tokens, no_names, none_by, None, not_refused, opened, Option, Position, Raw, Reader, reading, refl, resolved_event, left_by, taken_by, said_by, Some, steps, StreamSays, subst, sym, taken_toks, Tok, true, works, ◌++◌, ◌∙◌, ◌∷◌, ◌≡◌, both_some, named_since, NamedFirst, Shaped}
 use Rattle.defs_event.specs.Nested.{Open, in_stream, before_node, after_node, in_sequence, at_key, at_value, open_after, there_and, closes, is_nested, IsNested}
 use Rattle.defs_event.proofs.NestedTest.{test_is_exact}
 use Rattle.defs_event.proofs.StreamNests.{shaped_nests}
 use Rattle.model_parser.proofs.StepRows.{refuses}
 use Rattle.yaml_parser.proofs.Completed.{Nameable, are_free, free_named, works_free, completed}
-use Rattle.yaml_parser.proofs.Resolved.{since_shaped}
 use Rattle.defs_event.specs.Grammar as table
+
+-- ---- events and the raw ones that they come of, side by side
+
+-- A resolved event has its raw one's shape.
+one_more : (r : Raw) (v : Ev) (rs : List Raw) (vs : List Ev) → Shaped (r ∷ []) (v ∷ []) → Shaped rs vs → Shaped (r ∷ rs) (v ∷ vs)
+one_more (Raw.alias name) v rs vs h k = (h.0, vs, cc, k)
+one_more (Raw.scalar x s a t) v rs vs h k = (h.0, h.1, vs, cc, k)
+one_more (Raw.empty_scalar a t) v rs vs h k = (h.0, h.1, vs, cc, k)
+one_more (Raw.flow_sequence_start a t) v rs vs h k = (h.0, h.1, vs, cc, k)
+one_more (Raw.sequence_start a t) v rs vs h k = (h.0, h.1, vs, cc, k)
+one_more (Raw.indentless_sequence_start a t) v rs vs h k = (h.0, h.1, vs, cc, k)
+one_more (Raw.flow_mapping_start a t) v rs vs h k = (h.0, h.1, vs, cc, k)
+one_more (Raw.mapping_start a t) v rs vs h k = (h.0, h.1, vs, cc, k)
+one_more _ v rs vs h k = (vs, cc, k)
+
+-- the first event, and the shape of the others
+first_shaped : (k : Bool) (s : Names) (r : Raw) (rs : List Raw) (os : Option (List Ev)) (vs ws : List Ev) → (f : NamedFirst (resolved_event s r) os vs) → Shaped rs (f.more ++ ws) → Shaped (r ∷ rs) (vs ++ ws)
+first_shaped k s r rs os vs ws f x = subst (λ us. Shaped (r ∷ rs) (us ++ ws)) (sym f.whole) (one_more r f.event rs (f.more ++ ws) (named_shaped k s (r ∷ []) (f.event ∷ []) (ap (λ o. both o (Some [])) f.is_first)) x)
+
+-- Events, and others of this shape after them, have the shape of all.
+pub since_shaped : (ks : List Bool) (k : Bool) (s : Names) (rs more : List Raw) (vs ws : List Ev) → named_since ks k s rs ≡ Some vs → Shaped more ws → Shaped (rs ++ more) (vs ++ ws)
+since_shaped [] k s [] more vs ws h x = let none : [] ≡ vs = cc in subst (λ us. Shaped more (us ++ ws)) none x
+since_shaped [] k s (r ∷ rs) more vs ws h x =
+    let f = both_some (resolved_event s r) (named k (names_after k s r) rs) vs h in
+    first_shaped k s r (rs ++ more) (named k (names_after k s r) rs) vs ws f (since_shaped [] k (names_after k s r) rs more f.more ws f.are_more x)
+since_shaped (j ∷ ks) k s [] more vs ws h x = let none : [] ≡ vs = cc in subst (λ us. Shaped more (us ++ ws)) none x
+since_shaped (j ∷ ks) k s (r ∷ rs) more vs ws h x =
+    let f = both_some (resolved_event s r) (named_since ks k (names_after j s r) rs) vs h in
+    first_shaped k s r (rs ++ more) (named_since ks k (names_after j s r) rs) vs ws f (since_shaped ks k (names_after j s r) rs more f.more ws f.are_more x)
 
 -- What is awaited and can be named completes them.
 nested_by : {T : Type 0} {g : Goal} {p : Reader T} {names : Names} {given : List (Ev × Position)} (a : At g p names given) {ts : List Tok} {es : List Raw} → Awaits g p.stack ts es

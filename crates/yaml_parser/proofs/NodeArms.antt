@@ -43,13 +43,8 @@ made_resolves {mk} {f} {s} {o} {p} k h = k.resolves s _ _ ∙ ap (option_map (λ
 made_named : {T : Type 0} {p r : Reader T} {mk : Option (List ℕ) → Option event.Tag → Raw} {f : ℕ → Option event.Tag → Ev} {s : Names} {o : Option written.Properties} {x : Option Properties}
     → Makes mk f → Has s o x → r.names.keeping ≡ p.names.keeping → IsNamed r.names (with_anchor s (name_of x))
     → Named p r Goal.done s (mk (perhaps_anchor_of o) (perhaps_tag_of o)) (f (number s (name_of x)) (kept_tag x)) (with_anchor s (name_of x))
-made_named {T} {p} {r} {mk} {f} {s} {o} {x} k h keep code = record {
-  resolves = made_resolves k h;
-  after_it = k.after_it _ s _ _ ∙ ap (with_anchor s) h.anchor;
-  keep = keep;
-  code = code;
-  pending = tt;
-}
+made_named {T} {p} {r} {mk} {f} {s} {o} {x} k h keep code =
+    assumption (made_resolves k h, k.after_it p.names.keeping.tags s (perhaps_anchor_of o) (perhaps_tag_of o) ∙ ap (with_anchor s) h.anchor, keep, code)
 
 -- The start of a collection is taken, and its properties are registered.
 pub starts : {T E : Type 0} (m : Position) {p q : Reader T} (r : Reader T) {k k' : Kind} {w : positions.NodeContext} {o : Option written.Properties} {x : Option Properties} {ss : List State} (mk : Option (List ℕ) → Option event.Tag → Raw) (f : ℕ → Option event.Tag → Ev) {s : Names} {given : List (Ev × Position)} (res : Result (Unit {0}) E) (slot : EventSlot)
@@ -172,8 +167,7 @@ breaks_none w u o = grind arith
 
 -- what is pending does not depend on the position
 pub pending_same : (w u : positions.NodeContext) (names : Names) (o : Option written.Properties) → IsPending names (Goal.after_properties w o) → IsPending names (Goal.after_properties u o)
-pending_same w u names None h = tt
-pending_same w u names (Some o) h = h
+pending_same w u names o h = grind arith
 
 -- no token of properties, and no alias
 pub record HasNoProperties (k : Kind) : Type 0 where
@@ -215,16 +209,11 @@ nothing_there (Some o) has f = let b : true ≡ false = has.both in cc
 
 -- ---- properties, one by one
 
-pub is_some_of : {A : Type 0} {o : Option A} {x : A} → o ≡ Some x → IsSome o
-is_some_of {A} {o} {x} h = ap is_some h
-
 pub anchor_text : {t : Tok} {x : List ℕ} → kind_of t ≡ kind.Anchor → (t ≡ Tok.alias x) ⊎ (t ≡ Tok.anchor x) → t ≡ Tok.anchor x
-anchor_text {t} {x} h (inl e) = let f : kind.Alias ≡ kind.Anchor = sym (ap kind_of e) ∙ h in cc
-anchor_text {t} {x} h (inr e) = e
+anchor_text h e = grind arith
 
 pub alias_text : {t : Tok} {x : List ℕ} → kind_of t ≡ kind.Alias → (t ≡ Tok.alias x) ⊎ (t ≡ Tok.anchor x) → t ≡ Tok.alias x
-alias_text {t} {x} h (inl e) = e
-alias_text {t} {x} h (inr e) = let f : kind.Anchor ≡ kind.Alias = sym (ap kind_of e) ∙ h in cc
+alias_text h e = grind arith
 
 pub alias_taken : {T : Type 0} (m : Position) {p r : Reader T} {t : Token} {w : positions.NodeContext} {x : List ℕ} {n : ℕ} {names : Names} {given : List (Ev × Position)}
     → p.tokens.peeked ≡ Some t → t.0 ≡ m → Skips p.tokens t r.tokens → r.stack ≡ p.stack → r.names ≡ p.names → tok_of t.1 ≡ Tok.alias x → under_name x names.anchors ≡ Some n

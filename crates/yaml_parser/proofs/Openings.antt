@@ -1,5 +1,6 @@
 -- Where the next token decides, two different events may come.
-use Rattle.yaml_parser.proofs.Common.{[], all_shown, ap, append-nil, append_assoc, At, Awaits, BeginAt, Directive, Ev, Fails, false, Faulted, Goal, GoesOnWith, IfSome, is_done, is_idle, is_over, is_pair_end, IsAwake, IsDerived, IsHalted, IsHanded, IsOnTrack, IsOpen, IsStopped, last_position, List, map-append, may_wait, Names, needs_tokens, none_by, None, nothing_written, Option, or_parts, peeked_tok, perhaps, Places, Position, Raw, Reader, refl, left_by, taken_by, said_by, scanned, shown_list, Some, State, stood, Fault, StreamPlacesTo, StreamSays, subst, sym, taken_toks, text, to_next, Tok, Token, toks, true, wants_token, work_of, ◌++◌, ◌||◌, ◌∙◌, ◌∷◌, ◌≡◌, ◌≢◌}
+use Rattle.yaml_parser.proofs.Arms.{fails}
+use Rattle.yaml_parser.proofs.Common.{◌||◌, [], all_shown, ap, append-nil, append_assoc, At, Awaits, BeginAt, Directive, Ev, false, Faulted, Goal, GoesOnWith, IfSome, is_done, is_idle, is_over, is_pair_end, EventSlot, Stops, IsAwake, IsDerived, IsHalted, IsHanded, IsOnTrack, IsOpen, IsStopped, last_position, List, map-append, may_wait, Names, needs_tokens, none_by, None, nothing_written, Option, or_parts, peeked_tok, perhaps, Places, Position, Raw, Reader, refl, left_by, taken_by, said_by, scanned, shown_list, Some, State, stood, StreamPlacesTo, StreamSays, subst, sym, taken_toks, text, to_next, Tok, Token, toks, true, wants_token, work_of, ◌++◌, ◌∙◌, ◌∷◌, ◌≡◌, ◌≢◌}
 use Rattle.model_parser.specs.Rest.{placed}
 use Rattle.yaml_parser.proofs.Steps.{look_peeked, begins_peeked}
 use Rattle.yaml_parser.proofs.Ends.{at_derived}
@@ -117,8 +118,10 @@ halted {T} p r {g} {names} {given} taken same none handed names_same busy a =
       goes_on = subst (λ ts. IsOpen (toks ts) (a.raw ++ perhaps o.missing)) (sym took) o.goes_on;
     }
 
-pub look_fails : {T : Type 0} (p r : Reader T) {s : Fault} → r.tokens.taken ≡ p.tokens.taken → ((t : Token) → p.tokens.peeked ≡ Some t → r.tokens.peeked ≡ Some t) → r.tokens.peeked ≡ None → (IsHanded p.tokens → IsHanded r.tokens) → r.names ≡ p.names
-    → s ≡ None → (IsAwake p.tokens → IsStopped (scanned r.tokens.scanner)) → (g : Goal) → is_idle g ≡ false → Fails g p r s
-look_fails {T} p r {s} taken same none handed names_same e h = λ g busy names given a.
-    let k = h (a.awake (or_parts (is_over g) (is_done g || is_pair_end g) busy).0) in
-    subst (Faulted r given) (sym e) (k, halted p r taken same none (handed a.handed) names_same busy a)
+pub look_fails : {T : Type 0} (p r : Reader T) {slot : EventSlot} → r.tokens.taken ≡ p.tokens.taken → ((t : Token) → p.tokens.peeked ≡ Some t → r.tokens.peeked ≡ Some t) → r.tokens.peeked ≡ None → (IsHanded p.tokens → IsHanded r.tokens) → r.names ≡ p.names
+    → slot.fault ≡ None → (IsAwake p.tokens → IsStopped (scanned r.tokens.scanner)) → (g : Goal) → is_idle g ≡ false → Stops g p r slot
+look_fails {T} p r {slot} taken same none handed names_same e h = λ g busy result is. record {
+  so = λ names given a.
+      let k = h (a.awake (or_parts (is_over g) (is_done g || is_pair_end g) busy).0) in
+      fails r given result slot is (subst (Faulted r given) (sym e) (k, halted p r taken same none (handed a.handed) names_same busy a));
+}

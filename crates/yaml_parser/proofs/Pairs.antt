@@ -1,5 +1,5 @@
 -- A key or a value that is taken at once with the token before it: as if both tokens were looked at and taken, one after the other.
-use Rattle.yaml_parser.proofs.Common.{[], after_key_value, after_scalar, all_shown, answered, Answers, ap, append-nil, append_assoc, At, ends_part, Err, Ev, EventSlot, false, Faulted, Goal, HandsOut, IfNone, indicator_of, is_over, IsHanded, key_pairs_key, List, mapping_under, Names, None, Ok, OnErr, OnOk, Option, OutOfMemory, pairs_key, part_has_node, placed, Position, Reader, refl, Result, scalar_of, Scanned, scanned, shown, shown_list, Skips, Some, State, Stayed, string_chars, Style, subst, sym, TakesBoth, Token, Tokens, ◌++◌, ◌∙◌, ◌∷◌, ◌≡◌, ◌≢◌}
+use Rattle.yaml_parser.proofs.Common.{[], after_scalar, all_shown, answered, Answers, ap, append-nil, append_assoc, At, ends_part, Err, Ev, EventSlot, false, Faulted, Goal, HandsOut, IfNone, indicator_of, is_over, IsHanded, List, mapping_under, Names, None, Ok, OnErr, OnOk, Option, OutOfMemory, pairs_key, part_has_node, placed, Position, Reader, refl, Result, scalar_of, Scanned, scanned, shown, shown_list, Skips, Some, State, Stayed, string_chars, Style, subst, sym, TakesBoth, Token, Tokens, ◌++◌, ◌∙◌, ◌∷◌, ◌≡◌, ◌≢◌, block_turns}
 use Rattle.yaml_tokens.specs.declared.token.TokenType.{TokenType}
 use Rattle.yaml_scanner.specs.declared.key_value.PlainNode.{PlainNode}
 use Rattle.yaml_parser.proofs.Arms.{Skipped, stays, stay, goes, goes, as_kind, not_as, answers_written, under_no_colon}
@@ -85,7 +85,7 @@ key_taken {T} {p} {q} {r} {n} {names} {given} b stack same s a =
     let one : At Goal.pairs l names given = looks p b.hands.between (indicator_of token.Key n) b.none b.hands.first refl a in
     let two : At Goal.key_pairs l names given = stays {k = kind.Key} refl stay (λ t e. pairs_key _ t (not_as key_no_value e)) refl tt (λ o. tt) refl one in
     both p q r state.BlockMappingValue b stack same s
-    (goes {k = kind.Key} refl refl refl (takes p b.hands.between (indicator_of token.Key n) state.BlockMappingValue) (key_pairs_key _) refl tt refl refl (λ t i. tt) two)
+    (goes {k = kind.Key} refl refl refl (takes p b.hands.between (indicator_of token.Key n) state.BlockMappingValue) (block_turns _).key_pairs_key refl tt refl refl (λ t i. tt) two)
 
 pub value_taken : {T : Type 0} {p q r : Reader T} {n : PlainNode} {names : Names} {given : List (Ev × Position)} → TakesBoth p.tokens token.Value n q.tokens
     → q.stack ≡ p.stack → q.names ≡ p.names → Stayed q r (state.BlockMappingKey ∷ q.stack) → At Goal.after_key p names given
@@ -94,7 +94,7 @@ value_taken {T} {p} {q} {r} {n} {names} {given} b stack same s a =
     let l : Reader T = record p { tokens = looking p.tokens b.hands.between (indicator_of token.Value n) } in
     let one : At Goal.after_key l names given = looks p b.hands.between (indicator_of token.Value n) b.none b.hands.first refl a in
     both p q r state.BlockMappingKey b stack same s
-    (goes {k = kind.Value} refl refl refl (takes p b.hands.between (indicator_of token.Value n) state.BlockMappingKey) (after_key_value _) refl tt refl refl (λ t i. tt) one)
+    (goes {k = kind.Value} refl refl refl (takes p b.hands.between (indicator_of token.Value n) state.BlockMappingKey) (block_turns _).after_key_value refl tt refl refl (λ t i. tt) one)
 
 -- ---- what is answered
 

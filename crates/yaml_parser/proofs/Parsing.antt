@@ -1,6 +1,6 @@
 -- What is known of a parser, from call to call.
 use Rattle.std.specs.Bool.{beq}
-use Rattle.yaml_parser.proofs.Common.{[], Advances, all_placed, and_parts, ap, append-nil, AreAll, arith, Bool, both_ways, Continues, Err, ErrorReport, Ev, ev_of, Event, EventReader, events_left, Explains, false, false_from_ne_true, fault_kept, fault_of_all, fault_seen, GivesEvent, GivesFault, has_end, Holds, IfSome, if◌then◌else◌, inl, inr, is_fresh, is_some, is_stream_end, IsErrAnd, IsHeld, IsSound, Keeping, length, List, Looks, map-append, nil_from_length, no_document, None, not, not-true, Notes, Ok, Option, option_map, or_cases, Parsed, placed, Position, read_so, Reader, refl, Result, scanned, Some, stays_steady, Fault, subst, sym, true, Waits, work, ◌&&◌, ◌++◌, ◌<◌, ◌||◌, ◌∙◌, ◌∷◌, ◌≡◌, ◌≢◌}
+use Rattle.yaml_parser.proofs.Common.{IsSome, ◌≤◌, ◌+◌, [], Advances, all_placed, and_parts, ap, append-nil, AreAll, arith, Bool, both_ways, Continues, Err, ErrorReport, Ev, ev_of, Event, EventReader, events_left, Explains, false, false_from_ne_true, fault_kept, fault_of_all, fault_seen, GivesEvent, GivesFault, has_end, Holds, IfSome, if◌then◌else◌, inl, inr, is_fresh, is_some, is_stream_end, IsErrAnd, IsHeld, IsSound, Keeping, length, List, Looks, map-append, nil_from_length, no_document, None, not, not-true, Notes, Ok, Option, option_map, or_cases, Parsed, placed, Position, read_so, Reader, refl, Result, scanned, Some, stays_steady, Fault, subst, sym, true, Waits, work, ◌&&◌, ◌++◌, ◌<◌, ◌||◌, ◌∙◌, ◌∷◌, ◌≡◌, ◌≢◌}
 use Rattle.yaml_parser.proofs.Holding.{KnowsSteady, closed, keeps, failed_as, set_stands, held_sound, held_explained, has_end_snoc}
 use Rattle.yaml_parser.proofs.DirectiveLemmas.{none_if, some_map}
 use Rattle.yaml_parser.proofs.Since.{all_more}
@@ -30,7 +30,7 @@ read_next given true e = sym (append-nil given)
 read_next given false e = refl
 
 no_fault : {T : Type 0} (pull : EventReader T) (misplaced : Option Position) → pull.kept ≡ None → misplaced ≡ None → fault_of_all misplaced pull ≡ None
-no_fault {T} pull misplaced h k = ap (λ m. fault_of_all m pull) k ∙ ap (option_map (λ x. fault_seen x.stop x.mark (scanned pull.reader.tokens.scanner).fault)) h
+no_fault {T} pull misplaced h k = ap (λ m. fault_of_all m pull) k ∙ ap (option_map (λ x. fault_seen x.0 x.1 (scanned pull.reader.tokens.scanner).fault)) h
 
 sound : {T : Type 0} (pull : EventReader T) (given : List (Ev × Position)) (current : Option (Event × Position)) (started ended : Bool) (misplaced : Option Position)
     → pull.kept ≡ None → misplaced ≡ None → IsHeld pull.reader (read_so given ended (option_map placed current)) pull.kept → KnowsSteady pull.reader → IsSound (seen pull given current started ended misplaced)
@@ -59,19 +59,11 @@ pub waits_still : {T : Type 0} (pull : EventReader T) (given : List (Ev × Posit
 waits_still {T} pull given current started ended misplaced h some =
     let there = some_map placed current some in
     let c = h.clear there in
-    record {
-      some = there;
-      waited = λ b. refl;
-      given = refl;
-      started = refl;
-      ended = refl;
-      over = λ b. (h.over b).2;
-      left = if_any (option_map placed current) (λ e n. omega arith);
-      settings = record { keep_tags = refl; steady = refl };
-      clear = no_fault pull misplaced c.0 c.1;
-      noted = sym (settings_if (is_some (option_map placed current)) ended _ _ there);
-      sound = sound pull given current started ended misplaced c.0 c.1 h.held h.steady;
-    }
+    let ks = pull.reader.names.keeping.settings.items in
+    let over : ended ≡ true → IfSome (option_map placed current) (λ e. e.0 ≡ Ev.stream_end) = λ b. (h.over b).2 in
+    let left : IfSome (option_map placed current) (λ e. e.0 ≢ Ev.stream_end → events_left pull.reader current ≤ events_left pull.reader current) = if_any (option_map placed current) (λ e n. omega arith) in
+    let noted = sym (settings_if (is_some (option_map placed current)) ended ks (ks ++ pull.reader.names.keeping.tags ∷ []) there) in
+    assumption (there, over, left, noted, no_fault pull misplaced c.0 c.1, sound pull given current started ended misplaced c.0 c.1 h.held h.steady)
   where
     if_any : {A : Type 0} {P : A → Type 0} (o : Option A) → ((x : A) → P x) → IfSome o P
     if_any None f = tt
@@ -85,28 +77,19 @@ fault_misplaced {T} pull given current started ended misplaced p h none m =
     let f : fault_of_all misplaced pull ≡ Some (no_document p) = ap (λ x. fault_of_all x pull) m in
     let going : ended ≡ false = false_from_ne_true ended (λ b. let no : None ≡ Some p = sym (h.over b).1 ∙ m in cc) in
     let a = ap (option_map placed) (none_if current none) in
-    record {
-      fault = f;
-      given = refl;
-      started = refl;
-      ended = (going, going);
-      ahead = (a, a);
-      settings = record { keep_tags = refl; steady = refl };
-      noted = refl;
-      again = subst (λ o. IfSome o (λ g. (no_document p ≡ g) × (seen pull given current started ended misplaced ≡ seen pull given current started ended misplaced))) (sym f) (refl, refl);
-      why = λ b. let no : None ≡ Some (no_document p) = sym b ∙ f in cc;
-    }
+    let v = seen pull given current started ended misplaced in
+    let again = subst (λ o. IfSome o (λ g. (no_document p ≡ g) × (v ≡ v))) (sym f) (refl, refl) in
+    let why : fault_of_all misplaced pull ≡ None → Explains (no_document p) v = λ b. let no : None ≡ Some (no_document p) = sym b ∙ f in cc in
+    assumption (f, going, a, again, why)
 
 -- ---- where nothing waited
 
 -- whether the end was read is whether it was given
 end_known : (given : List (Ev × Position)) (current : Option (Event × Position)) (ended : Bool) → ended ≡ has_end given → is_some current ≡ false → has_end (read_so given ended (option_map placed current)) ≡ ended
-end_known given None ended h n = ap has_end (read_none given ended) ∙ sym h
-end_known given (Some e) ended h n = cc
+end_known given current ended h n = grind arith
 
 reads_given : (given : List (Ev × Position)) (current : Option (Event × Position)) (ended : Bool) → is_some current ≡ false → read_so given ended (option_map placed current) ≡ given
-reads_given given None ended n = read_none given ended
-reads_given given (Some e) ended n = cc
+reads_given given current ended n = grind arith
 
 fault_open : {T : Type 0} (p : Reader T) (es : List (Ev × Position)) (o : Option (Option Fault × Position)) {f : ErrorReport} → option_map (λ k. fault_seen k.0 k.1 (scanned p.tokens.scanner).fault) o ≡ Some f → IsHeld p es o → has_end es ≡ false
 fault_open {T} p es None h x = cc
@@ -116,48 +99,29 @@ fault_open {T} p es (Some k) h x = x
 abbrev IsKnownSteady : Keeping → Type 0
 IsKnownSteady k = k.steady ≡ true → AreAll k.tags k.settings.items
 
--- A fault is met.
-pub fault_holds : {T : Type 0} (pull new : EventReader T) (given : List (Ev × Position)) (current : Option (Event × Position)) (started ended : Bool) (misplaced : Option Position) {f : ErrorReport}
-    → Holds pull given (option_map placed current) started ended misplaced → is_some current ≡ false
-    → Continues pull (read_so given ended (option_map placed current)) (Err f) new → fault_kept new ≡ Some f → Holds new given (option_map placed current) started ended misplaced
-fault_holds {T} pull new given current started ended misplaced {f} h none x kept =
-    let going : ended ≡ false = sym (end_known given current ended h.end none) ∙ fault_open new.reader (read_so given ended (option_map placed current)) new.kept kept x.1 in
-    record {
-      held = x.1;
-      steady = subst IsKnownSteady (sym x.0) h.steady;
-      first = h.first;
-      end = h.end;
-      clear = λ b. let no : is_some (option_map placed current) ≡ false = ap (λ o. is_some (option_map placed o)) (none_if current none) in absurd (both_ways (is_some (option_map placed current)) no b);
-      over = λ b. absurd (both_ways ended going b);
-    }
-
 err_same : {x y : ErrorReport} → ◌≡◌ {A = Result (Event × Position) ErrorReport} (Err x) (Err y) → x ≡ y
 err_same {x} {y} h = cc
 
 none_before : {A B : Type 0} (f : A → B) (o : Option A) → option_map f o ≡ None → o ≡ None
 none_before f o h = grind arith
 
-pub fault_given : {T : Type 0} (pull new : EventReader T) (given : List (Ev × Position)) (current : Option (Event × Position)) (started ended : Bool) (misplaced : Option Position) (f : ErrorReport)
+-- A fault is met.
+pub fault_met : {T : Type 0} (pull new : EventReader T) (given : List (Ev × Position)) (current : Option (Event × Position)) (started ended : Bool) (misplaced : Option Position) (f : ErrorReport)
     → Holds pull given (option_map placed current) started ended misplaced → is_some current ≡ false → misplaced ≡ None
     → Continues pull (read_so given ended (option_map placed current)) (Err f) new → fault_kept new ≡ Some f
     → IfSome (fault_kept pull) (λ g. (◌≡◌ {A = Result (Event × Position) ErrorReport} (Err f) (Err g)) × (new ≡ pull))
-    → GivesFault (seen pull given current started ended misplaced) f (seen new given current started ended misplaced)
-fault_given {T} pull new given current started ended misplaced f h none clear x kept again =
+    → Holds new given (option_map placed current) started ended misplaced × GivesFault (seen pull given current started ended misplaced) f (seen new given current started ended misplaced)
+fault_met {T} pull new given current started ended misplaced f h none clear x kept again =
     let es = read_so given ended (option_map placed current) in
     let keeping = x.0 in
     let going : ended ≡ false = sym (end_known given current ended h.end none) ∙ fault_open new.reader es new.kept kept x.1 in
     let ahead : option_map placed current ≡ None = ap (option_map placed) (none_if current none) in
-    record {
-      fault = ap (λ m. fault_of_all m new) clear ∙ kept;
-      given = refl;
-      started = refl;
-      ended = (going, going);
-      ahead = (ahead, ahead);
-      settings = record { keep_tags = ap (λ k. k.tags) keeping; steady = ap (λ k. k.steady) keeping };
-      noted = ap (λ k. k.settings.items) keeping;
-      again = subst (λ m. IfSome (fault_of_all m pull) (λ g. (f ≡ g) × (seen new given current started ended misplaced ≡ seen pull given current started ended misplaced))) (sym clear) (again_seen (fault_kept pull) again);
-      why = why;
-    }
+    let shut : IsSome (option_map placed current) → (new.kept ≡ None) × (misplaced ≡ None) = λ b. absurd (both_ways (is_some (option_map placed current)) (ap is_some ahead) b) in
+    let over : ended ≡ true → (new.kept ≡ None) × (misplaced ≡ None) × IfSome (option_map placed current) (λ e. e.0 ≡ Ev.stream_end) = λ b. absurd (both_ways ended going b) in
+    let same = subst (λ m. IfSome (fault_of_all m pull) (λ g. (f ≡ g) × (seen new given current started ended misplaced ≡ seen pull given current started ended misplaced))) (sym clear) (again_seen (fault_kept pull) again) in (
+      assumption (shut, over, subst IsKnownSteady (sym keeping) h.steady),
+      assumption (ap (λ m. fault_of_all m new) clear ∙ kept, going, ahead, ap (λ k. k.tags) keeping, ap (λ k. k.steady) keeping, ap (λ k. k.settings.items) keeping, same, why),
+    )
   where
     why : (seen pull given current started ended misplaced).fault ≡ None → Explains f (seen new given current started ended misplaced)
     why b =
@@ -167,10 +131,6 @@ fault_given {T} pull new given current started ended misplaced f h none clear x 
     again_seen : (o : Option ErrorReport) → IfSome o (λ g. (◌≡◌ {A = Result (Event × Position) ErrorReport} (Err f) (Err g)) × (new ≡ pull)) → IfSome o (λ g. (f ≡ g) × (seen new given current started ended misplaced ≡ seen pull given current started ended misplaced))
     again_seen None a = tt
     again_seen (Some g) a = (err_same a.0, ap (λ p. seen p given current started ended misplaced) a.1)
-
-pub looks_err : (old new : Parsed) (r : Result (Unit {0}) ErrorReport) (f : ErrorReport) → IsErrAnd r (λ e. e ≡ f) → GivesFault old f new → Looks old r new
-looks_err old new (Ok u) f h x = absurd h
-looks_err old new (Err e) f h x = subst (λ y. GivesFault old y new) (sym h) x
 
 -- An event is read.
 record Next {T : Type 0} (pull new : EventReader T) (given : List (Ev × Position)) (started ended : Bool) (e : Event × Position) : Type 0 where
@@ -223,40 +183,21 @@ next_held {T} pull new given current started ended e end held none (k, l, inr b)
       known = more_known pull.reader.names.keeping new.reader.names.keeping b.2;
     }
 
-pub next_holds : {T : Type 0} (pull new : EventReader T) (given : List (Ev × Position)) (current : Option (Event × Position)) (started ended : Bool) (misplaced : Option Position) (e : Event × Position)
+-- An event is read, and waits.
+pub next_read : {T : Type 0} (pull new : EventReader T) (given : List (Ev × Position)) (current : Option (Event × Position)) (started ended : Bool) (misplaced : Option Position) (e : Event × Position)
     → Holds pull given (option_map placed current) started ended misplaced → is_some current ≡ false → misplaced ≡ None
-    → Continues pull (read_so given ended (option_map placed current)) (Ok e) new → Holds new given (Some (placed e)) started ended misplaced
-next_holds {T} pull new given current started ended misplaced e h none clear x =
-    let n = next_held pull new given current started ended e h.end h.held none x in
-    record {
-      held = n.held;
-      steady = n.known h.steady;
-      first = h.first;
-      end = h.end;
-      clear = λ b. (n.after, clear);
-      over = λ b. (n.after, clear, n.over b);
-    }
-
-pub next_waits : {T : Type 0} (pull new : EventReader T) (given : List (Ev × Position)) (current : Option (Event × Position)) (started ended : Bool) (misplaced : Option Position) (e : Event × Position)
-    → Holds pull given (option_map placed current) started ended misplaced → is_some current ≡ false → misplaced ≡ None
-    → Continues pull (read_so given ended (option_map placed current)) (Ok e) new → Waits (seen pull given current started ended misplaced) (seen new given (Some e) started ended misplaced)
-next_waits {T} pull new given current started ended misplaced e h none clear x =
+    → Continues pull (read_so given ended (option_map placed current)) (Ok e) new
+    → Holds new given (Some (placed e)) started ended misplaced × Waits (seen pull given current started ended misplaced) (seen new given (Some e) started ended misplaced)
+next_read {T} pull new given current started ended misplaced e h none clear x =
     let n = next_held pull new given current started ended e h.end h.held none x in
     let ahead : is_some (option_map placed current) ≡ false = ap (λ o. is_some (option_map placed o)) (none_if current none) in
     let ks = pull.reader.names.keeping.settings.items in
-    record {
-      some = refl;
-      waited = λ b. absurd (both_ways (is_some (option_map placed current)) ahead b);
-      given = refl;
-      started = refl;
-      ended = refl;
-      over = n.over;
-      left = λ k. let less = n.less k in omega arith;
-      settings = record { keep_tags = n.tags; steady = n.steady };
-      noted = n.settings ∙ ap (λ b. if b || ended then ks else ks ++ pull.reader.names.keeping.tags ∷ []) (sym ahead);
-      clear = no_fault pull misplaced n.before clear;
-      sound = sound new given (Some e) started ended misplaced n.after clear n.held (n.known h.steady);
-    }
+    let waited : IsSome (option_map placed current) → seen new given (Some e) started ended misplaced ≡ seen pull given current started ended misplaced = λ b. absurd (both_ways (is_some (option_map placed current)) ahead b) in
+    let left : ev_of e.0 ≢ Ev.stream_end → events_left new.reader (Some e) ≤ events_left pull.reader current = λ k. let less = n.less k in omega arith in
+    let noted = n.settings ∙ ap (λ b. if b || ended then ks else ks ++ pull.reader.names.keeping.tags ∷ []) (sym ahead) in (
+      record { held = n.held; steady = n.known h.steady; first = h.first; end = h.end; clear = λ b. (n.after, clear); over = λ b. (n.after, clear, n.over b) },
+      assumption (waited, left, noted, no_fault pull misplaced n.before clear, sound new given (Some e) started ended misplaced n.after clear n.held (n.known h.steady)),
+    )
 
 -- ---- an event is given
 
@@ -284,19 +225,9 @@ pub event_given : {T : Type 0} (pull : EventReader T) (given new : List (Ev × P
 event_given {T} pull given new e started ended ended' misplaced h more end =
     let c = h.clear refl in
     let n = given_holds pull given new (placed e) started ended ended' misplaced h more end in
-    record {
-      given = more;
-      ended = end;
-      started = refl;
-      ahead = refl;
-      waited = refl;
-      over = λ b. (h.over b).2;
-      left = λ k. omega arith;
-      settings = record { keep_tags = refl; steady = refl };
-      noted = refl;
-      clear = no_fault pull misplaced c.0 c.1;
-      sound = sound pull new None true ended' misplaced c.0 c.1 n.held n.steady;
-    }
+    let over : ended ≡ true → ev_of e.0 ≡ Ev.stream_end = λ b. (h.over b).2 in
+    let left : ev_of e.0 ≢ Ev.stream_end → work pull.reader + 0 < work pull.reader + 1 = λ k. omega arith in
+    assumption (more, end, over, left, no_fault pull misplaced c.0 c.1, sound pull new None true ended' misplaced c.0 c.1 n.held n.steady)
 
 pub none_waits : (current : Option (Event × Position)) → is_some (option_map placed current) ≡ false → is_some current ≡ false
 none_waits current h = grind arith
@@ -310,23 +241,13 @@ pub given_at_once : {T : Type 0} (pull new : EventReader T) (given more : List (
 given_at_once {T} pull new given more current started ended ended' misplaced e h none clear x noted end =
     let no = none_if current none in
     let less = (next_held pull new given current started ended e h.end h.held none x).less in
-    let read = next_waits pull new given current started ended misplaced e h none clear x in
-    let held = next_holds pull new given current started ended misplaced e h none clear x in
-    let gives = event_given new given more e started ended ended' misplaced held noted end in (
-      subst (λ o. Holds new more (option_map placed o) true ended' misplaced) (sym no) (given_holds new given more (placed e) started ended ended' misplaced held noted end),
-      record {
-        given = noted;
-        ended = end;
-        started = refl;
-        ahead = ap (option_map placed) no;
-        waited = subst (λ o. IfSome (option_map placed o) (λ y. placed e ≡ y)) (sym no) tt;
-        over = read.over;
-        left = λ k. let w = less k in omega arith;
-        settings = record { keep_tags = read.settings.keep_tags; steady = read.settings.steady };
-        noted = read.noted;
-        clear = read.clear;
-        sound = subst (λ o. IsSound (seen new more o true ended' misplaced)) (sym no) gives.sound;
-      },
+    let read = next_read pull new given current started ended misplaced e h none clear x in
+    let gives = event_given new given more e started ended ended' misplaced read.0 noted end in
+    let waited = subst (λ o. IfSome (option_map placed o) (λ y. placed e ≡ y)) (sym no) tt in
+    let left : ev_of e.0 ≢ Ev.stream_end → events_left new.reader current < events_left pull.reader current = λ k. let w = less k in omega arith in
+    let sounds = subst (λ o. IsSound (seen new more o true ended' misplaced)) (sym no) gives.sound in (
+      subst (λ o. Holds new more (option_map placed o) true ended' misplaced) (sym no) (given_holds new given more (placed e) started ended ended' misplaced read.0 noted end),
+      assumption (noted, end, ap (option_map placed) no, waited, left, sounds),
     )
 
 pub all_noted : (xs ys : List (Event × Position)) (x : Event × Position) (b : Bool) → ys ≡ xs ++ (if b then [] else x ∷ []) → all_placed ys ≡ all_placed xs ++ (if b then [] else placed x ∷ [])
@@ -377,11 +298,11 @@ stopped {T} pull mid new given current started ended misplaced s f {v} view h ah
     let c = clear_parts pull misplaced (ap (λ u. u.fault) view ∙ fault) in
     let a = reads es (subst (IsHeld pull.reader es) c.0 h.held) in
     let y = keeps new es s kept stop (failed_as es s reader (a.1, a.2)) in
-    let before : fault_kept pull ≡ None = ap (option_map (λ x. fault_seen x.stop x.mark (scanned pull.reader.tokens.scanner).fault)) c.0 in
+    let before : fault_kept pull ≡ None = ap (option_map (λ x. fault_seen x.0 x.1 (scanned pull.reader.tokens.scanner).fault)) c.0 in
     let x : Continues pull es (Err f) new = (ap (λ r. r.names.keeping) reader ∙ a.0, y.0, λ b. y.1) in
     let again = subst (λ o. IfSome o (λ g. (◌≡◌ {A = Result (Event × Position) ErrorReport} (Err f) (Err g)) × (new ≡ pull))) (sym before) tt in
-    let y = fault_given pull new given current started ended misplaced f h none c.1 x kept again in
-    (fault_holds pull new given current started ended misplaced h none x kept, subst (λ u. GivesFault u f (seen new given current started ended misplaced)) view y)
+    let y = fault_met pull new given current started ended misplaced f h none c.1 x kept again in
+    (y.0, subst (λ u. GivesFault u f (seen new given current started ended misplaced)) view y.1)
 
 -- ---- a setting
 
@@ -392,25 +313,17 @@ held_set {T} p k es (Some z) same x = x
 no_settings : {T : Type 0} (p : Reader T) (es : List (Ev × Position)) → IsHeld p es None → es ≡ [] → p.names.keeping.settings.items ≡ []
 no_settings {T} p es x h = nil_from_length p.names.keeping.settings.items (x.each ∙ ap length h)
 
-same_bool : (a b : Bool) → beq a b ≡ true → a ≡ b
-same_bool a b h = grind arith
-
 -- A setting that counts from the start on was made where nothing was read, or is what it was.
 pub settings_hold : {T : Type 0} (pull : EventReader T) (given : List (Ev × Position)) (current : Option (Event × Position)) (started ended : Bool) (misplaced : Option Position) (k : Keeping)
     → Holds pull given (option_map placed current) started ended misplaced
     → k.steady ≡ stays_steady (seen pull given current started ended misplaced) k.tags → k.settings ≡ pull.reader.names.keeping.settings
     → Holds (record pull { reader = record (pull.reader) { names = record (pull.reader.names) { keeping = k } } }) given (option_map placed current) started ended misplaced
-settings_hold {T} pull given current started ended misplaced k h steady same = record {
-  held = held_set pull.reader k (read_so given ended (option_map placed current)) pull.kept same h.held;
-  steady = λ b. subst (AreAll k.tags) (ap (λ x. x.items) (sym same)) (still b);
-  first = h.first;
-  end = h.end;
-  clear = h.clear;
-  over = h.over;
-}
+settings_hold {T} pull given current started ended misplaced k h steady same =
+    let kept : k.steady ≡ true → AreAll k.tags k.settings.items = λ b. subst (AreAll k.tags) (ap (λ x. x.items) (sym same)) (still b) in
+    assumption (held_set pull.reader k (read_so given ended (option_map placed current)) pull.kept same h.held, kept)
   where
     none_of_all : (m : Option Position) → is_some (fault_of_all m pull) ≡ false → pull.kept ≡ None
-    none_of_all None e = none_before (λ x. fault_seen x.stop x.mark (scanned pull.reader.tokens.scanner).fault) pull.kept (none_if (fault_kept pull) e)
+    none_of_all None e = none_before (λ x. fault_seen x.0 x.1 (scanned pull.reader.tokens.scanner).fault) pull.kept (none_if (fault_kept pull) e)
     none_of_all (Some q) e = cc
 
     nothing_read : is_fresh (seen pull given current started ended misplaced) ≡ true → pull.reader.names.keeping.settings.items ≡ []
@@ -427,18 +340,14 @@ settings_hold {T} pull given current started ended misplaced k h steady same = r
         let one = and_parts (pull.reader.names.keeping.steady) (is_fresh (seen pull given current started ended misplaced) || beq k.tags pull.reader.names.keeping.tags) (sym steady ∙ s) in
         elim (or_cases (is_fresh (seen pull given current started ended misplaced)) (beq k.tags pull.reader.names.keeping.tags) one.1) [
           | inl a ↦ subst (AreAll k.tags) (sym (nothing_read a)) tt
-          | inr b ↦ subst (λ t. AreAll t pull.reader.names.keeping.settings.items) (sym (same_bool k.tags pull.reader.names.keeping.tags b)) (h.steady one.0)
+          | inr b ↦ subst (λ t. AreAll t pull.reader.names.keeping.settings.items) (sym (grind arith)) (h.steady one.0)
         ]
 
 -- ---- an event stands where a document must start
 
 pub misplaced_holds : {T : Type 0} (pull : EventReader T) (given : List (Ev × Position)) (ahead : Option (Ev × Position)) (started ended : Bool) (misplaced : Option Position) (p : Position)
     → Holds pull given ahead started ended misplaced → ahead ≡ None → ended ≡ false → Holds pull given ahead started ended (Some p)
-misplaced_holds {T} pull given ahead started ended misplaced p h none going = record {
-  held = h.held;
-  steady = h.steady;
-  first = h.first;
-  end = h.end;
-  clear = λ b. let no : false ≡ true = sym (ap is_some none) ∙ b in cc;
-  over = λ b. absurd (both_ways ended going b);
-}
+misplaced_holds {T} pull given ahead started ended misplaced p h none going =
+    let clear : IsSome ahead → (pull.kept ≡ None) × (Some p ≡ None) = λ b. let no : false ≡ true = sym (ap is_some none) ∙ b in cc in
+    let over : ended ≡ true → (pull.kept ≡ None) × (Some p ≡ None) × IfSome ahead (λ e. e.0 ≡ Ev.stream_end) = λ b. absurd (both_ways ended going b) in
+    assumption (clear, over)

@@ -11,12 +11,6 @@ by_tokens : (q : Problem) (ts : List Tok) (t : Tok) {n : Next} {cs : List Collec
 by_tokens q [] t next opens none e = none refl
 by_tokens q (u ∷ ts) t {n} {cs} next opens none e = e ∙ ap (λ x. problem_for (kind_of t) x cs) (sym next) ∙ ap (problem_for (kind_of t) (next_after other_next (u ∷ ts))) (sym opens)
 
-next_is_none : {ts : List Tok} {n : Next} → next_after other_next ts ≡ n → ts ≡ [] → other_next ≡ n
-next_is_none {ts} {n} h e = sym (ap (next_after other_next) e) ∙ h
-
-open_is_none : {ts : List Tok} {cs : List Collection} → open_after [] ts ≡ cs → ts ≡ [] → [] ≡ cs
-open_is_none {ts} {cs} h e = sym (ap (open_after []) e) ∙ h
-
 -- An innermost collection is open here, in which no node may begin.
 abbrev pub IsInside : Goal → Collection → Type 0
 IsInside g c = (ss : List State) → (is_after (top g ss) ≡ false) × (next_at g ss ≡ other_next) × (open_at g ss ≡ c ∷ open_under ss)
@@ -25,7 +19,7 @@ pub says_inside : {T : Type 0} {k : Kind} {g : Goal} {p : Reader T} {names : Nam
 says_inside {T} {k} {g} {p} c inside a known t look kind =
     let i = inside p.stack in
     let opens : open_after [] (taken_toks p.tokens) ≡ c ∷ open_under p.stack = a.stands.opened ∙ i.2 in
-    by_tokens (problem_in (c ∷ [])) (taken_toks p.tokens) t (known i.0 ∙ i.1) opens (λ e. let no : [] ≡ c ∷ open_under p.stack = open_is_none opens e in cc) (any c (open_under p.stack))
+    by_tokens (problem_in (c ∷ [])) (taken_toks p.tokens) t (known i.0 ∙ i.1) opens (λ e. let no : [] ≡ c ∷ open_under p.stack = sym (ap (open_after []) e) ∙ opens in cc) (any c (open_under p.stack))
   where
     any : (x : Collection) (cs : List Collection) → problem_in (x ∷ []) ≡ problem_in (x ∷ cs)
     any x cs = grind arith
@@ -33,14 +27,10 @@ says_inside {T} {k} {g} {p} c inside a known t look kind =
 -- ---- where nothing is open
 
 bottom_open : (ss : List State) → IsBottom ss → open_under ss ≡ []
-bottom_open [] h = refl
-bottom_open (s ∷ ss) h = absurd h
+bottom_open ss h = grind arith
 
 no_directive_for : (k : Kind) (n : Next) → is_directive k ≡ false → problem_at n [] ≡ problem_for k n []
 no_directive_for k n h = ap (λ b. if b then problem.DirectiveWithoutDocumentEnd else problem_at n []) (sym h)
-
-looked_no_directive : {o : Option Tok} {t : Tok} → o ≡ Some t → IsNoDirective o → is_directive (kind_of t) ≡ false
-looked_no_directive {o} {t} h n = subst IsNoDirective h n
 
 pub says_start : {T : Type 0} {k : Kind} {p : Reader T} {names : Names} {given : List (Ev × Position)} → Says problem.DocumentStartToken k Goal.start p names given
 says_start a known t look kind = sym (ap (λ ts. problem_of ts t) (nothing_taken a))
@@ -48,7 +38,7 @@ says_start a known t look kind = sym (ap (λ ts. problem_of ts t) (nothing_taken
 pub says_explicit : {T : Type 0} {k : Kind} {p : Reader T} {names : Names} {given : List (Ev × Position)} → Says problem.DocumentStartToken k Goal.explicit p names given
 says_explicit {T} {k} {p} a known t look kind =
     by_tokens problem.DocumentStartToken (taken_toks p.tokens) t (known refl) (a.stands.opened ∙ bottom_open p.stack a.stands.fits) (λ e. refl)
-    (no_directive_for (kind_of t) other_next (looked_no_directive look (a.stands.past refl)))
+    (no_directive_for (kind_of t) other_next (subst IsNoDirective look (a.stands.past refl)))
 
 pub says_directed : {T : Type 0} {k : Kind} {p : Reader T} {names : Names} {given : List (Ev × Position)} (read : List Directive) → is_directive k ≡ false → Says problem.DocumentStartToken k (Goal.directed read) p names given
 says_directed {T} {k} {p} read none a known t look kind =
@@ -85,5 +75,5 @@ node_for k (c ∷ cs) none = refl
 pub says_node : {T : Type 0} {k : Kind} {p : Reader T} {names : Names} {given : List (Ev × Position)} → Says problem.NodeContent k (Goal.after_properties context.Flow None) p names given
 says_node {T} {k} {p} a known t look kind =
     let next : next_after other_next (taken_toks p.tokens) ≡ node_next = known refl in
-    by_tokens problem.NodeContent (taken_toks p.tokens) t next a.stands.opened (λ e. let no : other_next ≡ node_next = next_is_none next e in cc)
-    (node_for (kind_of t) (open_under p.stack) (λ e. looked_no_directive look (a.stands.past (over_document p.stack a.stands.nested a.stands.fits.0 e))))
+    by_tokens problem.NodeContent (taken_toks p.tokens) t next a.stands.opened (λ e. let no : other_next ≡ node_next = sym (ap (next_after other_next) e) ∙ next in cc)
+    (node_for (kind_of t) (open_under p.stack) (λ e. subst IsNoDirective look (a.stands.past (over_document p.stack a.stands.nested a.stands.fits.0 e))))

@@ -1,11 +1,48 @@
 -- The turns over the code's state.
-use Rattle.yaml_parser.proofs.Common.{[], all_shown, ap, append-nil, arith, At, BeginAt, behind, Bool, both, both_ways, Ev, events_of, false, Goal, IfSome, is_end, is_over, IsAt, IsAwake, IsHanded, IsNamed, IsNext, IsOfKind, IsOnTrack, IsPastColon, IsPending, Kind, kind_of, last_position, Leaves, length, length-append, List, looks, map, named, named_by, Names, names_after, names_at, names_by, no_names, None, nowhere, Option, option_map, or_parts, peeked_tok, Position, Raw, Reader, refl, resolved_event, shown, shown_list, Skips, Some, State, stood, subst, sym, taken_toks, Takes, Tok, tok_of, Token, Tokens, toks, top, ◌++◌, ◌||◌, ◌∙◌, ◌∷◌, ◌≡◌, ◌≤◌, then_event, event_at}
+use Rattle.yaml_parser.proofs.Common.{[], all_shown, ap, append-nil, arith, At, BeginAt, behind, Bool, both, both_ways, Ev, events_of, false, Goal, IfSome, is_end, is_over, IsAt, IsAwake, IsHanded, IsNamed, IsNext, IsOfKind, IsOnTrack, IsPastColon, IsPending, Kind, kind_of, last_position, Leaves, length, length-append, List, looks, map, named, named_by, Names, names_after, names_at, names_by, no_names, None, nowhere, Option, option_map, or_parts, peeked_tok, Position, Raw, Reader, refl, resolved_event, shown, shown_list, Skips, Some, State, stood, subst, sym, taken_toks, Takes, Tok, tok_of, Token, Tokens, toks, top, ◌++◌, ◌||◌, ◌∙◌, ◌∷◌, ◌≡◌, ◌≤◌, then_event, event_at, append_assoc, AwaitsAt, Extent, IsAtFirst, IsFor, IsNested, IsThere, StreamPlacesTo}
 use Rattle.model_parser.proofs.Carry.{stands_take, stands_leave}
 use Rattle.yaml_parser.specs.Handed.{ends}
 use Rattle.yaml_parser.proofs.Positions.{count_more, behind_more, stood_over}
-use Rattle.yaml_parser.proofs.Placing.{StandsSo, placed_took, placed_left}
 use Rattle.yaml_parser.proofs.Since.{since_append, since_after}
 use Rattle.defs_token.specs.Token as defs
+
+-- ---- where the events stand that were given, one turn more
+
+-- What is awaited completes the tokens that were taken, with the events that were given, each at its position.
+abbrev pub StandsSo : List defs.Token → Option Token → Option Position → Goal → List State → List (Raw × Position) → Type 0
+StandsSo taken peeked b g ss stands = (x : Extent) (ts : List defs.Token) (es : List (Raw × Position)) → BeginAt peeked ts → AwaitsAt x b g ss ts es → StreamPlacesTo x (taken ++ ts) (stands ++ es)
+
+event_over : (stands : List (Raw × Position)) (e : Option Raw) (m : Position) (es : List (Raw × Position)) → stands ++ event_at e m es ≡ (stands ++ event_at e m []) ++ es
+event_over stands None m es = ap (λ l. l ++ es) (sym (append-nil stands))
+event_over stands (Some e) m es = sym (append_assoc stands ((e, m) ∷ []) es)
+
+-- A token is taken, and an event is given or none,
+pub placed_took : {g g' : Goal} {ss ss' : List State} (t : Token) {e : Option Raw} {b : Option Position} (taken : List defs.Token) (stands stands' : List (Raw × Position)) (m : Position)
+    → Takes g ss (tok_of t.1) e g' ss' → IsFor g ss → IsAt b (shown t) e m → stands' ≡ stands ++ event_at e m []
+    → StandsSo taken (Some t) b g ss stands → StandsSo (taken ++ shown t ∷ []) None (Some t.0) g' ss' stands'
+placed_took t {e = e} {b = b} taken stands stands' m turn fits at more f = λ x ts es begins a.
+    subst (λ us. StreamPlacesTo x us (stands' ++ es)) (sym (append_assoc taken (shown t ∷ []) ts))
+    (subst (λ xs. StreamPlacesTo x (taken ++ shown t ∷ ts) xs) (event_over stands e m es ∙ ap (λ l. l ++ es) (sym more)) (f x (shown t ∷ ts) (event_at e m es) refl (turn.places fits x b (shown t) m refl at ts es a)))
+
+is_there : {o : Option Tok} (peeked : Option Token) → option_map (λ (t : Token). tok_of t.1) peeked ≡ o → (ts : List defs.Token) → BeginAt peeked ts → IsThere o ts
+is_there peeked here ts begins = subst (λ o. IsThere o ts) here (by peeked ts begins)
+  where
+    by : (p : Option Token) (ts : List defs.Token) → BeginAt p ts → IsThere (option_map (λ (t : Token). tok_of t.1) p) ts
+    by None ts h = tt
+    by (Some t) [] h = h
+    by (Some t) (k ∷ ts) h = tt
+
+-- or the token stays.
+pub placed_left : {g g' : Goal} {ss ss' : List State} {o : Option Tok} (peeked : Option Token) {e : Option Raw} {b : Option Position} (taken : List defs.Token) (stands stands' : List (Raw × Position)) (m : Position) → option_map (λ (t : Token). tok_of t.1) peeked ≡ o
+    → Leaves g ss o e g' ss' → IsNested ss → IsFor g ss → ((k : defs.Token) → BeginAt peeked (k ∷ []) → IsAt b k e m) → stands' ≡ stands ++ event_at e m []
+    → StandsSo taken peeked b g ss stands → StandsSo taken peeked b g' ss' stands'
+placed_left peeked {e = e} {b = b} taken stands stands' m here turn nested fits at more f = λ x ts es begins a.
+    subst (λ xs. StreamPlacesTo x (taken ++ ts) xs) (event_over stands e m es ∙ ap (λ l. l ++ es) (sym more)) (f x ts (event_at e m es) begins (turn.places nested fits x b m ts (is_there peeked here ts begins) (first peeked ts begins at) es a))
+  where
+    first : (p : Option Token) (ts : List defs.Token) → BeginAt p ts → ((k : defs.Token) → BeginAt p (k ∷ []) → IsAt b k e m) → IsAtFirst b ts e m
+    first p [] h at = tt
+    first None (k ∷ ts) h at = at k tt
+    first (Some t) (k ∷ ts) h at = at k h
 
 -- ---- lists
 
@@ -74,15 +111,9 @@ gave m {p = p} {r} {e = e} {v} {given} n a =
 
 gave_none : {T : Type 0} {g g' : Goal} {p r : Reader T} {names : Names} {given : List (Ev × Position)} → r.names.keeping ≡ p.names.keeping → IsNamed r.names (names_at r.names.keeping.tags g' names) → IsPending names g'
     → (a : At g p names given) → Gave nowhere a r g' None names given
-gave_none {given = given} keep code pending a = record {
-  count = a.count;
-  few = subst (λ k. length k.settings.items ≤ length a.raw) (sym keep) a.few;
-  stands = sym (append-nil (stood a.raw given));
-  events = ap (λ k. named_by k a.raw) keep ∙ a.events;
-  names_are = ap (λ k. names_by k a.raw) keep ∙ a.names_are;
-  code = code;
-  pending = pending;
-}
+gave_none {p = p} {r} {given = given} keep code pending a =
+    let few : length r.names.keeping.settings.items ≤ length a.raw = subst (λ k. length k.settings.items ≤ length a.raw) (sym keep) a.few in
+    assumption (few, sym (append-nil (stood a.raw given)), ap (λ k. named_by k a.raw) keep ∙ a.events, ap (λ k. names_by k a.raw) keep ∙ a.names_are, code, pending, a.count)
 
 -- The token is taken.
 took_any : {T : Type 0} {m : Position} {g g' : Goal} {p r : Reader T} {t : Token} {ss' : List State} {e : Option Raw} {names names' : Names} {given given' : List (Ev × Position)}
@@ -128,9 +159,6 @@ took_on here s to turn keep code pending wakes past a = took_any here s to turn 
 abbrev pub breaks : Goal → Goal → Bool
 breaks g g' = is_over g || is_over g'
 
-unbroken : (g g' : Goal) → breaks g g' ≡ false → (is_over g ≡ false) × (is_over g' ≡ false)
-unbroken g g' h = or_parts (is_over g) (is_over g') h
-
 -- The token stays.
 left_any : {T : Type 0} {m : Position} {g g' : Goal} {p r : Reader T} {o : Option Tok} {ss' : List State} {e : Option Raw} {names names' : Names} {given given' : List (Ev × Position)}
     → peeked_tok p.tokens ≡ o → r.tokens ≡ p.tokens → r.stack ≡ ss' → Leaves g p.stack o e g' ss' → (a : At g p names given) → Gave m a r g' e names' given'
@@ -141,8 +169,8 @@ left_any {m = m} {g} {g'} {p} {r} {o} {ss'} {e} {given = given} {given'} here sa
       stands = subst (λ x. IsOnTrack g' ss' (taken_toks p.tokens) x (then_event a.raw e)) (sym here)
           (stands_leave g p.stack o e g' ss' (taken_toks p.tokens) a.raw turn (subst (λ x. IsOnTrack g p.stack (taken_toks p.tokens) x a.raw) here a.stands));
       handed = a.handed;
-      awake = λ w. a.awake (unbroken g g' wakes).0;
-      over = λ w. absurd (both_ways (is_over g') (unbroken g g' wakes).1 w);
+      awake = λ w. a.awake (or_parts (is_over g) (is_over g') wakes).0;
+      over = λ w. absurd (both_ways (is_over g') (or_parts (is_over g) (is_over g') wakes).1 w);
       count = y.count;
       few = y.few;
       places = placed_left p.tokens.peeked (all_shown p.tokens.taken.items) (stood a.raw given) (stood (then_event a.raw e) given') m here turn a.stands.nested a.stands.fits spot y.stands a.places;
@@ -197,8 +225,7 @@ looked_places {T} p r g stands taken stack same x =
 
 -- the next token is the one that was looked at, where one was
 pub begins_peeked : (o : Option Token) (ts : List Tok) → IsNext (option_map (λ (t : Token). tok_of t.1) o) (toks (shown_list o) ++ ts)
-begins_peeked None ts = tt
-begins_peeked (Some t) ts = refl
+begins_peeked o ts = grind arith
 
 pub looks_on : {T : Type 0} {p r : Reader T} → r.tokens.taken ≡ p.tokens.taken → ((t : Token) → p.tokens.peeked ≡ Some t → r.tokens.peeked ≡ Some t) → (IsHanded p.tokens → IsHanded r.tokens) → (IsAwake p.tokens → IsAwake r.tokens)
     → r.stack ≡ p.stack → r.names ≡ p.names → {g : Goal} {names : Names} {given : List (Ev × Position)} → is_over g ≡ false → At g p names given → At g r names given

@@ -1,5 +1,5 @@
 -- Where the productions stand.
-use Rattle.std.specs.Prelude.{◌≡◌, ◌≤◌, ◌||◌, length, List, Option, [], ◌∷◌, ◌++◌, Bool, true, false, Some, None, IsSome, Result, Ok, Err}
+use Rattle.std.specs.Prelude.{◌≡◌, ◌≤◌, ◌||◌, length, List, Option, [], ◌∷◌, ◌++◌, Bool, true, false, Some, None, IsSome, Result, Ok, Err, IsErr}
 use Rattle.defs_text.specs.Position.{Position}
 use Rattle.defs_token.specs.Token as defs
 use Rattle.yaml_tokens.specs.declared.token.Token.{Token}
@@ -9,6 +9,7 @@ use Rattle.yaml_tokens.specs.declared.problem.Problem.{Problem}
 use Rattle.yaml_tokens.specs.Problem.{fault_of}
 use Rattle.yaml_tokens.specs.Shown.{all_shown}
 use Rattle.yaml_scanner.specs.Scanned.{scanned}
+use Rattle.yaml_scanner.specs.declared.fetcher.Failed.{Failed}
 use Rattle.defs_event.specs.Event.{Ev}
 use Rattle.defs_event.specs.Raw.{Raw}
 use Rattle.defs_event.specs.Properties.{tag_of}
@@ -125,8 +126,16 @@ with_fault (Ok x) slot = Ok x
 with_fault (Err e) slot = Err slot.fault
 
 -- what a production comes to
-abbrev pub Reads : {T E : Type 0} → Goal → Reader T → Reader T → Result (Unit {0}) E → EventSlot → Type 0
-Reads g old new result slot = (names : Names) (given : List (Ev × Position)) → At g old names given → Answers new given (answered result slot)
+pub record Reads {T E : Type 0} (g : Goal) (old new : Reader T) (result : Result (Unit {0}) E) (slot : EventSlot) : Type 0 where
+  pub so : (names : Names) (given : List (Ev × Position)) → At g old names given → Answers new given (answered result slot)
+
+-- What is read from the new reader on is read from the old one on.
+abbrev pub Passes : {T : Type 0} → Goal → Reader T → Reader T → Type 0
+Passes {T} g old new = (final : Reader T) (result : Result (Unit {0}) Failed) (slot : EventSlot) → Reads g new final result slot → Reads g old final result slot
+
+-- It fails so.
+abbrev pub Stops : {T : Type 0} → Goal → Reader T → Reader T → EventSlot → Type 0
+Stops g old new slot = (result : Result (Unit {0}) Failed) → IsErr result → Reads g old new result slot
 
 abbrev pub Carries : {T : Type 0} → Goal → Reader T → Reader T → Type 0
 Carries g old new = (names : Names) (given : List (Ev × Position)) → At g old names given → At g new names given

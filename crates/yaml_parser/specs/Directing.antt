@@ -1,5 +1,5 @@
 -- Where directives are read.
-use Rattle.std.specs.Prelude.{◌≡◌, List, [], ◌++◌, Bool, false, if◌then◌else◌, Result, Ok, Err}
+use Rattle.std.specs.Prelude.{◌≡◌, List, [], ◌++◌, Bool, false, if◌then◌else◌, Option, Result, Ok, Err}
 use Rattle.defs_text.specs.Position.{Position}
 use Rattle.defs_event.specs.Event.{Ev}
 use Rattle.defs_event.specs.Raw.{Directive}

@@ -31,9 +31,8 @@ pub record Has (names : Names) (o : Option written.Properties) (p : Option Prope
   pub tag : perhaps_resolved names.handles (written.perhaps_tag_of o) ≡ Some (kept_tag p)
 
 -- what a content comes to, after these properties
-abbrev pub ReadsAfter : {T E : Type 0} → NodeContext → Option Properties → Reader T → Reader T → Result (Unit {0}) E → EventSlot → Type 0
-ReadsAfter p properties old new result slot =
-    (o : Option written.Properties) (names : Names) (given : List (Ev × chars.Position)) → Has names o properties → At (at.after_properties p o) old names given → Answers new given (answered result slot)
+pub record ReadsAfter {T E : Type 0} (p : NodeContext) (properties : Option Properties) (old new : Reader T) (result : Result (Unit {0}) E) (slot : EventSlot) : Type 0 where
+  pub so : (o : Option written.Properties) (names : Names) (given : List (Ev × chars.Position)) → Has names o properties → At (at.after_properties p o) old names given → Answers new given (answered result slot)
 
 -- The anchor of these properties is numbered, and nothing else changes.
 pub record Registers {T : Type 0} (old : Reader T) (properties : Option Properties) (names : Names) (gives : ℕ → Option defs.Tag → Type 0) (new : Reader T) : Type 0 where

@@ -2,7 +2,7 @@
 ghost use Rattle.std.specs.Prelude.{◌≡◌, ◌≢◌, Bool, true, OnErr, OnOk, IfOk};
 ghost use Rattle.model_parser.specs.Goal as at;
 ghost use Rattle.model_parser.specs.Kinds.{is_directive};
-ghost use Rattle.yaml_parser.specs.At.{Reads, Carries, Fails};
+ghost use Rattle.yaml_parser.specs.At.{Reads, Carries, Stops};
 ghost use Rattle.yaml_parser.specs.Directing.{Directs, AreRead, DirectivesFail};
 ghost use Rattle.model_parser.specs.declared.kind.Kind.TheVariants as kind;
 ghost use Rattle.yaml_parser.specs.Work.{Moves};
@@ -38,7 +38,7 @@ impl<T: Characters> Reader<T> {
         ensures peeked { IfOk result (λ n. IsOfKind n self.new.tokens.peeked × (n ≢ kind.DocumentEnd)) }
         ensures bounds { Moves 0 0 self.old self.new result }
         ensures at { OnOk result (Carries at.documents self.old self.new) }
-        ensures err { OnErr result (Fails at.documents self.old self.new slot.new.fault) }
+        ensures stops { OnErr result (Stops at.documents self.old self.new slot.new) }
     {
         let mut next = self.peek(slot)?;
         'ends: while let Kind::DocumentEnd = next {

@@ -15,6 +15,7 @@ use yaml_chars::{Characters, Marker};
 use yaml_tokens::{Fault, Problem};
 
 impl<T: Characters> Reader<T> {
+    /// After `[` or a comma.
     #[inline(always)]
     pub(crate) fn flow_sequence_first_entry(&mut self, slot: &mut EventSlot) -> Answer
         ensures answers { Reads at.items self.old self.new result slot.new }
@@ -44,25 +45,9 @@ impl<T: Characters> Reader<T> {
             }
             Kind::FlowEntry => {
                 self.skip();
-                self.flow_sequence_next(slot)
+                self.flow_sequence_first_entry(slot)
             }
             _ => Err(slot.halt(Some(Fault::At(Problem::FlowSequenceEntry, self.mark())))),
-        }
-    }
-
-    /// After a comma.
-    #[inline(always)]
-    fn flow_sequence_next(&mut self, slot: &mut EventSlot) -> Answer
-        ensures answers { Reads at.comma_items self.old self.new result slot.new }
-        ensures bounds { Moves 2 1 self.old self.new result }
-    {
-        let next = self.peek(slot)?;
-        match next {
-            Kind::FlowSequenceEnd => {
-                self.end_sequence(slot);
-                Ok(())
-            }
-            _ => self.flow_sequence_item(slot, next),
         }
     }
 

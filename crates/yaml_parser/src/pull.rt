@@ -99,8 +99,9 @@ impl<T: Characters> EventReader<T> {
         ensures fault { IfSome self.new.kept (λ k. k.0 ≡ fault) }
         ensures reader { self.new.reader ≡ self.old.reader }
     {
-        let mark = self.reader.tokens.scanner.mark();
-        self.kept = Some((fault, mark));
-        self.reader.error(fault, mark)
+        let kept = (fault, self.reader.tokens.scanner.mark());
+        let error = self.reader.error(kept.0, kept.1);
+        self.kept = Some(kept);
+        error
     }
 }

@@ -10,7 +10,7 @@ ghost use Rattle.yaml_parser.specs.declared.event.Event.TheVariants.{SequenceEnd
 ghost use Rattle.yaml_parser.specs.Ahead.{TakesBoth};
 ghost use Rattle.yaml_parser.specs.Shown.{placed};
 ghost use Rattle.model_parser.specs.Rest.{goal_of};
-ghost use Rattle.yaml_parser.specs.At.{Reads, Carries, Fails, Took, Stayed, is_over, is_idle};
+ghost use Rattle.yaml_parser.specs.At.{Reads, Carries, Passes, Stops, Took, Stayed, is_over, is_idle};
 ghost use Rattle.yaml_parser.specs.Work.{Moves, work, weight};
 ghost use Rattle.yaml_parser.specs.Kinds.{IsOfKind};
 ghost use Rattle.yaml_scanner.specs.Scanned.{scanned};
@@ -50,7 +50,8 @@ impl<T: Characters> Reader<T> {
         ensures taken { self.new.tokens.taken ≡ self.old.tokens.taken }
         ensures bounds { Moves 0 0 self.old self.new result }
         ensures at { OnOk result ((g : Goal) → is_over g ≡ false → Carries g self.old self.new) }
-        ensures err { OnErr result ((g : Goal) → is_idle g ≡ false → Fails g self.old self.new slot.new.fault) }
+        ensures on { OnOk result ((g : Goal) → is_over g ≡ false → Passes g self.old self.new) }
+        ensures stops { OnErr result ((g : Goal) → is_idle g ≡ false → Stops g self.old self.new slot.new) }
     {
         match self.tokens.peek() {
             Ok(kind) => Ok(kind),
@@ -103,7 +104,7 @@ impl<T: Characters> Reader<T> {
         ensures names { self.new.names ≡ self.old.names }
         ensures stack { self.new.stack ≡ self.old.stack }
         ensures start { self.new.tokens.scanner.start ≡ self.old.tokens.scanner.start }
-        ensures err { OnErr result ((g : Goal) → is_idle g ≡ false → Fails g self.old self.new slot.new.fault) }
+        ensures stops { OnErr result ((g : Goal) → is_idle g ≡ false → Stops g self.old self.new slot.new) }
     {
         match self.tokens.next_key() {
             Ok(node) => Ok(node),
@@ -120,7 +121,7 @@ impl<T: Characters> Reader<T> {
         ensures names { self.new.names ≡ self.old.names }
         ensures stack { self.new.stack ≡ self.old.stack }
         ensures start { self.new.tokens.scanner.start ≡ self.old.tokens.scanner.start }
-        ensures err { OnErr result ((g : Goal) → is_idle g ≡ false → Fails g self.old self.new slot.new.fault) }
+        ensures stops { OnErr result ((g : Goal) → is_idle g ≡ false → Stops g self.old self.new slot.new) }
     {
         match self.tokens.next_value() {
             Ok(node) => Ok(node),

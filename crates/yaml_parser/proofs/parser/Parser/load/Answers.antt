@@ -1,4 +1,4 @@
-use Rattle.yaml_parser.proofs.Answering.{[], end_run, ends, ends_well, Err, Ev, ev_of, false, faults, goes_on, is_document_start, is_stream_end, Loads, loads_err, misplaced_run, misplaces, next_document, no_document, one_document, parsed, refl, start_run, starts_inside, subst, sym, true, ◌∙◌, ◌≡◌}
+use Rattle.yaml_parser.proofs.Answering.{[], end_run, ends, ends_well, Err, Ev, ev_of, false, faults, goes_on, is_document_start, is_stream_end, Loads, error_is, misplaced_run, misplaces, next_document, no_document, one_document, parsed, refl, start_run, starts_inside, subst, sym, true, ◌∙◌, ◌≡◌}
 use Rattle.yaml_parser.proofs.LoadSteps.{refuses}
 use Rattle.defs_event.specs.Push as run
 use Rattle.yaml_parser.proofs.parser.Parser.load.Goals as goal
@@ -13,14 +13,14 @@ documents-preserved g c =
 
 pub returns-in_err-event-clause-loads : goal.returns-in_err-event-clause-loads
 returns-in_err-event-clause-loads g c =
-    loads_err g.R.MarkedEventReceiver.takes c.args.multi (parsed c.args.self.now) c.args.recv.now c.from_residual-in_err-event.result c.in_err-event.field-0.0 c.from_residual-in_err-event.ensures.1
+    rw (error_is c.from_residual-in_err-event.result c.in_err-event.field-0.0 c.from_residual-in_err-event.ensures.1)
     (faults g.R.MarkedEventReceiver.takes c.args.multi (parsed c.args.self.now) c.args.recv.now c.in_err-event.field-0.0 c.documents.invariant.0 refl c.in_err-event.ensures.pulls)
 
 pub returns-in_err-on_event-clause-loads : goal.returns-in_err-on_event-clause-loads
 returns-in_err-on_event-clause-loads g c =
     let e : Ev = ev_of c.in_ok-event.event in
     let end : is_stream_end e ≡ true = sym c.is_stream_end.ensures ∙ c.if-is_stream_end.true in
-    loads_err g.R.MarkedEventReceiver.takes c.args.multi (parsed c.args.self.now) c.args.recv.now c.from_residual-in_err-on_event.result c.in_err-on_event.field-0.0 c.from_residual-in_err-on_event.ensures.1
+    rw (error_is c.from_residual-in_err-on_event.result c.in_err-on_event.field-0.0 c.from_residual-in_err-on_event.ensures.1)
     (refuses g.R.MarkedEventReceiver.takes c.args.multi (parsed c.args.self.now) c.args.recv.now e c.in_ok-event.mark c.in_err-on_event.field-0.0 (ends run.well 0) c.documents.invariant.0 (end_run e c.in_ok-event.mark c.args.multi [] end) refl refl c.in_ok-event.ensures.pulls c.in_err-on_event.ensures)
 
 pub returns-then-is_stream_end-clause-loads : goal.returns-then-is_stream_end-clause-loads
@@ -42,7 +42,7 @@ pub returns-in_err-on_event-2-clause-loads : goal.returns-in_err-on_event-2-clau
 returns-in_err-on_event-2-clause-loads g c =
     let e : Ev = ev_of c.in_ok-event.event in
     let start : is_document_start e ≡ true = sym c.is_document_start.ensures ∙ c.if-not-is_document_start.false in
-    loads_err g.R.MarkedEventReceiver.takes c.args.multi (parsed c.args.self.now) c.args.recv.now c.from_residual-in_err-on_event-2.result c.in_err-on_event-2.field-0.0 c.from_residual-in_err-on_event-2.ensures.1
+    rw (error_is c.from_residual-in_err-on_event-2.result c.in_err-on_event-2.field-0.0 c.from_residual-in_err-on_event-2.ensures.1)
     (refuses g.R.MarkedEventReceiver.takes c.args.multi (parsed c.args.self.now) c.args.recv.now e c.in_ok-event.mark c.in_err-on_event-2.field-0.0 (ends run.unfinished 0) c.documents.invariant.0 (start_run e c.in_ok-event.mark c.args.multi [] start) refl refl c.in_ok-event.ensures.pulls c.in_err-on_event-2.ensures)
 
 pub returns-in_err-load_document-clause-loads : goal.returns-in_err-load_document-clause-loads
@@ -50,7 +50,7 @@ returns-in_err-load_document-clause-loads g c =
     let e : Ev = ev_of c.in_ok-event.event in
     let start : is_document_start e ≡ true = sym c.is_document_start.ensures ∙ c.if-not-is_document_start.false in
     let st = goes_on g.R.MarkedEventReceiver.takes c.args.multi (parsed c.args.self.now) c.args.recv.now e c.in_ok-event.mark c.documents.invariant.0 (λ rest. start_run e c.in_ok-event.mark c.args.multi rest start) c.in_ok-event.ensures.pulls c.in_ok-on_event-2.ensures in
-    loads_err g.R.MarkedEventReceiver.takes c.args.multi (parsed c.args.self.now) c.args.recv.now c.from_residual-in_err-load_document.result c.in_err-load_document.field-0.0 c.from_residual-in_err-load_document.ensures.1
+    rw (error_is c.from_residual-in_err-load_document.result c.in_err-load_document.field-0.0 c.from_residual-in_err-load_document.ensures.1)
     (c.in_err-load_document.ensures.reads c.args.multi (parsed c.args.self.now) c.args.recv.now st)
 
 pub returns-then-not-multi-clause-loads : goal.returns-then-not-multi-clause-loads

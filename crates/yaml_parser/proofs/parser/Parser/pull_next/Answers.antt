@@ -1,4 +1,4 @@
-use Rattle.yaml_parser.proofs.Answering.{all_noted, all_placed, answer_of, Continues, Err, false, fault_given, fault_holds, fault_kept, fault_misplaced, given_at_once, GivesEvent, GivesFault, IfErr, IfSome, is_some, none_waits, option_map, parsed, placed, Pulls, read_so, seen, Some, subst, sym, true, ◌≡◌}
+use Rattle.yaml_parser.proofs.Answering.{all_noted, all_placed, answer_of, Continues, Err, false, fault_kept, fault_met, fault_misplaced, given_at_once, GivesEvent, GivesFault, IfErr, IfSome, is_some, none_waits, option_map, parsed, placed, Pulls, read_so, seen, Some, subst, sym, true, ◌≡◌}
 use Rattle.yaml_parser.proofs.parser.Parser.pull_next.Goals as goal
 
 pub returns-in-Some-clause-pulls : goal.returns-in-Some-clause-pulls
@@ -31,7 +31,7 @@ returns-in_default-next-clause-pulls g c =
     let again = subst (λ r. IfSome (fault_kept i.pull) (λ f. (r ≡ Err f) × (new ≡ i.pull))) c.in_default-next.is c.next-next.ensures.again in
     let v = seen new (all_placed i.given.items) i.current i.started i.ended i.misplaced in
     subst (λ r. Pulls (parsed c.args.self.now) (answer_of r) v) (sym c.in_default-next.is)
-    (subst (λ u. GivesFault (parsed u) c.in_default-next.field-0 v) c.self.view_is (fault_given i.pull new (all_placed i.given.items) i.current i.started i.ended i.misplaced c.in_default-next.field-0 c.self.invariant none c.in_default.is x kept again))
+    (subst (λ u. GivesFault (parsed u) c.in_default-next.field-0 v) c.self.view_is (fault_met i.pull new (all_placed i.given.items) i.current i.started i.ended i.misplaced c.in_default-next.field-0 c.self.invariant none c.in_default.is x kept again).1)
 
 pub invariant_of-self : goal.invariant_of-self
 invariant_of-self g c =
@@ -50,4 +50,5 @@ invariant_of-self-in_default-next g c =
     let es = read_so (all_placed i.given.items) i.ended (option_map placed i.current) in
     let x = subst (λ r. Continues i.pull es r new) c.in_default-next.is (c.next-next.ensures.continues es c.self.invariant.held) in
     let kept = subst (λ r. IfErr r (λ f. fault_kept new ≡ Some f)) c.in_default-next.is c.next-next.ensures.err in
-    fault_holds i.pull new (all_placed i.given.items) i.current i.started i.ended i.misplaced c.self.invariant none x kept
+    let again = subst (λ r. IfSome (fault_kept i.pull) (λ f. (r ≡ Err f) × (new ≡ i.pull))) c.in_default-next.is c.next-next.ensures.again in
+    (fault_met i.pull new (all_placed i.given.items) i.current i.started i.ended i.misplaced c.in_default-next.field-0 c.self.invariant none c.in_default.is x kept again).0

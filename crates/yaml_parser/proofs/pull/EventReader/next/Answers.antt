@@ -14,5 +14,5 @@ returns-in-Ok-clause-continues g c = λ es h. (
 pub returns-in-Err-clause-continues : goal.returns-in-Err-clause-continues
 returns-in-Err-clause-continues g c = λ es h.
     let x = keeps c.keep.new.self es c.next.new.slot.fault c.keep.ensures.kept c.keep.ensures.fault
-    (failed_as es c.next.new.slot.fault c.keep.ensures.reader (failed c.args.self.now.reader c.next.new.self c.in-Err.ensures.state c.in-Err.ensures.below es c.next.new.slot.fault c.in-Err.ensures.top (subst (IsHeld c.args.self.now.reader es) c.in_default.is h) c.in-Err.ensures.answers)) in
+    (failed_as es c.next.new.slot.fault c.keep.ensures.reader (failed c.args.self.now.reader c.next.new.self c.in-Err.ensures.state c.in-Err.ensures.below es c.next.new.slot.fault c.in-Err.ensures.top (subst (IsHeld c.args.self.now.reader es) c.in_default.is h) c.in-Err.ensures.answers.so)) in
     (ap (λ r. r.names.keeping) c.keep.ensures.reader ∙ c.next.ensures.bounds.input.keeping, x.0, λ none. x.1)

@@ -2,11 +2,5 @@ use Rattle.yaml_parser.proofs.Answering.{block_flow, breaks_none, not_as, pendin
 use Rattle.model_parser.specs.declared.context.NodeContext.TheVariants as context
 use Rattle.yaml_parser.proofs.reader.Reader.block_content.Goals as goal
 
-pub returns-in-BlockSequenceStart-clause-answers : goal.returns-in-BlockSequenceStart-clause-answers
-returns-in-BlockSequenceStart-clause-answers g c = λ o names given has h. c.block_sequence.ensures.answers o names given has h
-
-pub returns-in-BlockMappingStart-clause-answers : goal.returns-in-BlockMappingStart-clause-answers
-returns-in-BlockMappingStart-clause-answers g c = λ o names given has h. c.block_mapping.ensures.answers o names given has h
-
 pub returns-in_default-clause-answers : goal.returns-in_default-clause-answers
-returns-in_default-clause-answers g c = λ o names given has h. c.flow_content.ensures.answers o names given has (stays c.requires stay (λ t e. block_flow _ o t (not_as c.in_default.not-BlockSequenceStart e) (not_as c.in_default.not-BlockMappingStart e)) refl (pending_same context.Block context.Flow names o h.pending) (λ o. tt) (breaks_none context.Block context.Flow o) h)
+returns-in_default-clause-answers g c = record { so = λ o names given has h. c.flow_content.ensures.answers.so o names given has (stays c.requires stay (λ t e. block_flow _ o t (not_as c.in_default.not-BlockSequenceStart e) (not_as c.in_default.not-BlockMappingStart e)) refl (pending_same context.Block context.Flow names o h.pending) (λ o. tt) (breaks_none context.Block context.Flow o) h) }

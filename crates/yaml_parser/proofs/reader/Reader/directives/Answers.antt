@@ -1,9 +1,9 @@
-use Rattle.yaml_parser.proofs.Answering.{arith, directing_on, Goal, on_err, refl}
+use Rattle.yaml_parser.proofs.Answering.{Err, arith, directing_on, Goal, on_err, refl}
 use Rattle.yaml_parser.proofs.reader.Reader.directives.Goals as goal
 
 pub returns-in_err-next-clause-err : goal.returns-in_err-next-clause-err
 returns-in_err-next-clause-err g c = on_err _ c.from_residual.result
-    (λ names given h. let d = c.directives.invariant.at names given h in c.in_err-next.ensures.err (Goal.directed d.read) refl names given d.here)
+    (λ names given h. let d = c.directives.invariant.at names given h in (c.in_err-next.ensures.stops (Goal.directed d.read) refl (Err c.in_err-next.field-0.0) refl).so names given d.here)
 
 pub returns-in_err-version-in-VersionDirective-clause-err : goal.returns-in_err-version-in-VersionDirective-clause-err
 returns-in_err-version-in-VersionDirective-clause-err g c = on_err _ c.from_residual-in_err-version-in-VersionDirective.result

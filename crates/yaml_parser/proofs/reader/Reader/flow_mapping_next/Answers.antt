@@ -1,11 +1,9 @@
-use Rattle.yaml_parser.proofs.Answering.{answers_err, comma_flow_end, comma_flow_has_pair, Goal, mapping_ends_at_comma, not_as, refl, stay, stays, still_after, under_no_colon, wrote}
+use Rattle.yaml_parser.proofs.Answering.{comma_flow_has_pair, Goal, gives_at, IfSome, names_nothing, Some, subst, sym, ◌≡◌, not_as, refl, stay, stays, still_after, under_no_colon, wrote, flow_turns}
 use Rattle.yaml_parser.proofs.reader.Reader.flow_mapping_next.Goals as goal
 
-pub returns-in_err-next-clause-answers : goal.returns-in_err-next-clause-answers
-returns-in_err-next-clause-answers g c = λ after names given h. answers_err c.peek.new.self given c.from_residual.result _ c.peek.new.slot c.from_residual.ensures.1 (c.in_err-next.ensures.err Goal.comma_flow_pairs refl names given h)
-
 pub returns-in-FlowMappingEnd-clause-answers : goal.returns-in-FlowMappingEnd-clause-answers
-returns-in-FlowMappingEnd-clause-answers g c = λ after names given h. wrote _ given c.write.ensures (mapping_ends_at_comma (still_after c.args.self.now.tokens c.peek.new.self.tokens c.in_ok-next.ensures.taken after) c.in_ok-next.ensures.peeked c.in-FlowMappingEnd.is c.skip.ensures.took (comma_flow_end _) (under_no_colon _ (c.in_ok-next.ensures.at Goal.comma_flow_pairs refl names given h).stands.fits) (c.in_ok-next.ensures.at Goal.comma_flow_pairs refl names given h))
+returns-in-FlowMappingEnd-clause-answers g c = λ after. c.in_ok-next.ensures.on Goal.comma_flow_pairs refl _ _ _ (record { so = λ names given h. wrote _ given c.write.ensures (gives_at _ c.in_ok-next.ensures.peeked c.in-FlowMappingEnd.is refl c.skip.ensures.took (flow_turns _).comma_flow_end (names_nothing refl refl refl) refl refl
+    (λ t is. (subst (λ b. IfSome b (λ q. c.args.comma ≡ q)) (sym (still_after c.args.self.now.tokens c.peek.new.self.tokens c.in_ok-next.ensures.taken after)) refl, under_no_colon _ h.stands.fits (Some t.0))) h) })
 
 pub returns-in_default-clause-answers : goal.returns-in_default-clause-answers
-returns-in_default-clause-answers g c = λ after names given h. c.flow_mapping_pair.ensures.answers _ names given (stays c.in_ok-next.ensures.peeked stay (λ t e. comma_flow_has_pair _ t (not_as c.in_default.not-FlowMappingEnd e)) refl tt (λ o. tt) refl (c.in_ok-next.ensures.at Goal.comma_flow_pairs refl names given h))
+returns-in_default-clause-answers g c = λ after. c.in_ok-next.ensures.on Goal.comma_flow_pairs refl _ _ _ (record { so = λ names given h. (c.flow_mapping_pair.ensures.answers _).so names given (stays c.in_ok-next.ensures.peeked stay (λ t e. comma_flow_has_pair _ t (not_as c.in_default.not-FlowMappingEnd e)) refl tt (λ o. tt) refl h) })

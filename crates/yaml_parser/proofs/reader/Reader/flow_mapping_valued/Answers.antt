@@ -1,11 +1,8 @@
-use Rattle.yaml_parser.proofs.Answering.{answers_err, answers_written, as_kind, either, ends_flow_pair, flow_valued_empty, flow_valued_node, Goal, IfSome, leaves_at, names_nothing, not_flow_pair, refl, stay, stay_push, stays, subst, sym, true, ◌≡◌}
+use Rattle.yaml_parser.proofs.Answering.{answers_written, as_kind, ends_flow_pair, flow_valued_empty, flow_valued_node, Goal, IfSome, leaves_at, names_nothing, not_flow_pair, refl, stay, stay_push, stays, subst, sym, ◌≡◌, one_of}
 use Rattle.yaml_parser.proofs.reader.Reader.flow_mapping_valued.Goals as goal
 
-pub returns-in_err-next-clause-answers : goal.returns-in_err-next-clause-answers
-returns-in_err-next-clause-answers g c = λ names given h. answers_err c.peek.new.self given c.from_residual.result _ c.peek.new.slot c.from_residual.ensures.1 (c.in_err-next.ensures.err (Goal.flow_valued c.args.colon) refl names given h)
-
 pub returns-in-FlowEntry-clause-answers : goal.returns-in-FlowEntry-clause-answers
-returns-in-FlowEntry-clause-answers g c = λ names given h. answers_written c.push.new.self given c.nothing_written.new.slot.next c.nothing_written.ensures (leaves_at _ c.in_ok-next.ensures.peeked (stay_push stay c.in_ok-push.ensures.stayed) (λ t e. flow_valued_empty _ _ t (as_kind ends_flow_pair (either (λ k. ends_flow_pair k ≡ true) refl refl c.in-FlowEntry.is) e)) (names_nothing refl refl refl) (λ k begins. subst (λ b. IfSome b (λ q. c.args.colon ≡ q)) (sym (c.in_ok-next.ensures.at (Goal.flow_valued c.args.colon) refl names given h).colon) refl) (λ o. tt) refl (c.in_ok-next.ensures.at (Goal.flow_valued c.args.colon) refl names given h))
+returns-in-FlowEntry-clause-answers g c = c.in_ok-next.ensures.on (Goal.flow_valued c.args.colon) refl _ _ _ (record { so = λ names given h. answers_written c.push.new.self given c.nothing_written.new.slot.next c.nothing_written.ensures (leaves_at _ c.in_ok-next.ensures.peeked (stay_push stay c.in_ok-push.ensures.stayed) (λ t e. flow_valued_empty _ _ t (as_kind ends_flow_pair (one_of ends_flow_pair refl (as_kind ends_flow_pair refl) c.in-FlowEntry.is) e)) (names_nothing refl refl refl) (λ k begins. subst (λ b. IfSome b (λ q. c.args.colon ≡ q)) (sym h.colon) refl) (λ o. tt) refl h) })
 
 pub returns-in_default-clause-answers : goal.returns-in_default-clause-answers
-returns-in_default-clause-answers g c = λ names given h. c.node.ensures.answers names given (stays c.in_ok-next.ensures.peeked (stay_push stay c.in_ok-push.ensures.stayed) (λ t e. flow_valued_node _ _ t (as_kind ends_flow_pair (not_flow_pair _ c.in_default.not-FlowEntry c.in_default.not-FlowMappingEnd) e)) refl tt (λ o. tt) refl (c.in_ok-next.ensures.at (Goal.flow_valued c.args.colon) refl names given h))
+returns-in_default-clause-answers g c = c.in_ok-next.ensures.on (Goal.flow_valued c.args.colon) refl _ _ _ (record { so = λ names given h. c.node.ensures.answers.so names given (stays c.in_ok-next.ensures.peeked (stay_push stay c.in_ok-push.ensures.stayed) (λ t e. flow_valued_node _ _ t (as_kind ends_flow_pair (not_flow_pair _ c.in_default.not-FlowEntry c.in_default.not-FlowMappingEnd) e)) refl tt (λ o. tt) refl h) })

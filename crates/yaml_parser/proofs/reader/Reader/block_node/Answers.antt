@@ -1,9 +1,0 @@
-use Rattle.yaml_parser.proofs.Answering.{answers_err, Goal, refl}
-use Rattle.model_parser.specs.declared.context.NodeContext.TheVariants as context
-use Rattle.yaml_parser.proofs.reader.Reader.block_node.Goals as goal
-
-pub returns-in_err-next-clause-answers : goal.returns-in_err-next-clause-answers
-returns-in_err-next-clause-answers g c = λ names given h. answers_err c.peek.new.self given c.from_residual.result _ c.peek.new.slot c.from_residual.ensures.1 (c.in_err-next.ensures.err (Goal.node context.Block) refl names given h)
-
-pub returns-clause-answers : goal.returns-clause-answers
-returns-clause-answers g c = λ names given h. c.node.ensures.answers names given (c.in_ok-next.ensures.at (Goal.node context.Block) refl names given h)
