@@ -8,7 +8,10 @@ use Rattle.proof_loads.proofs.LayoutNul.{layouts_have_no_nul}
 use Rattle.proof_loads.proofs.RowTexts.{means}
 
 pub layouts_in_turn_are_read : LayoutsInTurnMeanTheirTrees
-layouts_in_turn_are_read keep_tags [] text none = let nothing_is_read : Means keep_tags [] [] = means keep_tags [] (Tok.stream_start ∷ Tok.stream_end ∷ []) [] refl nothing_has_its_tokens (record { documents = []; stream = stream_by refl refl; trees_are = refl }) in subst (λ a. Means keep_tags a []) (sym none) (nothing_is_read)
+layouts_in_turn_are_read keep_tags [] text none =
+    let read : Means keep_tags [] [] =
+    means keep_tags [] (Tok.stream_start ∷ Tok.stream_end ∷ []) [] refl nothing_has_its_tokens (record { documents = []; stream = stream_by refl refl; trees_are = refl }) in
+    subst (λ a. Means keep_tags a []) (sym none) read
 layouts_in_turn_are_read keep_tags (t ∷ ts) text laid =
     let z = layouts_in_turn_have_their_tokens t ts text laid in
     let without = subst IsWithoutNul z.2 (layouts_have_no_nul z.0 z.1) in

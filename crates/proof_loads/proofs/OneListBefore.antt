@@ -165,11 +165,16 @@ one_blame keep_tags tokens es fs f g a b =
 
 -- where a token is refused, no stream begins with more tokens
 pub refused_first : (keep_tags : Bool) (before ts : List Token) (last : Token) (events : List (Ev × Position)) → NoneBegins keep_tags (toks (before ++ last ∷ [])) → BeginsPlaced keep_tags ts events → BeginsWith (before ++ last ∷ []) ts → ⊥
-refused_first keep_tags before ts last events none b w = let begins_first : ⊥ = let s = (subst (λ us. BeginsPlaced keep_tags us events) w.whole b).stream in
-    let rest = toks w.more ++ toks (subst (λ us. BeginsPlaced keep_tags us events) w.whole b).more_tokens in
-    let all : toks (((before ++ last ∷ []) ++ w.more) ++ (subst (λ us. BeginsPlaced keep_tags us events) w.whole b).more_tokens) ≡ toks (before ++ last ∷ []) ++ rest =
-    map-append (λ (t : Token). t.tok) ((before ++ last ∷ []) ++ w.more) (subst (λ us. BeginsPlaced keep_tags us events) w.whole b).more_tokens ∙ ap (λ ts. ts ++ toks (subst (λ us. BeginsPlaced keep_tags us events) w.whole b).more_tokens) (map-append (λ (t : Token). t.tok) (before ++ last ∷ []) w.more) ∙ append_assoc (toks (before ++ last ∷ [])) (toks w.more) (toks (subst (λ us. BeginsPlaced keep_tags us events) w.whole b).more_tokens) in
-    none rest (events_of (events ++ (subst (λ us. BeginsPlaced keep_tags us events) w.whole b).more_events)) (subst (λ ts. IsStream keep_tags ts (events_of (events ++ (subst (λ us. BeginsPlaced keep_tags us events) w.whole b).more_events))) all (record { raws = raws_of s.raws; says = without_positions s.says; has_events = s.has_events })) in begins_first
+refused_first keep_tags before ts last events none b w =
+    let first = before ++ last ∷ [] in
+    let c : BeginsPlaced keep_tags (first ++ w.more) events = subst (λ us. BeginsPlaced keep_tags us events) w.whole b in
+    let s = c.stream in
+    let rest = toks w.more ++ toks c.more_tokens in
+    let all : toks ((first ++ w.more) ++ c.more_tokens) ≡ toks first ++ rest =
+    map-append (λ (t : Token). t.tok) (first ++ w.more) c.more_tokens ∙ ap (λ ts. ts ++ toks c.more_tokens) (map-append (λ (t : Token). t.tok) first w.more)
+    ∙ append_assoc (toks first) (toks w.more) (toks c.more_tokens) in
+    none rest (events_of (events ++ c.more_events))
+    (subst (λ ts. IsStream keep_tags ts (events_of (events ++ c.more_events))) all (record { raws = raws_of s.raws; says = without_positions s.says; has_events = s.has_events }))
 
 -- a list that begins another one with a last token begins what stands before it, or is all
 pub last_or_before : (xs ys more : List Token) (u : Token) → ys ++ u ∷ [] ≡ xs ++ more → (xs ≡ ys ++ u ∷ []) ⊎ BeginsWith xs ys
@@ -271,8 +276,9 @@ come_before x es m h = h
 pub one_cause : (keep_tags : Bool) (text : List ℕ) (f g : ErrorReport) (x : IsFaultOf keep_tags text f) (y : IsFaultOf keep_tags text g) → f.memory ≡ false → g.memory ≡ false → (f ≡ g) × AgreeAt (events_before x) (events_before y)
 one_cause keep_tags text f g (wants_memory w) y m n = absurd (both_ways f.memory m w.memory)
 one_cause keep_tags text f g x (wants_memory w) m n = absurd (both_ways g.memory n w.memory)
-one_cause keep_tags text f g (no_token given es settled begins has r) (no_token given' fs settled' begins' had s) m n = let one_settled : given ≡ given' = both_begin given given' (settled_first text given' given settled' (reached_all text given settled)) (settled_first text given given' settled (reached_all text given' settled')) in
-    let same : given ≡ given' = one_settled in
+one_cause keep_tags text f g (no_token given es settled begins has r) (no_token given' fs settled' begins' had s) m n =
+    let same : given ≡ given' =
+    both_begin given given' (settled_first text given' given settled' (reached_all text given settled)) (settled_first text given given' settled (reached_all text given' settled')) in
     (one_refusal text f g r s m, one_list_so_far to_next keep_tags given' es fs (subst (λ ts. HasPlacedTo to_next keep_tags ts es) same has) had)
 one_cause keep_tags text f g (no_token given es settled begins has r) (no_stream before last fs first b begins' none) m n =
     absurd (refused_first keep_tags before given last es none begins (settled_first text given (before ++ last ∷ []) settled first.reached))
