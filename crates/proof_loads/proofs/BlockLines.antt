@@ -131,8 +131,7 @@ module _ (s : BlockStyle) where
 
   same_text : (rs : List Row) (n : ℕ) → has_content rs ≡ true → text_of s (rs ++ map row_by (empties n)) ≡ text_of s rs
   same_text [] n h = cc
-  same_text (empty_row ∷ rs) n h = ap (λ x. 10 ∷ x) (same_text rs n h)
-  same_text (content_row l ∷ rs) n h = ap (λ x. l ++ x) (same_after l 0 rs n)
+  same_text (r ∷ rs) n h = grind (arith, same_after, same_text rs n)
 
   -- before further text
   pub text_value : (strips : Bool) (rs : List Row) (n : ℕ) → has_content rs ≡ true → value_before_text (header_by s strips) (rs ++ map row_by (empties n)) ≡ value_before_text (header_by s strips) rs
@@ -341,10 +340,7 @@ two_step c d e cs = grind arith
 last_full : (c : ℕ) (cs : List ℕ) → ((c == 10) && is_empty cs) ≡ false → ends_with nat_eq (c ∷ cs) (codes "\n\n") ≡ false → ends_full (lines_of (c ∷ cs)) ≡ true
 last_full c [] h e = grind (arith, ends_full)
 last_full c (d ∷ []) h e = grind arith
-last_full c (d ∷ e ∷ cs) h f = by (c == 10) (last_full d (e ∷ cs) (and_false (d == 10)) (sym (two_step c d e cs) ∙ f))
-  where
-    by : (b : Bool) → ends_full (lines_of (d ∷ e ∷ cs)) ≡ true → ends_full (if b then [] ∷ lines_of (d ∷ e ∷ cs) else onto_first_line c (lines_of (d ∷ e ∷ cs))) ≡ true
-    by a z = grind (arith, onto_full)
+last_full c (d ∷ e ∷ cs) h f = grind (arith, and_false, two_step, onto_full, last_full d (e ∷ cs))
 
 -- ---- the written lines
 
@@ -386,10 +382,8 @@ text_from w k (blank n ∷ []) h = absurd h
 text_from w k (blank n ∷ m ∷ ls) h = text_from w (suc k) (m ∷ ls) h ∙ one_break k (after (m ∷ ls))
 
 text_is : (l : Line) (ls : List Line) → EndsInText (l ∷ ls) → text_of BlockStyle.literal (rows (l ∷ ls)) ≡ content l ++ after ls
-text_is (full w) [] h = refl
-text_is (full w) (m ∷ ls) h = ap (λ x. w ++ x) (text_from w 0 (m ∷ ls) h)
-text_is (blank n) [] h = absurd h
-text_is (blank n) (m ∷ ls) h = ap (λ x. 10 ∷ x) (text_is m ls h)
+text_is l [] h = grind arith
+text_is l (m ∷ ls) h = grind (arith, text_from, text_is m ls)
 
 -- ---- the lines make the text
 

@@ -153,8 +153,7 @@ stands_after k s (r ∷ rs) l (e ∷ before) more q h =
 
 open_in : (n : ℕ) (opened : List Opened) → IsOpen n opened → IsIn n (numbers opened)
 open_in n [] o = o
-open_in n (opened_sequence a ts ∷ outer) o = elim o [ inl e ↦ inl e | inr x ↦ inr (open_in n outer x) ]
-open_in n (opened_mapping a ps w ∷ outer) o = elim o [ inl e ↦ inl e | inr x ↦ inr (open_in n outer x) ]
+open_in n (c ∷ outer) o = grind (arith, open_in n outer)
 
 pub aliases_are_bad : AliasesInsideTheirNodeAreBadValues
 aliases_are_bad keep_tags tokens before n more u stream work is_open =

@@ -64,9 +64,8 @@ same_beginning [] [] us vs l h = refl
 same_beginning [] (y ∷ ys) us vs l h = absurd (omega (arith, l))
 same_beginning (x ∷ xs) [] us vs l h = absurd (omega (arith, l))
 same_beginning (x ∷ xs) (y ∷ ys) us vs l h =
-    let first : x ≡ y = cc in
     let rest : xs ++ us ≡ ys ++ vs = cc in
-    ap (λ z. z ∷ xs) first ∙ ap (λ zs. y ∷ zs) (same_beginning xs ys us vs (omega (arith, l)) rest)
+    cc (same_beginning xs ys us vs (omega (arith, l)) rest)
 
 as_many : (es : List (Ev × Position)) → length (events_of es) ≡ length es
 as_many [] = refl

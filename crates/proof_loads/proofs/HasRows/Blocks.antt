@@ -115,10 +115,7 @@ module _ (c : ℕ) (bs w : List ℕ) (t : Tok) (key : Bool) (next : List ℕ) (c
 -- the column after a piece on one line, and its index
 along : (w : List ℕ) (p : Position) (next : List ℕ) → has_no_break w ≡ true → ((position_after p w next).col ≡ p.col + length w) × ((position_after p w next).index ≡ p.index + length w)
 along [] p next h = (omega arith, omega arith)
-along (c ∷ w) p next h =
-    let q = and_parts (not (is_break c)) (has_no_break w) h in
-    let z = along w (record { index = suc p.index; line = p.line; col = suc p.col }) next q.1 in
-    rw (position_after, not-true (is_break c) q.0) (omega (arith, z), omega (arith, z))
+along (c ∷ w) p next h = grind (arith, and_parts, not-true, along w)
 
 module _ (c : ℕ) (bs next : List ℕ) (tokens : List Tok) where
   -- from after an indicator at the column on

@@ -55,13 +55,7 @@ module _ (in_flow : Bool) (collection : Option ℕ) (next : List ℕ) where
 
   goes_over : (b : Bool) (w : List ℕ) → are_plain w ≡ true → MayFlow in_flow w → goes_on in_flow collection (stand b) w next ≡ true
   goes_over b [] h flow = refl
-  goes_over b (c ∷ w) h flow =
-      let q = and_parts (is_plain_char c) (are_plain w) h in
-      let z = plain_char c q.0 in
-      by b (c == 32) refl z (grind arith) (goes_over (c == 32) w q.1 (λ e. (and_parts (is_in_flow c) (list_all is_in_flow w) (flow e)).1))
-    where
-      by : (b d : Bool) → (c == 32) ≡ d → PlainChar c → ends_plain in_flow collection (stand b) (c ∷ (w ++ next)) ≡ false → goes_on in_flow collection (stand (c == 32)) w next ≡ true → goes_on in_flow collection (stand b) (c ∷ w) next ≡ true
-      by a e g z i rest = grind arith
+  goes_over b (c ∷ w) h flow = grind (arith, and_parts, plain_char, goes_over (c == 32) w)
 
 ends_full : (c : ℕ) (w : List ℕ) → is_plain_char c ≡ true → are_plain w ≡ true → closes (c == 32) w ≡ true → ends_with_content c w ≡ true
 ends_full c [] one h e = let z = plain_char c one in rw (z.break, z.blank, not-true (c == 32) e) refl

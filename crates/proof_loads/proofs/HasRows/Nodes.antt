@@ -31,9 +31,7 @@ deep_char a p c b h deep = grind arith
 -- after a piece on one line
 pub deep_piece : (bs w next : List ℕ) → has_no_break w ≡ true → (p : Position) → IsDeep bs p → IsDeep bs (position_after p w next)
 deep_piece bs [] next h p deep = deep
-deep_piece bs (c ∷ w) next h p deep =
-    let q = and_parts (not (is_break c)) (has_no_break w) h in
-    deep_piece bs w next q.1 _ (deep_char bs p c (w ++ next) (λ e. not-true (is_break c) q.0) deep)
+deep_piece bs (c ∷ w) next h p deep = grind (arith, and_parts, not-true, deep_char, deep_piece bs w next)
 
 -- ---- separations
 

@@ -271,8 +271,7 @@ module _ (collection : Option ℕ) where
   stops_gap : (g : List GapLine) (a : List ℕ) → stops false collection (on_line 0) a ≡ true → stops false collection (on_line 0) (spell_gap g a) ≡ true
   unfolding is_blank is_break is_nul
   stops_gap [] a h = h
-  stops_gap (empty_line ∷ g) a h = stops_gap g a h
-  stops_gap (comment_line text ∷ g) a h = refl
+  stops_gap (l ∷ g) a h = grind (arith, stops_gap g a)
 
   stops_next : (d : ℕ) (r : List ℕ) → BeginsContent r → (not (is_deeper collection d)) ≡ true → stops false collection (on_line d) r ≡ true
   stops_next d r (content_first c x blank break hash nul) low = rw (blank, break, low, or_true ((d == 0) && is_document_marker (c ∷ x)), or_true (is_nul c || ((c == 58) && is_value_indicator false false x) || (c == 35))) refl
@@ -280,8 +279,7 @@ module _ (collection : Option ℕ) where
   stops_ending : (g : List GapLine) (s : Stand) → stops false collection s (spell_ending g []) ≡ true
   unfolding is_blank is_break is_nul
   stops_ending [] s = refl
-  stops_ending (empty_line ∷ g) s = stops_ending g (on_line 0)
-  stops_ending (comment_line text ∷ g) s = refl
+  stops_ending (l ∷ g) s = grind (arith, stops_ending g)
 
   stops_comment : (more : ℕ) (a : List ℕ) → stops false collection after_blank (spaces more (35 ∷ a)) ≡ true
   unfolding is_blank is_break is_nul
