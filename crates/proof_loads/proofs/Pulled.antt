@@ -1,10 +1,9 @@
 -- Runs of `load` with `multi` over answers, whatever they are; and the calls of a parser from its start on: what it answered, and what it has given.
 use Rattle.proof_loads.proofs.Common.{[], Answer, ap, append-nil, append_assoc, arith, before_stream, between, Bool, Ending, ErrorReport, Ev, event, Explains, false, fault, faulted, given, GivesEvent, has_end, IfSome, inl, inr, inside, is_stream_end, IsAtStart, KeepsSettings, length, length-append, List, load_from, Loaded, no_call, no_document, None, one_call, Option, Parsed, Position, PullsAll, push, read_so, refl, Some, Standing, subst, sym, true, unfinished, well, ◌++◌, ◌||◌, ◌∙◌, ◌∷◌, ◌≡◌, ◌⊎◌}
 use Rattle.yaml_parser.specs.Pulls.{IsSound}
-
-pub or_right : (b : Bool) {c : Bool} → c ≡ true → b || c ≡ true
-or_right true h = refl
-or_right false h = h
+use Rattle.std.proofs.lemmas.Bool.{or_right}
+use Rattle.std.proofs.Math.Bool.{or_assoc}
+use Rattle.proof_lexers.proofs.Bridges.{or_false}
 
 -- The call has come to its end.
 abbrev pub IsOver : {F : Type 0} → Ending F → Type 0
@@ -51,12 +50,12 @@ fault_is_reached F inside ((e, q) ∷ es) f rest p h n = fault_is_reached F insi
 -- A call that has ended well took the stream's end.
 pub end_is_reached : (F : Type 0) (s : Standing) (es : List (Ev × Position)) → (load_from s true (given F es)).ending ≡ well → has_end es ≡ true
 end_is_reached F s [] h = cc
-end_is_reached F before_stream (e ∷ es) h = or_right (is_stream_end e.0) (end_is_reached F between es h)
+end_is_reached F before_stream (e ∷ es) h = or_right (is_stream_end e.0) _ (end_is_reached F between es h)
 end_is_reached F between ((Ev.stream_end, p) ∷ es) h = refl
 end_is_reached F between ((Ev.document_start, p) ∷ es) h = end_is_reached F inside es h
 end_is_reached F between ((e, p) ∷ es) h = cc
 end_is_reached F inside ((Ev.document_end, p) ∷ es) h = end_is_reached F between es h
-end_is_reached F inside ((e, p) ∷ es) h = or_right (is_stream_end e) (end_is_reached F inside es h)
+end_is_reached F inside ((e, p) ∷ es) h = or_right (is_stream_end e) _ (end_is_reached F inside es h)
 
 -- ---- against a whole stream
 
@@ -101,15 +100,7 @@ read_given es ended ahead h = refl
 
 pub has_end_append : (es fs : List (Ev × Position)) → has_end (es ++ fs) ≡ has_end es || has_end fs
 has_end_append [] fs = refl
-has_end_append (e ∷ es) fs = by (is_stream_end e.0) (has_end_append es fs)
-  where
-    by : (b : Bool) → has_end (es ++ fs) ≡ has_end es || has_end fs → b || has_end (es ++ fs) ≡ (b || has_end es) || has_end fs
-    by true h = refl
-    by false h = h
-
-or_false : (b : Bool) → b || false ≡ b
-or_false true = refl
-or_false false = refl
+has_end_append (e ∷ es) fs = ap (λ b. is_stream_end e.0 || b) (has_end_append es fs) ∙ sym (or_assoc (is_stream_end e.0) (has_end es) (has_end fs))
 
 -- The events that were given are all that was answered, but for the stream's end again after that end.
 pub record Noted (answers : List (Answer ErrorReport)) (p : Parsed) : Type 0 where

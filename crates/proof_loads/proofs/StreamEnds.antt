@@ -4,7 +4,7 @@ use Rattle.proof_loads.proofs.Common.{[], ap, append-nil, append_assoc, arith, B
 use Rattle.defs_event.specs.Kinds.{is_stream_end}
 use Rattle.defs_event.specs.Table.{Part, Row, takes, leaves, row_of, Work, reading, saying, before, Derives, says, by_taking, by_leaving, say, show, empty}
 use Rattle.defs_event.specs.Grammar.{Held, Goal, stream, documents, directives, explicit_document, document_end, cases, grammar}
-use Rattle.proof_loads.proofs.Pulled.{or_right}
+use Rattle.std.proofs.lemmas.Bool.{or_right}
 use Rattle.model_scanner.proofs.Ends.{end_is_last}
 
 -- ---- by the table
@@ -32,7 +32,7 @@ kept h t [] w k = k
 kept h t (say e ∷ ps) w k = kept h t ps w k
 kept h t (show ∷ ps) w k = kept h t ps w k
 kept h t (empty ∷ ps) w k = kept h t ps w k
-kept h t (p ∷ ps) w k = or_right _ (kept h t ps w k)
+kept h t (p ∷ ps) w k = or_right _ _ (kept h t ps w k)
 
 -- whether it is the token, or one is to be read after its row
 abbrev after_row : Held → Tok → Works → Option (Row Goal Raw) → Bool
@@ -45,7 +45,7 @@ row_lasts g h t w e = grind arith
 
 row_keeps : (h : Held) (t : Tok) (w : Works) (r : Option (Row Goal Raw)) → has_last w ≡ true → after_row h t w r ≡ true
 row_keeps h t w None k = refl
-row_keeps h t w (Some (takes ps)) k = or_right _ (kept h t ps w k)
+row_keeps h t w (Some (takes ps)) k = or_right _ _ (kept h t ps w k)
 row_keeps h t w (Some (leaves ps)) k = kept h t ps w k
 
 after : (g : Goal) (h : Held) (t : Tok) (w : Works) {r : Row Goal Raw} → row_of (cases g) t ≡ Some r → (is_last g || has_last w) ≡ true → after_row h t w (Some r) ≡ true
@@ -56,8 +56,7 @@ after g h t w {r} q k = subst (λ o. after_row h t w o ≡ true) q (by (is_last 
     by false e k = row_keeps h t w (row_of (cases g) t) k
 
 or_more : (b : Bool) {c d : Bool} → (b || c) ≡ true → (c ≡ true → d ≡ true) → (b || d) ≡ true
-or_more true h f = refl
-or_more false h f = f h
+or_more b h f = grind arith
 
 -- the stream's end is among the tokens
 ends_at : (w : Works) (ts : List Tok) (es : List Raw) → Derives grammar w ts es → has_last w ≡ true → list_any is_stream_end ts ≡ true
