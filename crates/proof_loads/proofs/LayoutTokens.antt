@@ -1,4 +1,3 @@
 pub mod JsonRows
 pub mod Rows
-pub mod RowsRefused
 pub mod Texts

@@ -1,4 +1,3 @@
-mod AnchorRows
 pub mod Answers
 mod BlockLines
 mod Common

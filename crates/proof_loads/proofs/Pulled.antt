@@ -1,4 +1,4 @@
--- Runs of `load` with `multi` over answers, whatever they are; and the calls of a parser from its start on: what it answered, and what it has given.
+-- Runs of `load` with `multi` over answers, whatever they are. The calls of a parser from its start on: what it answered and has given.
 use Rattle.proof_loads.proofs.Common.{[], Answer, ap, append-nil, append_assoc, arith, before_stream, between, Bool, Ending, ErrorReport, Ev, event, Explains, false, fault, faulted, given, GivesEvent, has_end, IfSome, inl, inr, inside, is_stream_end, IsAtStart, KeepsSettings, length, length-append, List, load_from, Loaded, no_call, no_document, None, one_call, Option, Parsed, Position, PullsAll, push, read_so, refl, Some, Standing, subst, sym, true, unfinished, well, ◌++◌, ◌||◌, ◌∙◌, ◌∷◌, ◌≡◌, ◌⊎◌}
 use Rattle.yaml_parser.specs.Pulls.{IsSound}
 use Rattle.std.proofs.lemmas.Bool.{or_right}
@@ -134,8 +134,8 @@ note q p answers e pl n gives = by q.ended refl
           none = λ no. refl;
         }
 
--- What is known after the answers: no fault came, and if any event did, all that were read are given; or a fault is kept, which has its reason,
--- and the events given are all that came before the first fault.
+-- What is known after the answers: no fault came, and if any event did, all that were read are given; or a fault is kept, which has its
+-- reason, and the events given are all that came before the first fault.
 pub data Answered (answers : List (Answer ErrorReport)) (p : Parsed) : Type 0 where
   events : Noted answers p → p.fault ≡ None → (answers ≡ []) ⊎ ((p.ahead ≡ None) × IsSound p) → Answered answers p
   faults : (f first : ErrorReport) (rest : List (Answer ErrorReport)) → answers ≡ given ErrorReport p.given ++ fault first ∷ rest → p.fault ≡ Some f → p.ahead ≡ None → Explains f p → Answered answers p

@@ -54,7 +54,7 @@ starts false t o = t ∷ o
 abbrev pub MayBegin : (is_open : Bool) → ℕ → List ℕ → Type 0
 MayBegin is_open c bs = is_open ≡ false → least_column bs true ≤ c
 
--- where a rest stands at the column, from any collections that end there, these tokens are read, and first the collection's start if it isn't open
+-- where a rest stands at the column, from any collections that end there, these tokens are read, after the start of one that isn't open
 abbrev pub Comes : (c : ℕ) → (blocks rest : List ℕ) → (collection : Tok) → List Tok → Type 0
 Comes c bs rest collection tokens =
     (is_open : Bool) (extra : List ℕ) (p : Position) (awaits : Bool) (before : Previous) (l : Line) (text : List ℕ) → AreAbove c extra → MayBegin is_open c bs → Here c text rest p before l

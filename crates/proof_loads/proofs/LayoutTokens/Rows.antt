@@ -1,19 +1,22 @@
--- Texts laid out in lines and their tokens: what the theorem says of one with each form, and what the model computes for small ones.
+-- Texts laid out in lines and their tokens: what the theorem says of each form, of anchors, an alias and a folded block; and a refused text.
 use Rattle.std.specs.Fmt.{digits}
-use Rattle.proof_loads.proofs.TokensCommon.{[], arith, below, blank, codes, comment_line, compact, empty_hash, empty_line, entry, explicit, field, full, HasToks, implicit, Inline, is_decimal, is_line_character, is_literal_character, is_literal_text, is_quoted, is_unfit_for_plain, last_document, last_entry, last_field, List, literal, no_comment, plain, pos, quoted, Root, Scalar, scalar, Style, Tok, Tree, true, typing, Value, written_character, ℕ, ◌∷◌}
-use Rattle.defs_layout.specs.Layout.{empty_array, array, hash}
+use Rattle.proof_loads.proofs.TokensCommon.{[], anchored, ap, arith, At, below, beside, blank, Block, codes, comment_line, compact, empty_hash, empty_line, entry, Err, explicit, false, field, folded, full, HasToks, implicit, Inline, is_blank, is_content_line, is_decimal, is_empty_line, is_line_character, is_literal_character, is_literal_text, is_quoted, is_unfit_for_plain, last_document, last_entry, last_field, List, literal, no_comment, pairs_of, plain, pos, quoted, refl, Root, row_of, scalar, Scalar, scan, scan_on_literals, single_quoted, Style, sym, Tok, Tree, tree_eq, true, true≢false, typing, Value, written_character, ℕ, ◌∙◌, ◌∷◌, ◌≡◌, ◌≢◌}
+use Rattle.defs_layout.specs.Layout.{empty_array, array, hash, alias}
 use Rattle.proof_loads.proofs.LayoutTokens.Texts.{layouts_have_their_tokens}
-use Rattle.proof_loads.proofs.AnchorRows.{differ}
+use Rattle.yaml_tokens.specs.declared.problem.Problem.TheVariants as problem
 
 abbrev word : List ℕ → Scalar
 word w = plain (Tree.string w)
 
 -- a value after one space
-abbrev beside : Inline → Value
-beside i = Value.beside 0 i no_comment
+abbrev after_space : Inline → Value
+after_space i = Value.beside 0 i no_comment
 
 abbrev text_tok : List ℕ → Tok
 text_tok w = Tok.scalar Style.plain w
+
+differ : (a b : Tree) → tree_eq a a ≡ true → tree_eq a b ≡ false → a ≢ b
+differ a b same other e = true≢false (sym same ∙ ap (tree_eq a) e ∙ other)
 
 -- arrays and hashes at many columns, an array as key, empty lines and comment lines between entries, a literal block with an empty line
 each_form : HasToks (codes "---\n# top\n\n   ? - 1\n     - []\n# mid\n   :       - x\n           - |\n                 p\n\n                 q\n   k:\n# c\n     \"z\": {}\n")
@@ -29,12 +32,41 @@ each_form = layouts_have_their_tokens
       documents = last_document (record {
         gap = comment_line (codes " top") ∷ empty_line ∷ [];
         root = Root.block 3 (hash (field
-            (explicit (compact 0 (array (entry (beside (scalar (plain (Tree.integer (pos 1))))) [] (last_entry (beside empty_array)))))
+            (explicit (compact 0 (array (entry (after_space (scalar (plain (Tree.integer (pos 1))))) [] (last_entry (after_space empty_array)))))
             (comment_line (codes " mid") ∷ [])
-            (compact 6 (array (entry (beside (scalar (word (codes "x")))) []
+            (compact 6 (array (entry (after_space (scalar (word (codes "x")))) []
             (last_entry (literal 0 17 (codes "p\n\nq\n") (full (codes "p") ∷ blank 0 ∷ full (codes "q") ∷ [])))))))
             []
-            (last_field (implicit (word (codes "k")) (below no_comment (comment_line (codes " c") ∷ []) 5 (hash (last_field (implicit (quoted (codes "z")) (beside empty_hash)))))))));
+            (last_field (implicit (word (codes "k")) (below no_comment (comment_line (codes " c") ∷ []) 5 (hash (last_field (implicit (quoted (codes "z")) (after_space empty_hash)))))))));
       }) (empty_line ∷ []);
     })
     (search (arith, differ))
+
+-- an anchor before a block, a scalar and a literal block; a folded block and an empty line after it
+each_anchor : HasToks (codes "---\na: &x\n  k: &y 'it''s'\nb: *x\nc: >-\n  p\n  q\n\n  r\n\nd: &z |\n  s\n  t\n")
+    (Tok.stream_start ∷ Tok.document_start ∷ Tok.block_mapping_start
+    ∷ Tok.key ∷ text_tok (codes "a") ∷ Tok.value ∷ Tok.anchor (codes "x")
+    ∷ Tok.block_mapping_start ∷ Tok.key ∷ text_tok (codes "k") ∷ Tok.value ∷ Tok.anchor (codes "y") ∷ Tok.scalar Style.single_quoted (codes "it's") ∷ Tok.block_end
+    ∷ Tok.key ∷ text_tok (codes "b") ∷ Tok.value ∷ Tok.alias (codes "x")
+    ∷ Tok.key ∷ text_tok (codes "c") ∷ Tok.value ∷ Tok.scalar Style.folded (codes "p q\nr")
+    ∷ Tok.key ∷ text_tok (codes "d") ∷ Tok.value ∷ Tok.anchor (codes "z") ∷ Tok.scalar Style.literal (codes "s\nt\n")
+    ∷ Tok.block_end ∷ Tok.stream_end ∷ [])
+unfolding is_quoted is_unfit_for_plain typing is_decimal is_line_character is_literal_text is_literal_character row_of is_empty_line is_content_line is_blank
+each_anchor = layouts_have_their_tokens
+    (record {
+      is_marked = true;
+      documents = last_document (record {
+        gap = [];
+        root = Root.block 0 (Block.hash
+            (field (implicit (word (codes "a")) (anchored 0 (codes "x") (below no_comment [] 2 (Block.hash (last_field (implicit (word (codes "k")) (anchored 0 (codes "y") (beside 0 (scalar (single_quoted (codes "it's"))) no_comment)))))))) []
+            (field (implicit (word (codes "b")) (alias 0 (codes "x") (Tree.hash (pairs_of ((Tree.string (codes "k"), Tree.string (codes "it's")) ∷ []))))) []
+            (field (implicit (word (codes "c")) (folded 0 2 true (codes "p q\nr") (full (codes "p") ∷ full (codes "q") ∷ blank 0 ∷ full (codes "r") ∷ []))) (empty_line ∷ [])
+            (last_field (implicit (word (codes "d")) (anchored 0 (codes "z") (literal 0 2 (codes "s\nt\n") (full (codes "s") ∷ full (codes "t") ∷ [])))))))));
+      }) (empty_line ∷ []);
+    })
+    (search (arith, differ, true≢false))
+
+-- a block after the `:` of a key, on its line
+compact_value : scan 9 (codes "---\na: - 1") ≡ Err (At problem.BlockEntryNotAllowed (record { index = 7; line = 2; col = 3 }))
+unfolding scan_on_literals
+compact_value = refl
