@@ -1,5 +1,5 @@
 -- The words and lemmas that the answers of functions use, passed on from one place. Declares nothing.
-pub use Rattle.yaml_parser.proofs.Arms.{error_is, comma_skipped, still_after, gives_at, answers_written, as_kind, faulted_as, is_error, passes, fails, gives, gives_past, goes, goes_by, leaves, leaves_at, names_nothing, no_key, not_as, on_err, one_of, push_after, stay, stay_push, stays, under_no_colon, went, wrote, wrote_event}
+pub use Rattle.yaml_parser.proofs.Arms.{reads, error_is, comma_skipped, still_after, gives_at, answers_written, as_kind, faulted_as, is_error, passes, fails, gives, gives_past, goes, goes_by, leaves, leaves_at, names_nothing, no_key, not_as, on_err, one_of, push_after, stay, stay_push, stays, under_no_colon, went, wrote, wrote_event}
 pub use Rattle.yaml_parser.proofs.DocumentArms.{bare_begins, marked_begins, directing_on, directives_begin, not_directive, stream_ends, tag_directive_taken, version_refused, version_taken}
 pub use Rattle.yaml_parser.proofs.Ends.{refuses, refuses_for}
 pub use Rattle.yaml_parser.proofs.Holding.{begun, failed, failed_as, keeps, kept_again, pulled}
