@@ -4,7 +4,7 @@ use Rattle.defs_event.specs.Properties.{perhaps_tag_of}
 use Rattle.defs_event.specs.Names.{prefix_of}
 use Rattle.defs_event.specs.Table.{leaves}
 use Rattle.model_parser.specs.Stands.{IsNext as Starts}
-use Rattle.model_parser.proofs.Carry.{next_more}
+use Rattle.model_parser.proofs.Standing.{next_more}
 use Rattle.yaml_parser.specs.declared.node.Properties.{Properties}
 use Rattle.model_parser.proofs.OnePlacing.{some_is}
 use Rattle.yaml_parser.proofs.Steps.{looked, took, left, Named, breaks, map_snoc, if_some_at}
