@@ -1,14 +1,12 @@
 -- The turns in block collections.
 use Rattle.model_parser.proofs.Common.{arith, alike, both_ways, ends_entry, ends_indentless_entry, ends_part, false, Goal, inl, is_past_directives, kind_of, Leaves, List, None, nothing_written, Raw, refl, Refuses, Some, State, Takes, Tok, true, ◌∷◌, ◌≡◌, ◌≢◌}
-use Rattle.model_parser.proofs.StepRows.{by_row, reads_so, takes_so, leaves_so, refuses_so}
+use Rattle.model_parser.proofs.StepRows.{reads_so, takes_so, leaves_so, refuses_so}
 use Rattle.model_parser.proofs.Settling.{under_goes, under_other, under_past, under_any, mapping_under, under_reads, empties, reads_node, closes_so}
 use Rattle.model_parser.specs.declared.kind.Kind.TheVariants as kind
 use Rattle.model_parser.specs.declared.context.NodeContext.TheVariants as context
 use Rattle.model_parser.specs.declared.state.State.TheVariants as state
 
--- ---- a block sequence
-
--- Turns that a search finds in the table.
+-- The turns that a search finds in the table.
 pub record BlockTurns (ss : List State) : Type 0 where
   pub entries_end : Takes Goal.entries ss Tok.block_end (Some Raw.sequence_end) Goal.done ss
   pub entries_dash : Takes Goal.entries ss Tok.block_entry None Goal.entry ss
@@ -24,6 +22,8 @@ pub record BlockTurns (ss : List State) : Type 0 where
 
 pub block_turns : (ss : List State) → BlockTurns ss
 block_turns ss = search (takes_so, reads_so, under_goes, under_any, under_other, under_past, empties, reads_node, alike, inl)
+
+-- ---- a block sequence
 
 pub entries_refuses : (ss : List State) (t : Tok) → kind_of t ≢ kind.BlockEnd → kind_of t ≢ kind.BlockEntry → Refuses Goal.entries ss t
 entries_refuses ss t a b = refuses_so Goal.entries ss t 9 (λ f. grind arith)

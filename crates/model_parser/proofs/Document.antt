@@ -9,7 +9,7 @@ use Rattle.model_parser.specs.declared.kind.Kind.TheVariants as kind
 use Rattle.model_parser.specs.declared.context.NodeContext.TheVariants as context
 use Rattle.model_parser.specs.declared.state.State.TheVariants as state
 
--- Turns that a search finds in the table.
+-- The turns that a search finds in the table.
 pub record DocumentTurns (ss : List State) : Type 0 where
   pub start_takes : Takes Goal.start ss Tok.stream_start (Some Raw.stream_start) Goal.done (state.ImplicitDocumentStart ∷ ss)
   pub documents_marker : Takes Goal.documents ss Tok.document_end None Goal.documents ss

@@ -1,6 +1,6 @@
 -- The turns in flow collections.
 use Rattle.model_parser.proofs.Common.{says, toks, alike, arith, ends_flow_key, ends_flow_pair, ends_item, ends_item_key, false, Goal, inl, kind_of, Leaves, List, None, nothing_written, Option, Raw, refl, Refuses, Some, State, Takes, Tok, true, without_node, ◌∷◌, ◌≡◌, ◌≢◌}
-use Rattle.model_parser.proofs.StepRows.{by_row, reads_so, takes_so, leaves_so, first_any, refuses_so}
+use Rattle.model_parser.proofs.StepRows.{reads_so, takes_so, leaves_so, first_any, refuses_so}
 use Rattle.model_parser.proofs.Settling.{under_goes, under_other, under_past, under_any, comes_so, empties, reads_node}
 use Rattle.defs_text.specs.Position as chars
 use Rattle.model_parser.specs.declared.kind.Kind.TheVariants as kind
@@ -10,9 +10,7 @@ use Rattle.defs_event.specs.Grammar as table
 use Rattle.defs_event.specs.Stream as places
 use Rattle.model_parser.proofs.Completions.{said_by}
 
--- ---- a flow sequence
-
--- Turns that a search finds in the table.
+-- The turns that a search finds in the table.
 pub record FlowTurns (ss : List State) : Type 0 where
   pub items_end : Takes Goal.items ss Tok.flow_sequence_end (Some Raw.flow_sequence_end) Goal.done ss
   pub more_items_end : Takes Goal.more_items ss Tok.flow_sequence_end (Some Raw.flow_sequence_end) Goal.done ss
@@ -35,6 +33,8 @@ pub record FlowTurns (ss : List State) : Type 0 where
 
 pub flow_turns : (ss : List State) → FlowTurns ss
 flow_turns ss = search (takes_so, reads_so, under_goes, under_any, under_other, under_past, empties, reads_node, alike, inl)
+
+-- ---- a flow sequence
 
 pub items_item : (ss : List State) (t : Tok) → kind_of t ≢ kind.FlowSequenceEnd → Leaves Goal.items ss (Some t) None Goal.item ss
 items_item ss t a = leaves_so 0 (λ n f. (n, f)) (λ f. refl) (λ f u r m. cc m) (λ f r m. grind arith) refl (λ f. alike refl refl) (λ f h. inl h)

@@ -3,7 +3,6 @@ mod PositionRows
 mod RefusedRows
 mod TrackRows
 pub mod Block
-pub mod Carry
 pub mod Completions
 pub mod Document
 pub mod Endings

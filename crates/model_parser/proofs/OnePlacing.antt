@@ -35,9 +35,6 @@ none_is_last b [] es d = elim d [ ]
 none_is_last b (reading g h ∷ w) es d = elim d [ ]
 none_is_last b (saying x ∷ w) _ (placed.says {es = es} o d) = none_is_last b w es d
 
-at_one : (e : Raw) (o : Option Position) (m n : Position) → is_due (e, o) ≡ true → IfSome o (λ p. m ≡ p) → IfSome o (λ p. n ≡ p) → e ≢ Raw.pair_end → m ≡ n
-at_one e o m n d x y other = grind arith
-
 pub one_placing : {x : Extent} {p : Position} {w : PlacedWork} {ts : List Token} {es fs : List (Raw × Position)} → are_due w ≡ true → Places x (Some p) w ts es → Places x (Some p) w ts fs → AreSame es fs
 one_placing due placed.nothing_left placed.nothing_left = tt
 one_placing due placed.wants_token placed.wants_token = tt
@@ -50,7 +47,7 @@ one_placing due (placed.by_taking ps q d) (placed.by_leaving qs r c) = cc
 one_placing due (placed.by_leaving ps q d) (placed.by_taking qs r c) = cc
 one_placing due (placed.says {e = e} {o = o} {m = m} {w = w} a d) (placed.says {m = n} b c) =
     let both = and_parts (is_due (e, o)) (are_due w) due in
-    (refl, λ other. at_one e o m n both.0 a b other, one_placing both.1 d c)
+    (refl, λ other. (grind arith), one_placing both.1 d c)
 one_placing {x} {p} due (placed.by_taking {h = h} {w = w} {t = t} {ts = ts} {es = es} ps q d) (placed.by_taking {es = fs} qs r c) =
     let same : qs ≡ ps = cc (q, r) in
     one_placing (due_before t p (before grammar h t.tok ps []) w due) d (subst (λ l. Places x (Some t.position) (placed_before t (Some p) h l w) ts fs) same c)
@@ -59,9 +56,6 @@ one_placing {x} {p} due (placed.by_leaving {h = h} {w = w} {t = t} {ts = ts} {es
     one_placing (due_before t p (before grammar h t.tok ps []) w due) d (subst (λ l. Places x (Some p) (placed_before t (Some p) h l w) (t ∷ ts) fs) same c)
 
 -- ---- of a stream
-
-start_due : (t : Token) (u : Tok) (h : Held) (ps : List (Part Goal Raw)) → row_of (cases stream) u ≡ Some (takes ps) → are_due (placed_by (position_at t None) (before grammar h u ps []) ++ []) ≡ true
-start_due t u h ps q = grind arith
 
 pub one_stream : {x : Extent} {ts : List Token} {es fs : List (Raw × Position)} → StreamPlacesTo x ts es → StreamPlacesTo x ts fs → AreSame es fs
 one_stream placed.wants_token placed.wants_token = tt
@@ -72,7 +66,7 @@ one_stream (placed.by_taking ps q d) (placed.takes_last qs r) = absurd (none_is_
 one_stream (placed.by_taking ps q d) (placed.by_leaving qs r c) = cc
 one_stream {x} (placed.by_taking {h = h} {t = t} {ts = ts} {es = es} ps q d) (placed.by_taking {es = fs} qs r c) =
     let same : qs ≡ ps = cc (q, r) in
-    one_placing (start_due t t.tok h ps q) d (subst (λ l. Places x (Some t.position) (placed_before t None h l []) ts fs) same c)
+    one_placing (grind arith) d (subst (λ l. Places x (Some t.position) (placed_before t None h l []) ts fs) same c)
 one_stream (placed.by_leaving {t = t} ps q d) c = absurd (grind arith)
 
 pub some_is : {A : Type 0} {x y : A} → Some x ≡ Some y → x ≡ y

@@ -1,5 +1,5 @@
 -- The arms of the productions.
-use Rattle.yaml_parser.proofs.Common.{all_shown, behind, IsRightAfter, Tokens, arith, [], BlockMappingKey, fits, answered, Answers, ap, At, BeginAt, Bool, Err, Ev, Event, EventSlot, false, Faulted, Goal, goal_after_event, HasNoText, IfSome, inl, inr, is_end, is_over, is_under, IsAt, IsErrAnd, IsErr, is_err, Carries, Passes, IsNamed, IsOfKind, IsPastColon, IsPending, Kind, kind_of, last_position, Leaves, List, Names, names_after, names_at, None, Ok, OnErr, Option, option_map, peeked_tok, placed, Position, position_at, Raw, Reader, refl, resolved_event, Result, shown, Skips, Some, State, Stayed, Fault, subst, sym, Takes, Tok, tok_is, tok_of, tok_of_kind, Token, Took, top, true, ◌++◌, ◌∙◌, ◌∷◌, ◌≡◌, ◌≢◌, ◌⊎◌}
+use Rattle.yaml_parser.proofs.Common.{all_shown, behind, IsRightAfter, Tokens, arith, [], BlockMappingKey, fits, answered, Answers, ap, At, BeginAt, Bool, Err, Ev, Event, EventSlot, false, Faulted, Goal, goal_after_event, HasNoText, IfSome, inl, inr, is_end, is_over, is_under, IsAt, IsErrAnd, IsErr, is_err, Carries, Passes, Reads, IsNamed, IsOfKind, IsPastColon, IsPending, Kind, kind_of, last_position, Leaves, List, Names, names_after, names_at, None, Ok, OnErr, Option, option_map, peeked_tok, placed, Position, position_at, Raw, Reader, refl, resolved_event, Result, shown, Skips, Some, State, Stayed, Fault, subst, sym, Takes, Tok, tok_is, tok_of, tok_of_kind, Token, Took, top, true, ◌++◌, ◌∙◌, ◌∷◌, ◌≡◌, ◌≢◌, ◌⊎◌}
 use Rattle.yaml_parser.proofs.Positions.{behind_more}
 use Rattle.yaml_parser.proofs.Steps.{looked, took, took_on, left, left_on, Named, breaks, if_some_at}
 use Rattle.defs_token.specs.Token as defs
@@ -145,9 +145,12 @@ error_is (Err e) x h = ap Err h
 pub is_error : {A E : Type 0} (r : Result A E) (x : E) → IsErrAnd r (λ e. e ≡ x) → IsErr r
 is_error r x h = ap is_err (error_is r x h)
 
+pub reads : {T E : Type 0} {g : Goal} {old new : Reader T} {result : Result (Unit {0}) E} {slot : EventSlot} → ((names : Names) (given : List (Ev × Position)) → At g old names given → Answers new given (answered result slot)) → Reads g old new result slot
+reads f = record { so = f }
+
 -- What is awaited is carried on.
 pub passes : {T : Type 0} {g : Goal} {old new : Reader T} → Carries g old new → Passes g old new
-passes carries = λ final result slot f. record { so = λ names given a. f.so names given (carries names given a) }
+passes carries = λ final result slot f. reads (λ names given a. f.so names given (carries names given a))
 
 pub answers_written : {T : Type 0} (p : Reader T) (given : List (Ev × Position)) (r : Event × Position) {x : Ev × Position} → placed r ≡ x
     → ((names : Names) × At (goal_after_event x.0) p names (given ++ x ∷ [])) → Answers p given (Ok r)

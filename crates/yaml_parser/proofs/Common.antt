@@ -27,7 +27,7 @@ pub use Rattle.model_parser.proofs.Quiet.{plain_placed}
 pub use Rattle.model_parser.proofs.Settling.{mapping_under}
 pub use Rattle.model_parser.proofs.Standing.{first_of, looks, pops, top_of}
 pub use Rattle.model_parser.proofs.Completions.{left_by, none_by, said_by, taken_by}
-pub use Rattle.model_parser.proofs.StepRows.{by_steps, first_any, has_goal, needs_tokens, not_refused, steps}
+pub use Rattle.model_parser.proofs.StepRows.{by_steps, first_any, needs_tokens, not_refused, steps}
 pub use Rattle.model_parser.specs.Goal.{Goal}
 pub use Rattle.model_parser.specs.Kinds.{begins_content, begins_node, ends_content, ends_document, ends_entry, ends_flow_key, ends_flow_pair, ends_indentless_entry, ends_item, ends_item_key, ends_part, HasNoText, is_directive, kind_of, tok_of_kind}
 pub use Rattle.model_parser.specs.Place.{is_after, is_over_document, IsNoDirective, next_at, open_at, open_under, top}
@@ -59,7 +59,7 @@ pub use Rattle.yaml_parser.specs.Halts.{IsHalted, may_wait, perhaps}
 pub use Rattle.yaml_parser.specs.Handed.{BeginAt, behind, IsAwake, IsHanded, IsRightAfter, IsStopped, last_position, peeked_tok, shown_list, taken_toks}
 pub use Rattle.yaml_parser.specs.Held.{Advances, Continues, goal_after, Holds, IsHeld, IsMet, Notes, Stands}
 pub use Rattle.yaml_parser.specs.Kinds.{IsOfKind}
-pub use Rattle.yaml_parser.specs.Loads.{after_document, EndsSo, Going, Loads, no_call, no_event, one_call, one_event, PullsAll, PushesNext, pushing, Receives, RunsOn, StartsSo}
+pub use Rattle.yaml_parser.specs.Loads.{after_document, EndsSo, Going, Loads, no_call, no_event, one_call, one_event, PullsAll, PushesNext, pushing, Receives, RunsOn}
 pub use Rattle.yaml_parser.specs.Named.{is_own, IsNamed, IsOwn, prefix_of}
 pub use Rattle.yaml_parser.specs.Nests.{BeginsNested, is_open, IsInside, opened}
 pub use Rattle.yaml_parser.specs.Parsed.{has_end, is_document_end, is_document_start, is_fresh, is_stream_end, Parsed, parsed, read, read_so, stays_steady}

@@ -93,9 +93,6 @@ works_plain ss = works_quiet holds_none ss refl
 past_plain : (ss : List State) → is_plain (past ss (works ss)) ≡ true
 past_plain ss = past_quiet holds_none ss (works_plain ss)
 
-pub past_free : (ss : List State) → are_free (end_events (past ss (works ss))) ≡ true
-past_free ss = plain_free (past ss (works ss)) (past_plain ss)
-
 pub works_free : (ss : List State) → are_free (end_events (works ss)) ≡ true
 works_free ss = plain_free (works ss) (works_plain ss)
 
@@ -105,7 +102,7 @@ text_named : (ss : List State) (keep : Bool) (s : Names) (h : Held) → IsSome (
 text_named ss keep s h p =
     let u = is_some_value (perhaps_resolved s.handles h.tag) p in
     let rest = after_text_events (where_it_stands ss) ++ end_events (past ss (works ss)) in
-    name_one keep s (text_event h) rest (ap (option_map (λ y. Ev.scalar [] Style.plain (number s h.anchor) y)) u.1) (free_named keep rest (after_free (where_it_stands ss) (end_events (past ss (works ss))) (past_free ss)))
+    name_one keep s (text_event h) rest (ap (option_map (λ y. Ev.scalar [] Style.plain (number s h.anchor) y)) u.1) (free_named keep rest (after_free (where_it_stands ss) (end_events (past ss (works ss))) (plain_free (past ss (works ss)) (past_plain ss))))
 
 goal_named : (g : Goal) (ss : List State) (keep : Bool) (s : Names) → IsPending s g → Nameable keep s (end_events (work_of g ss))
 goal_named (Goal.directed ds) ss keep s p =

@@ -1,5 +1,5 @@
 -- The shortest way to the end from each position: so no fault is late.
-use Rattle.yaml_parser.proofs.Common.{[], all_shown, ap, append_assoc, as_tokens, At, at_directive, BeginAt, Bool, both_some, both_ways, Derives, Ev, events_of, false, Faulted, first_may, fits, Goal, goal_of, GoesOn, grammar, has_goal, IfSome, inl, is_after, is_of_names, is_over, IsCause, IsDerived, IsOfKind, IsPending, IsSettled, Kind, kind_of, last_position, List, map-append, named, Names, names_after, names_by, needs_tokens, next_after, next_at, no_names, None, nowhere, Option, option_map, other_next, peeked_tok, plain_placed, Position, Problem, problem_of, Raw, raws_of, Reader, refl, Refuses, resolved_event, scanned, shown, shown_list, Some, StandsApart, StandsBefore, State, stood, StreamPlaces, StreamSays, subst, sym, taken_toks, to_end, Tok, tok_of, Token, token_at, toks, top, true, with_positions, work_of, ◌++◌, ◌∙◌, ◌∷◌, ◌≡◌, arith}
+use Rattle.yaml_parser.proofs.Common.{[], all_shown, ap, append_assoc, as_tokens, At, at_directive, BeginAt, Bool, both_some, both_ways, Derives, Ev, events_of, false, Faulted, first_may, fits, Goal, goal_of, GoesOn, grammar, IfSome, inl, is_after, is_of_names, is_over, IsCause, IsDerived, IsOfKind, IsPending, IsSettled, Kind, kind_of, last_position, List, map-append, named, Names, names_after, names_by, needs_tokens, next_after, next_at, no_names, None, nowhere, Option, option_map, other_next, peeked_tok, plain_placed, Position, Problem, problem_of, Raw, raws_of, Reader, refl, Refuses, resolved_event, scanned, shown, shown_list, Some, StandsApart, StandsBefore, State, stood, StreamPlaces, StreamSays, subst, sym, taken_toks, to_end, Tok, tok_of, Token, token_at, toks, top, true, with_positions, work_of, ◌++◌, ◌∙◌, ◌∷◌, ◌≡◌, arith}
 use Rattle.model_parser.specs.Rest.{placed}
 use Rattle.yaml_parser.proofs.Completed.{completed}
 use Rattle.model_parser.specs.Stands.{IsNext as Begins1, goes_on}

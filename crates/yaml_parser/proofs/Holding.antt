@@ -1,5 +1,5 @@
 -- What holds between two calls, and what it says of the events.
-use Rattle.yaml_parser.proofs.Common.{[], Advances, all_shown, answered, Answers, ap, append-nil, append_assoc, AreAll, arith, At, BeginsPlaced, behind, Blames, Bool, both_ways, Err, ErrorReport, Ev, ev_of, Event, EventReader, events_of, EventSlot, Explains, Fails, false, fault_kept, fault_seen, Faulted, first_of, Follows, Goal, goal_after, goal_of, has_end, HasPlacedTo, IfSome, inl, inr, is_over, is_stream_end, IsBottom, IsComplete, IsDerived, IsErrAnd, IsGoing, IsHalted, IsHeld, IsMet, IsNamed, IsOnTrack, IsPastColon, IsSome, IsSound, IsWhole, Keeping, last_position, length, length-append, List, listed, map-append, Moves, named, named_append, named_by, named_since, Names, names_at, names_by, names_since, no_names, None, Notes, nothing_left, Ok, Option, option_map, or-false, or_assoc, OutOfMemory, Parsed, peeked_tok, placed, Places, pops, Position, Raw, read, Reader, Reads, refl, Refused, Result, scanned, shown, shown_list, Some, Stands, State, stood, Fault, StreamPlaces, StreamPlacesTo, StreamSays, subst, sym, taken_toks, to_end, to_next, Tok, tok_of, Token, toks, top, top_of, true, unwrap_or, weight, weights, work, work_of, ◌++◌, ◌+◌, ◌<◌, ◌||◌, ◌∙◌, ◌∷◌, ◌≡◌, ◌≤◌}
+use Rattle.yaml_parser.proofs.Common.{[], all_shown, Answers, ap, append-nil, append_assoc, AreAll, arith, At, BeginsPlaced, behind, Blames, Bool, both_ways, ErrorReport, Ev, ev_of, Event, EventReader, events_of, EventSlot, Explains, Fails, false, fault_kept, fault_seen, Faulted, first_of, Follows, Goal, goal_after, goal_of, has_end, HasPlacedTo, IfSome, inl, inr, is_over, is_stream_end, IsBottom, IsComplete, IsDerived, IsGoing, IsHalted, IsHeld, IsMet, IsNamed, IsOnTrack, IsPastColon, IsSome, IsSound, IsWhole, Keeping, last_position, length, length-append, List, listed, map-append, Moves, named, named_append, named_by, named_since, Names, names_at, names_by, names_since, no_names, None, Notes, nothing_left, Ok, Option, option_map, or-false, or_assoc, OutOfMemory, Parsed, peeked_tok, placed, Places, pops, Position, Raw, read, Reader, Reads, refl, Refused, scanned, shown, shown_list, Some, Stands, State, stood, Fault, StreamPlaces, StreamPlacesTo, StreamSays, subst, sym, taken_toks, to_end, to_next, Tok, tok_of, Token, toks, top, top_of, true, unwrap_or, weight, weights, work, work_of, ◌++◌, ◌+◌, ◌<◌, ◌||◌, ◌∙◌, ◌∷◌, ◌≡◌, ◌≤◌}
 use Rattle.model_parser.specs.Rest.{placed as placed_work}
 use Rattle.model_parser.proofs.Standing.{begins, ends as read_whole}
 use Rattle.yaml_parser.specs.Handed.{ends}

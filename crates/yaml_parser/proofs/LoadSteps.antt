@@ -1,5 +1,5 @@
 -- The steps of `load`.
-use Rattle.yaml_parser.proofs.Common.{[], after_document, ap, append-nil, append_assoc, arith, BeginsNested, Bool, ends, EndsSo, Err, ErrorReport, Ev, events_of, false, false_from_ne_true, GivesEvent, Going, if◌then◌else◌, inl, inr, is_document_end, is_document_start, is_open, is_stream_end, IsErrAnd, IsInside, length, length-append, List, load, load_from, Loaded, Loads, no_call, no_document, no_event, None, not, Ok, one_call, one_event, opened, or-true, or_from, Parsed, Position, Pulls, PullsAll, push, PushesNext, pushing, read, Receives, refl, Result, RunsOn, Some, StartsSo, subst, sym, true, ◌&&◌, ◌++◌, ◌+◌, ◌||◌, ◌∙◌, ◌∷◌, ◌≡◌, ◌≢◌}
+use Rattle.yaml_parser.proofs.Common.{[], after_document, ap, append-nil, append_assoc, arith, BeginsNested, Bool, ends, EndsSo, Err, ErrorReport, Ev, events_of, false, false_from_ne_true, GivesEvent, Going, if◌then◌else◌, inl, inr, is_document_end, is_document_start, is_open, is_stream_end, IsInside, length, length-append, List, load, load_from, Loaded, Loads, no_call, no_document, no_event, None, not, Ok, one_call, one_event, opened, or-true, or_from, Parsed, Position, Pulls, PullsAll, push, PushesNext, pushing, read, Receives, refl, Result, RunsOn, Some, subst, sym, true, ◌&&◌, ◌++◌, ◌+◌, ◌||◌, ◌∙◌, ◌∷◌, ◌≡◌, ◌≢◌}
 use Rattle.defs_event.specs.PulledList.{Answer, event, fault, given}
 use Rattle.yaml_parser.proofs.Nesting.{no_end_inside, open_more}
 use Rattle.defs_event.specs.Push as run

@@ -13,14 +13,10 @@ use Rattle.yaml_tokens.specs.declared.problem.Fault.TheVariants as fault
 nil_of : (xs : List ℕ) → is_empty xs ≡ true → xs ≡ []
 nil_of xs h = grind arith
 
-pub chars_then_bytes : (a b : String Global) → string_chars a ≡ string_chars b → string_bytes a ≡ string_bytes b
-unfolding string_chars
-chars_then_bytes a b h = sym (encodes-chars (string_bytes a) (IsUtf8-string_bytes a)) ∙ ap encodes h ∙ encodes-chars (string_bytes b) (IsUtf8-string_bytes b)
-
 pub same_text : (a b : String Global) → bytes_eq (string_bytes a) (string_bytes b) ≡ bytes_eq (string_chars b) (string_chars a)
 unfolding string_chars
 same_text a b = same_from_decides _ _ (bytes_eq-Decides (string_bytes a) (string_bytes b))
-    (Decides-like _ (λ h. chars_then_bytes a b (sym h)) (λ h. (ap chars (sym h))) (bytes_eq-Decides (string_chars b) (string_chars a)))
+    (Decides-like _ (λ h. (sym (encodes-chars (string_bytes a) (IsUtf8-string_bytes a)) ∙ ap encodes (sym h) ∙ encodes-chars (string_bytes b) (IsUtf8-string_bytes b))) (λ h. (ap chars (sym h))) (bytes_eq-Decides (string_chars b) (string_chars a)))
 
 pub put_text : {V : Type 0} (m n : BTreeMap (String Global) V) (key : String Global) (v : V) → tree.Updates string_cmp m n key (Some v) → (x : String Global)
     → get_by_text n (string_bytes x) ≡ (if bytes_eq (string_chars x) (string_chars key) then Some v else get_by_text m (string_bytes x))

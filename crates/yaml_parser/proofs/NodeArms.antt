@@ -1,10 +1,10 @@
 -- The arms of the productions of nodes.
-use Rattle.yaml_parser.proofs.Common.{arith, [], all_shown, answered, Answers, ap, append_assoc, At, Awaits, BeginAt, Bool, both, both_ways, cases, Derives, empty, empty_event, EndsInAnchor, Err, Ev, event_of, event_then, events_of, EventSlot, false, Faulted, fits, Goal, goal_after_event, grammar, Has, HasNoText, HasUndeclaredHandle, HasUnknownAnchor, Held, IfSome, inl, inr, is_end, is_of_names, is_some, IsCause, IsDerived, IsNamed, IsOfKind, IsPending, IsSome, kept_tag, Kind, kind_of, last_position, Leaves, List, name_of, named, named_by, Names, names_after, names_by, needs_tokens, no_names, None, number, Ok, OnErr, OnOk, Option, option_map, OutOfMemory, peeked_tok, perhaps_anchor_of, perhaps_resolved, Place, placed, Position, Problem, Raw, Reader, reading, refl, Registers, resolved, resolved_event, Resolves, Result, Row, left_by, row_of, taken_by, said_by, scanned, show, shown, shown_list, Skips, SkipsOne, Some, StandsAt, State, Fault, StreamSays, Style, subst, sym, taken_toks, Takes, takes, Tok, tok_is, tok_of, tok_of_kind, Token, Tokens, toks, true, UndeclaredHandle, under_name, UnknownAnchor, with_anchor, Works, ℕ, ◌++◌, ◌∙◌, ◌∷◌, ◌≡◌, ◌≢◌, ◌⊎◌, next_after, node_next, other_next}
+use Rattle.yaml_parser.proofs.Common.{arith, [], all_shown, answered, Answers, ap, append_assoc, At, Awaits, BeginAt, Bool, both, both_ways, cases, Derives, empty, empty_event, EndsInAnchor, Err, Ev, event_of, event_then, events_of, EventSlot, false, Faulted, fits, Goal, goal_after_event, grammar, Has, HasNoText, HasUndeclaredHandle, HasUnknownAnchor, Held, IfSome, inl, inr, is_end, is_of_names, IsCause, IsDerived, IsNamed, IsOfKind, IsPending, kept_tag, Kind, kind_of, last_position, Leaves, List, name_of, named, named_by, Names, names_after, names_by, needs_tokens, no_names, None, number, Ok, OnErr, OnOk, Option, option_map, OutOfMemory, peeked_tok, perhaps_anchor_of, perhaps_resolved, Place, placed, Position, Problem, Raw, Reader, reading, refl, Registers, resolved, resolved_event, Resolves, Result, Row, left_by, row_of, taken_by, said_by, scanned, show, shown, shown_list, Skips, SkipsOne, Some, StandsAt, State, Fault, StreamSays, Style, subst, sym, taken_toks, Takes, takes, Tok, tok_is, tok_of, tok_of_kind, Token, Tokens, toks, true, UndeclaredHandle, under_name, UnknownAnchor, with_anchor, Works, ℕ, ◌++◌, ◌∙◌, ◌∷◌, ◌≡◌, ◌≢◌, ◌⊎◌, next_after, node_next, other_next}
 use Rattle.defs_event.specs.Properties.{perhaps_tag_of}
 use Rattle.defs_event.specs.Names.{prefix_of}
 use Rattle.defs_event.specs.Table.{leaves}
 use Rattle.model_parser.specs.Stands.{IsNext as Starts}
-use Rattle.model_parser.proofs.Carry.{next_more}
+use Rattle.model_parser.proofs.Standing.{next_more}
 use Rattle.yaml_parser.specs.declared.node.Properties.{Properties}
 use Rattle.model_parser.proofs.OnePlacing.{some_is}
 use Rattle.yaml_parser.proofs.Steps.{looked, took, left, Named, breaks, map_snoc, if_some_at}

@@ -1,6 +1,6 @@
 -- What is known of a parser, from call to call.
 use Rattle.std.specs.Bool.{beq}
-use Rattle.yaml_parser.proofs.Common.{IsSome, ◌≤◌, ◌+◌, [], Advances, all_placed, and_parts, ap, append-nil, AreAll, arith, Bool, both_ways, Continues, Err, ErrorReport, Ev, ev_of, Event, EventReader, events_left, Explains, false, false_from_ne_true, fault_kept, fault_of_all, fault_seen, GivesEvent, GivesFault, has_end, Holds, IfSome, if◌then◌else◌, inl, inr, is_fresh, is_some, is_stream_end, IsErrAnd, IsHeld, IsSound, Keeping, length, List, Looks, map-append, nil_from_length, no_document, None, not, not-true, Notes, Ok, Option, option_map, or_cases, Parsed, placed, Position, read_so, Reader, refl, Result, scanned, Some, stays_steady, Fault, subst, sym, true, Waits, work, ◌&&◌, ◌++◌, ◌<◌, ◌||◌, ◌∙◌, ◌∷◌, ◌≡◌, ◌≢◌}
+use Rattle.yaml_parser.proofs.Common.{IsSome, ◌≤◌, ◌+◌, [], Advances, all_placed, and_parts, ap, append-nil, AreAll, arith, Bool, both_ways, Continues, Err, ErrorReport, Ev, ev_of, Event, EventReader, events_left, Explains, false, false_from_ne_true, fault_kept, fault_of_all, fault_seen, GivesEvent, GivesFault, has_end, Holds, IfSome, if◌then◌else◌, inl, inr, is_fresh, is_some, is_stream_end, IsHeld, IsSound, Keeping, length, List, map-append, nil_from_length, no_document, None, not, not-true, Notes, Ok, Option, option_map, or_cases, Parsed, placed, Position, read_so, Reader, refl, Result, scanned, Some, stays_steady, Fault, subst, sym, true, Waits, work, ◌&&◌, ◌++◌, ◌<◌, ◌||◌, ◌∙◌, ◌∷◌, ◌≡◌, ◌≢◌}
 use Rattle.yaml_parser.proofs.Holding.{KnowsSteady, closed, keeps, failed_as, set_stands, held_sound, held_explained, has_end_snoc}
 use Rattle.yaml_parser.proofs.DirectiveLemmas.{none_if, some_map}
 use Rattle.yaml_parser.proofs.Since.{all_more}

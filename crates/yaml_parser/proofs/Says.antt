@@ -1,5 +1,5 @@
 -- The tokens say which problem a refused token has.
-use Rattle.yaml_parser.proofs.Common.{[], ap, Collection, Directive, directive_next, Ev, false, Goal, goes_so, if◌then◌else◌, is_after, is_directive, is_in_mapping, is_over_document, is_under, IsBottom, IsNested, IsNoDirective, Kind, kind_of, List, Names, Next, next_after, next_at, none_by, node_next, None, open_after, open_at, open_under, Option, other_next, Position, Problem, problem_at, problem_for, problem_in, problem_of, Raw, Reader, refl, Some, State, StreamSays, subst, sym, taken_toks, Tok, top, true, ◌++◌, ◌∙◌, ◌∷◌, ◌≡◌, ◌≢◌, arith}
+use Rattle.yaml_parser.proofs.Common.{[], ap, Collection, Directive, directive_next, Ev, false, Goal, goes_so, if◌then◌else◌, is_after, is_directive, is_in_mapping, is_over_document, is_under, IsBottom, IsNested, IsNoDirective, Kind, kind_of, List, Names, Next, next_after, next_at, none_by, node_next, None, open_after, open_at, open_under, other_next, Position, Problem, problem_at, problem_for, problem_in, problem_of, Raw, Reader, refl, State, StreamSays, subst, sym, taken_toks, Tok, top, true, ◌++◌, ◌∙◌, ◌∷◌, ◌≡◌, ◌≢◌, arith}
 use Rattle.yaml_parser.proofs.Ends.{Says}
 use Rattle.yaml_parser.proofs.Nesting.{nothing_taken}
 use Rattle.yaml_tokens.specs.declared.problem.Problem.TheVariants as problem

@@ -1,6 +1,6 @@
 -- The turns over the code's state.
 use Rattle.yaml_parser.proofs.Common.{[], all_shown, ap, append-nil, arith, At, BeginAt, behind, Bool, both, both_ways, Ev, events_of, false, Goal, IfSome, is_end, is_over, IsAt, IsAwake, IsHanded, IsNamed, IsNext, IsOfKind, IsOnTrack, IsPastColon, IsPending, Kind, kind_of, last_position, Leaves, length, length-append, List, looks, map, named, named_by, Names, names_after, names_at, names_by, no_names, None, nowhere, Option, option_map, or_parts, peeked_tok, Position, Raw, Reader, refl, resolved_event, shown, shown_list, Skips, Some, State, stood, subst, sym, taken_toks, Takes, Tok, tok_of, Token, Tokens, toks, top, ◌++◌, ◌||◌, ◌∙◌, ◌∷◌, ◌≡◌, ◌≤◌, then_event, event_at, append_assoc, AwaitsAt, Extent, IsAtFirst, IsFor, IsNested, IsThere, StreamPlacesTo}
-use Rattle.model_parser.proofs.Carry.{stands_take, stands_leave}
+use Rattle.model_parser.proofs.Standing.{stands_take, stands_leave}
 use Rattle.yaml_parser.specs.Handed.{ends}
 use Rattle.yaml_parser.proofs.Positions.{count_more, behind_more, stood_over}
 use Rattle.yaml_parser.proofs.Since.{since_append, since_after}

@@ -1,4 +1,4 @@
-use Rattle.yaml_parser.proofs.Answering.{arith, Goal, goes, on_err, refl, document_turns}
+use Rattle.yaml_parser.proofs.Answering.{reads, arith, Goal, goes, on_err, refl, document_turns}
 use Rattle.yaml_parser.proofs.reader.Reader.skip_document_ends.Goals as goal
 
 pub returns-in_err-next-clause-stops : goal.returns-in_err-next-clause-stops
@@ -6,7 +6,7 @@ returns-in_err-next-clause-stops g c = on_err _ c.from_residual.result (c.in_err
 
 pub returns-in_err-next-2-clause-stops : goal.returns-in_err-next-2-clause-stops
 returns-in_err-next-2-clause-stops g c = on_err _ c.from_residual-in_err-next-2.result
-    (λ r is. record { so = λ names given h. (c.in_err-next-2.ensures.stops Goal.documents refl r is).so names given (goes c.ends.invariant.peeked c.in-DocumentEnd.is refl c.skip.ensures.took (document_turns _).documents_marker refl tt refl refl (λ t i. tt) (c.ends.invariant.at names given h)) })
+    (λ r is. reads (λ names given h. (c.in_err-next-2.ensures.stops Goal.documents refl r is).so names given (goes c.ends.invariant.peeked c.in-DocumentEnd.is refl c.skip.ensures.took (document_turns _).documents_marker refl tt refl refl (λ t i. tt) (c.ends.invariant.at names given h))))
 
 pub ends-preserved : goal.ends-preserved
 ends-preserved g c = record {
