@@ -8,7 +8,7 @@ use Rattle.proof_loads.proofs.OneFault.{one_fault}
 use Rattle.proof_loads.proofs.StreamEnds.{all_tokens}
 use Rattle.yaml_loader.specs.Agreement.{OneAnswer, OneListOfDocuments, OneListOfPulledEvents, OneListOfPushedEvents}
 use Rattle.yaml_loader.specs.Unread.{repeated_key}
-use Rattle.yaml_loader.proofs.AnyText.{noted_key}
+use Rattle.yaml_loader.proofs.Finishing.{was_noted}
 
 pub one_list_of_documents : OneListOfDocuments
 one_list_of_documents keep_tags text (Ok ones) (Ok others) m n = one_meaning keep_tags text (items_view ones.items) (items_view others.items) m n
@@ -58,7 +58,7 @@ one_key : (keep_tags : Bool) (text : List ℕ) (es fs : List (Ev × Position)) (
     → HasNoted (with_events new_loader es) key p → reading k.documents ≡ Err other → key ≡ other
 one_key keep_tags text es fs key other p h k noted repeats =
     let same = same_events keep_tags text h.tokens k.tokens es fs h.has k.has h.stream k.stream in
-    err_same (sym (noted_key (reading k.documents) (with_events new_loader es) key p (one_by_one k.documents es (same ∙ k.events_are)) noted) ∙ repeats)
+    err_same (sym (was_noted (reading k.documents) (with_events new_loader es) key p (one_by_one k.documents es (same ∙ k.events_are)) noted) ∙ repeats)
 
 faults_agree : (keep_tags : Bool) (text : List ℕ) (f g : ErrorReport) → IsUnread keep_tags text f → IsUnread keep_tags text g → f.memory ≡ false → g.memory ≡ false → (f ≡ g) ⊎ ((key : Tree) × TellsKey key f.text × TellsKey key g.text)
 faults_agree keep_tags text f g (of_parser x) (of_parser y) m n = inl (one_fault keep_tags text f g x y m n)

@@ -1,16 +1,15 @@
 -- The words of other crates and of specs/ that the proofs here use, passed on from one place. Declares nothing.
-pub use Rattle.std.proofs.Common.{[], ap, append_assoc, arith, Bool, cond, Err, false, inl, inr, length, List, nat_eq, Ok, refl, subst, suc, sym, true, zero, ℕ, ◌++◌, ◌+◌, ◌-◌, ◌<◌, ◌^◌, ◌∙◌, ◌∷◌, ◌≡◌, ◌≤◌}
-pub use Rattle.std.proofs.Math.Nat.{le-max_left, le-max_right, max-le}
+pub use Rattle.std.proofs.Common.{[], ap, append_assoc, arith, Bool, cond, Err, false, inl, inr, length, List, nat_eq, Ok, refl, subst, suc, sym, true, zero, ℕ, ◌++◌, ◌+◌, ◌<◌, ◌^◌, ◌∙◌, ◌∷◌, ◌≡◌, ◌≤◌}
 pub use Rattle.std.proofs.lemmas.Result.{err_from_is_err_and}
 pub use Rattle.std.specs.Prelude.{bytes_eq, chars, codes, IfErr, IfSome, if◌then◌else◌, IsSome, max, None, OnOk, Option, option_map, option_to_list, Result, Some, String, string_bytes, unwrap_or, Vec, ℤ, ◌||◌}
 pub use Rattle.defs_event.specs.Event.{Ev, Tag}
 pub use Rattle.defs_event.specs.Scalar.{by_name, scalar_tree}
-pub use Rattle.defs_event.specs.Unfinished.{at_work, documents_of, Loader, loader_after, new_loader, noted, opened_mapping, opened_sequence, out_of_nesting, reads, refused, repeats, Step, Unfinished, with_document_end, with_event, with_event_at, with_events, with_mapping_end, with_root, with_sequence_end, with_tree}
+pub use Rattle.defs_event.specs.Unfinished.{at_work, documents_of, Loader, loader_after, new_loader, opened_mapping, opened_sequence, out_of_nesting, reads, repeats, Step, Unfinished, with_document_end, with_event, with_event_at, with_events, with_mapping_end, with_root, with_sequence_end, with_tree}
 pub use Rattle.defs_text.specs.Position.{Position}
 pub use Rattle.defs_text.specs.Text.{up_to_nul}
 unfoldable pub use Rattle.defs_text.specs.Text.{string_chars}
 pub use Rattle.defs_tree.specs.Pairs.{has_key, insert, without}
-pub use Rattle.defs_tree.specs.Tree.{alias, array, bad_value, boolean, hash, integer, items_of, null, pairs_of, real, string, Tree}
+pub use Rattle.defs_tree.specs.Tree.{alias, array, bad_value, hash, integer, items_of, null, pairs_of, real, string, Tree}
 pub use Rattle.proof_loads.specs.TextEvents.{AnswersText, BeginsEvents, faulted, wants_memory, whole}
 pub use Rattle.yaml_loader.proofs.DocumentReading.{all_of, is_read, none_more, read_so, refused_by_memory, stops_by_key, stops_by_parser}
 pub use Rattle.yaml_loader.specs.OneDocument.{by_memory, Faults, is_end, IsBetween, IsRead, IsReady, ReadsOne, Refuses, TakesAll}

@@ -11,7 +11,7 @@ pub use Rattle.defs_event.specs.Marking.{alias_of, aliased_marks, finished_marks
 pub use Rattle.defs_event.specs.Marks.{beside, leaf, list_of_parts, marked_items, marked_pairs, Marks, marks, no_parts, node_at_place, pair_at_text, pair_with, pairs_beside, part, Parts, parts_of}
 pub use Rattle.defs_text.specs.Position.{Position}
 pub use Rattle.defs_tree.specs.Order.{tree_eq}
-pub use Rattle.defs_tree.specs.Tree.{alias, array, bad_value, boolean, hash, integer, item, Items, items_of, no_items, no_pairs, null, pair, Pairs, pairs_of, real, string, Tree}
+pub use Rattle.defs_tree.specs.Tree.{array, hash, item, Items, items_of, no_items, no_pairs, pair, Pairs, pairs_of, string, Tree}
 pub use Rattle.yaml_loader.specs.MarkedLeaf.{alias_mark, leaf_mark}
 pub use Rattle.yaml_loader.specs.MarkedLoading.{AreMarksOf, plain}
 pub use Rattle.yaml_loader.specs.MarkedNode.{marks_of, node_of, pair_of, tree_of}
