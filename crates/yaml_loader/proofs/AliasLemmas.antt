@@ -1,8 +1,5 @@
 -- The finished anchors of a map, as clauses see them: what an alias means.
-use Rattle.std.specs.Ordering.{nat_cmp}
-use Rattle.std.specs.BTreeMap.{is_at}
-use Rattle.std.specs.Map.{lookup}
-use Rattle.yaml_loader.proofs.Common.{[], aliased, Anchors, anchors_of, ap, AreAlike, arith, bad_value, Bool, cond, Err, false, finished, has_key, IfErr, if◌then◌else◌, insert, IsRefusedBy, List, nat_eq, None, Ok, OnOk, Opened, opened_mapping, Option, option_map, out_of_nesting, reads, ReadsTo, refl, Refusal, repeats, Result, Some, Step, subst, suc, sym, Tree, true, Unfinished, unwrap_or, view, with_anchors, with_node, with_root, with_tree, Yaml, zero, ℕ, ◌<◌, ◌∙◌, ◌∷◌, ◌≡◌}
+use Rattle.yaml_loader.proofs.Common.{[], aliased, Anchors, anchors_of, ap, AreAlike, arith, bad_value, Bool, cond, Err, false, finished, has_key, IfErr, if◌then◌else◌, insert, is_at, IsRefusedBy, List, lookup, nat_cmp, nat_eq, None, Ok, OnOk, Opened, opened_mapping, Option, option_map, out_of_nesting, reads, ReadsTo, refl, Refusal, repeats, Result, Some, Step, subst, suc, sym, Tree, true, Unfinished, unwrap_or, view, with_anchors, with_node, with_root, with_tree, Yaml, zero, ℕ, ◌<◌, ◌∙◌, ◌∷◌, ◌≡◌}
 use Rattle.yaml_loader.specs.declared.reading.Refusal.TheVariants as refusal
 use Rattle.yaml_loader.proofs.Anchors.{found_at, put_at}
 

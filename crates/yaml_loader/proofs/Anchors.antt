@@ -1,8 +1,5 @@
 -- What stands under a number in a map, by a list that is searched from its front.
-use Rattle.std.specs.Ordering.{nat_cmp}
-use Rattle.std.specs.BTreeMap.{is_at}
-use Rattle.std.specs.Map.{lookup}
-use Rattle.yaml_loader.proofs.Common.{[], ap, arith, Bool, cond, false, if◌then◌else◌, List, nat_eq, nat_tests, option_map, Some, sym, true, unwrap_or, ℕ, ◌∙◌, ◌∷◌, ◌≡◌}
+use Rattle.yaml_loader.proofs.Common.{[], ap, arith, Bool, cond, false, if◌then◌else◌, is_at, List, lookup, nat_cmp, nat_eq, nat_tests, option_map, Some, sym, true, unwrap_or, ℕ, ◌∙◌, ◌∷◌, ◌≡◌}
 
 at_number : (n k : ℕ) → is_at (nat_cmp n) k ≡ nat_eq n k
 at_number n k = grind (arith, nat_tests)

@@ -1,6 +1,6 @@
 -- The words of other crates and of specs/ that the proofs here use, passed on from one place. Declares nothing.
-pub use Rattle.std.proofs.Common.{[], ap, arith, Bool, cond, false, inl, inr, length, List, nat_eq, not, pred, refl, subst, suc, sym, true, zero, ℕ, ◌++◌, ◌-◌, ◌<◌, ◌||◌, ◌∙◌, ◌∷◌, ◌≡◌, ◌⊎◌}
-pub use Rattle.std.proofs.lemmas.Bool.{and_from, and_parts, both_ways, false≢true, or_cases, true≢false}
+pub use Rattle.std.proofs.Common.{[], ap, arith, Bool, cond, false, inl, inr, length, List, nat_eq, not, pred, refl, rules, subst, suc, sym, true, zero, ℕ, ◌++◌, ◌-◌, ◌<◌, ◌||◌, ◌∙◌, ◌∷◌, ◌≡◌, ◌⊎◌}
+pub use Rattle.std.proofs.lemmas.Bool.{and_from, and_parts, both_ways, false_from_ne_true, false≢true, or_cases, true≢false}
 pub use Rattle.std.proofs.lemmas.Bool.Decides.{nat_tests, same_from_decides}
 pub use Rattle.std.proofs.lemmas.Result.{err_from_is_err_and, IfOk-weaker, MatchResult-at_err, MatchResult-at_ok}
 pub use Rattle.std.proofs.lemmas.Slice.Eq.{bytes_eq-Decides}
@@ -61,3 +61,11 @@ pub use Rattle.yaml_scanner.specs.Scanned.{MayBe, Scanned, Scans}
 pub use Rattle.yaml_tokens.specs.ErrorReport.{ErrorReport, owned_at}
 pub use Rattle.yaml_tree.specs.View.{items_view, view}
 pub use Rattle.yaml_tree.specs.declared.yaml.Yaml.{Yaml}
+pub use Rattle.proof_loads.specs.AtStart.{IsAtStart}
+pub use Rattle.std.specs.BTreeMap.{is_at}
+pub use Rattle.std.specs.Map.{lookup}
+pub use Rattle.std.specs.Option.{option_copied}
+pub use Rattle.std.specs.Ordering.{nat_cmp}
+pub use Rattle.yaml_loader.specs.DocumentStream.{stream_of}
+pub use Rattle.yaml_loader.specs.Laws.{RefusedTextsWantMemory, TakenTextsAreLoaded}
+pub use Rattle.yaml_loader.specs.declared.marked_receiver.MarkedLoader.{MarkedLoader}

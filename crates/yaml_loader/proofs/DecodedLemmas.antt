@@ -1,8 +1,6 @@
 -- From the outcome of decoding to that of a load.
-use Rattle.std.specs.Prelude.{ℕ, List, Result, Ok, Err, Vec}
-use Rattle.std.specs.declared.alloc.Global.{Global}
+use Rattle.yaml_loader.proofs.Common.{Err, Global, List, Ok, Result, Vec, Yaml, ℕ}
 use Rattle.yaml_encoding.specs.Decoding.{Outcome, text}
-use Rattle.yaml_tree.specs.declared.yaml.Yaml.{Yaml}
 use Rattle.yaml_loader.specs.declared.decoder.LoadError.{LoadError}
 use Rattle.yaml_loader.specs.declared.decoder.LoadError.TheVariants.{IO, Scan, Decode}
 use Rattle.yaml_loader.specs.Read.{DecodedIs, Loads, LoadedIs}

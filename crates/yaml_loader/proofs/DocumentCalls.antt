@@ -1,9 +1,6 @@
 -- What a call gives, from what was read.
+use Rattle.yaml_loader.proofs.Common.{CameFrom, characters_are_the_text, HasNoNul, up_to_nul}
 use Rattle.yaml_loader.proofs.DocumentCommon.{ap, Bool, by_key, by_memory, by_parser, Err, ErrorReport, false, finished, List, None, Ok, Option, Parse, Parsed, parsed, Reads, Result, Scans, ScansIn, Some, Stops, subst, sym, true, view, Yaml, ℕ, ◌∙◌, ◌≡◌}
-use Rattle.defs_text.specs.Text.{up_to_nul}
-use Rattle.yaml_chars.specs.WindowView.{HasNoNul}
-use Rattle.yaml_chars.specs.Source.{CameFrom}
-use Rattle.proof_loads.proofs.Spelled.{characters_are_the_text}
 use Rattle.yaml_loader.specs.DocumentStream.{Stream, stream_of, is_last, Adds, Says, Gives}
 use Rattle.yaml_loader.proofs.DocumentTexts.{says_document, says_all, says_stop}
 

@@ -1,12 +1,9 @@
 -- What the reading of one document does, from what its loader took.
+use Rattle.yaml_loader.proofs.Common.{IsGivenFault, kept_fault, loader_of, Takes, WantsMemory, YamlLoader}
 use Rattle.std.specs.Result.{IsErrAnd}
 use Rattle.yaml_loader.proofs.DocumentCommon.{[], ap, append-nil, append_assoc, arith, BeginsPlaced, by_key, by_memory, by_parser, documents_of, Ended, EndsDocument, Err, ErrorReport, Ev, events_of, false, fault_in, Faults, finished, has_documents, has_end, has_noted, HasDocuments, HasNoEnd, HasNoted, HasRead, inl, inr, is_end, is_stream_end, IsBetween, IsNested, IsPlain, IsRead, IsSome, items_view, length, List, Loader, map-append, new_fault, new_loader, None, Ok, Option, option_to_list, Parsed, Position, raws_of, read, Reads, ReadsAll, ReadsOne, refl, refused_at, Refuses, Result, Some, stands, Stops, subst, sym, TakesAll, TakesDocument, Token, Tree, true, view, with_event_at, with_events, with_last, Yaml, ℕ, ◌++◌, ◌<◌, ◌∙◌, ◌∷◌, ◌≡◌, ◌⊎◌}
-use Rattle.yaml_parser.specs.Blames.{WantsMemory}
 use Rattle.proof_loads.proofs.Pulled.{read_given, has_end_append}
-use Rattle.yaml_loader.specs.Gives.{IsGivenFault}
 use Rattle.yaml_loader.specs.Gives as given
-use Rattle.yaml_loader.specs.Loading.{loader_of, kept_fault, Takes}
-use Rattle.yaml_loader.specs.declared.loader.YamlLoader.{YamlLoader}
 use Rattle.yaml_loader.specs.declared.one_document.Halt.{Halt}
 use Rattle.yaml_loader.specs.declared.one_document.Halt.TheVariants as halt
 use Rattle.yaml_loader.proofs.Numbers.{highest, AreOwn, stream_own, own_rest, up_to, UpTo}

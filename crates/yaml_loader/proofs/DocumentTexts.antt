@@ -1,10 +1,8 @@
 -- What the readings of one document say of a text.
+use Rattle.yaml_loader.proofs.Common.{first_position, Means, memory_is_wanted}
 use Rattle.yaml_loader.proofs.DocumentCommon.{[], ap, at_work, Bool, by_key, by_memory, by_parser, documents_of, EndsDocument, ErrorReport, Ev, events_of, false, fault_of, finished, Foretells, has_end, HasNoted, HasRead, IsNested, IsPlain, IsRead, IsStream, List, Loader, map, nested_stream, NestedDocument, new_loader, noted, Ok, one_by_one, Parsed, placed_stream, Position, read, reading, ReadsAll, ReadsOne, refl, refused, ScansIn, Stops, stream_nests, subst, sym, toks, Tree, with_events, with_last, ℕ, ◌++◌, ◌∙◌, ◌∷◌, ◌≡◌}
-use Rattle.defs_text.specs.Position.{first_position}
 use Rattle.yaml_parser.specs.Follows.{Explains}
 use Rattle.proof_loads.specs.TextEvents.{AreFirst, BeginsEvents, IsFaultOf, wants_memory}
-use Rattle.defs_event.specs.Meaning.{Means}
-use Rattle.proof_loads.proofs.Loads.{memory_is_wanted}
 use Rattle.proof_loads.proofs.StreamEnds.{all_tokens}
 use Rattle.proof_loads.proofs.Texts.{goes_on, first_tokens}
 use Rattle.yaml_loader.specs.FirstDocuments.{BeginsDocuments, BeginsAs, IsStopped}

@@ -1,12 +1,8 @@
 -- What a call gives, from what was read within limits.
+use Rattle.yaml_loader.proofs.Common.{CameFrom, characters_are_the_text, HasNoNul, HasRead, stream_of}
 use Rattle.yaml_loader.proofs.LimitedCommon.{[], ap, Backlog, BeginsEvents, Bool, by_nodes, by_tokens, documents_of, Err, Ev, false, GoesOver, HoldsBack, IfSome, inl, IsBetween, IsRead, IsReady, IsTooLarge, Limits, LimitsError, List, Made, new_loader, None, none_more, Ok, Option, Parse, Parsed, parsed, Position, ReadsWithin, refl, Result, Some, subst, sym, true, up_to_nul, view, Waits, with_events, Yaml, ℕ, ◌++◌, ◌∙◌, ◌∷◌, ◌≡◌}
-use Rattle.defs_event.specs.Laws.{HasRead}
-use Rattle.yaml_chars.specs.WindowView.{HasNoNul}
-use Rattle.yaml_chars.specs.Source.{CameFrom}
 use Rattle.yaml_scanner.specs.Scanned.{ScansIn, Scans}
-use Rattle.proof_loads.proofs.Spelled.{characters_are_the_text}
 use Rattle.yaml_loader.specs.OneDocument.{finished}
-use Rattle.yaml_loader.specs.DocumentStream.{stream_of}
 use Rattle.yaml_loader.proofs.DocumentCalls.{answered, fault_adds, not_both}
 use Rattle.yaml_loader.proofs.DocumentTexts.{text_begins, says_document, says_all, says_stop}
 use Rattle.yaml_loader.specs.LimitedOneByOne.{LimitedStream, ComesNext, IsStoppedWithin, stopped, too_deep, too_large, too_many, is_last, Adds, Says, GivesWithin}

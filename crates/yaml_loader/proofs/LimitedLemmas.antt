@@ -1,9 +1,7 @@
 -- What a load within limits gives, from what its receiver was handed.
-use Rattle.std.specs.declared.alloc.Global.{Global}
+use Rattle.yaml_loader.proofs.Common.{Global, MarkedLoader, of_parser}
 use Rattle.yaml_loader.proofs.LimitedCommon.{AreWithin, arith, by_limits, by_parser, by_receiver, Err, Ev, false, HasDocuments, HasTaken, IsEmpty, IsHanded, IsNotHanded, IsWithin, items_view, kept_fault, Limits, LimitsError, List, loader_of, made, new_loader, None, Ok, Position, Result, Takes, TakesMarked, Tree, Vec, wants_memory, with_events, Yaml, YamlLoader, ℕ, ◌≡◌}
 use Rattle.yaml_loader.specs.Laws.{TakenTextsAreLoaded, TakenEventsAreRead, RefusedTextsWantMemory}
-use Rattle.yaml_loader.specs.Unread.{of_parser}
-use Rattle.yaml_loader.specs.declared.marked_receiver.MarkedLoader.{MarkedLoader}
 use Rattle.yaml_loader.proofs.MarkedTexts.{inside, only_memory}
 use Rattle.yaml_loader.specs.Limited.{IsNotLoaded, unread, over, Answers, GivesAll}
 use Rattle.yaml_loader.specs.declared.limits_error.LimitsError.TheVariants as error

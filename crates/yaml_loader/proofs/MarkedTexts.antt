@@ -1,24 +1,14 @@
 -- What a load with positions answers of a text.
-use Rattle.std.specs.declared.alloc.Global.{Global}
+use Rattle.yaml_loader.proofs.Common.{AnswersText, at_work, BeginsEvents, ErrorReport, faulted, Gives, Global, HasDocuments, IsFaultOf, Loader, loader_of, LoadsText, MarkedLoader, new_loader, no_event, one_event, Receives, refused, Takes, Unfinished, wants_memory, WantsMemory, whole, with_events}
 use Rattle.yaml_loader.proofs.MarkedCommon.{[], all_shown, AllFit, AllHaveMarks, AreMarksOf, Bool, Err, Ev, false, HasStanding, inl, inr, items_view, List, marked_documents, nothing_marked, Ok, Position, refl, Result, subst, sym, Tree, Vec, with_event_marked, with_events_marked, Yaml, ℕ, ◌++◌, ◌∷◌, ◌≡◌}
-use Rattle.defs_event.specs.Unfinished.{Loader, at_work, Unfinished, new_loader, with_events}
 use Rattle.defs_event.specs.Marking as defs
-use Rattle.yaml_tokens.specs.ErrorReport.{ErrorReport}
-use Rattle.yaml_parser.specs.Blames.{WantsMemory}
-use Rattle.yaml_parser.specs.Loads.{Receives, no_event, one_event}
-use Rattle.proof_loads.specs.TextEvents.{BeginsEvents, IsFaultOf, wants_memory, AnswersText, whole, faulted, refused}
-use Rattle.yaml_loader.specs.Gives.{Gives}
 use Rattle.yaml_loader.specs.Laws.{EventsAreReadAsDefined, RefusedTextsWantMemory, TakenTextsAreLoaded}
-use Rattle.yaml_loader.specs.Loading.{loader_of, Takes}
-use Rattle.yaml_loader.specs.Loads.{HasDocuments}
-use Rattle.yaml_loader.specs.TextLoads.{LoadsText}
 use Rattle.defs_event.specs.MarkLaws.{MarksFitTheirTrees}
 use Rattle.yaml_loader.specs.Receiving.{TakesMarked, IsEmpty, HasTaken}
 use Rattle.yaml_loader.proofs.AnyText.{wants}
 use Rattle.yaml_loader.proofs.GoOnAlike.{reaches}
 use Rattle.yaml_loader.proofs.LoadLemmas.{has_documents}
 use Rattle.yaml_loader.proofs.Seen.{all_seen}
-use Rattle.yaml_loader.specs.declared.marked_receiver.MarkedLoader.{MarkedLoader}
 
 -- the loader inside takes the same events
 pub inside : {r s : MarkedLoader} {es : List (Ev × Position)} → Receives TakesMarked r es s → Receives Takes r.loader es s.loader

@@ -1,11 +1,9 @@
 -- In the events of a stream, each alias has a higher number than all anchors of earlier documents.
+use Rattle.yaml_loader.proofs.Common.{bad_value, events_of, Position, Tree}
 use Rattle.yaml_loader.proofs.DocumentCommon.{[], ap, arith, Bool, bytes_eq, Ev, false, if◌then◌else◌, List, max, None, Option, option_map, refl, Some, subst, sym, true, ℕ, ◌++◌, ◌+◌, ◌<◌, ◌∙◌, ◌∷◌, ◌≡◌, ◌≤◌}
 use Rattle.defs_event.specs.Raw.{Raw}
 use Rattle.defs_event.specs.Names.{Names, under_name, are_allowed, perhaps_resolved, number, with_anchor, named, names_after, resolved_event}
 use Rattle.defs_event.proofs.NameLemmas.{both_some}
-use Rattle.defs_tree.specs.Tree.{bad_value, Tree}
-use Rattle.defs_text.specs.Position.{Position}
-use Rattle.defs_event.specs.Stream.{events_of}
 use Rattle.yaml_loader.proofs.Beside.{AllSuit, anchor_of, Suits}
 
 -- the highest number of an anchor after these events, where it was this one before them

@@ -1,12 +1,11 @@
 -- Extents that are no larger than others.
+use Rattle.yaml_loader.proofs.Common.{core_prefix, is_among}
 use Rattle.yaml_loader.proofs.LimitedCommon.{[], arith, array, Bool, by_name, bytes_eq, codes, cond, extended, Extent, false, hash, if◌then◌else◌, insert, integer, items_extent, items_of, List, None, null, Option, option_map, pairs_extent, pairs_of, real, scalar_extent, scalar_tree, single_node, Some, string, subst, sym, Tag, Tree, tree_extent, true, unwrap_or, without, bad_value, ℕ, ℤ, ◌++◌, ◌||◌, ◌∷◌, ◌≤◌}
-use Rattle.defs_tree.specs.Grammar.{is_among}
 use Rattle.defs_tree.specs.Typing.{typing, signed_decimal, is_decimal, is_real_text, true_words, false_words}
 use Rattle.defs_tree.specs.Order.{tree_eq}
 use Rattle.defs_tree.specs.Laws.{MayStandFor}
 use Rattle.defs_tree.proofs.TypingLaws.{typing_plain}
 use Rattle.defs_token.specs.Token.{Style}
-use Rattle.defs_event.specs.Names.{core_prefix}
 
 pub record IsNoMore (x y : Extent) : Type 0 where
   pub size : x.size ≤ y.size

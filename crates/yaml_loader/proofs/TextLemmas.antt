@@ -1,10 +1,8 @@
 -- What a load answers of a text that means trees.
-use Rattle.std.specs.Str.{chars, IsUtf8}
 use Rattle.std.specs.declared.str.Chars.{Chars}
-use Rattle.yaml_loader.proofs.Common.{[], Answers, ap, BeginsText, Bool, CameFrom, characters_are_the_text, chars_rest, chars_steps, Err, ErrorReport, false, Global, has_no_nul, HasNoNul, IfOk, items_view, json_texts_are_read, json_texts_have_no_nul, List, LoadsOnly, LoadsText, MayBe, Means, memory_is_wanted, nested_is_stream, of_parser, OfBasic, OfGiven, OfJson, OfLayout, OfQuoted, OfTexts, Ok, one_meaning, one_reading, Option, Parsed, refl, Result, Scanned, subst, sym, Tree, tree_of, true, up_to_nul, Vec, Yaml, ℕ, ◌∙◌, ◌∷◌, ◌≡◌}
+use Rattle.yaml_loader.proofs.Common.{[], Answers, ap, BeginsText, Bool, CameFrom, characters_are_the_text, chars, chars_rest, chars_steps, Err, ErrorReport, false, Global, has_no_nul, HasNoNul, IfOk, IsAtStart, IsUtf8, items_view, json_texts_are_read, json_texts_have_no_nul, List, LoadsOnly, LoadsText, MayBe, Means, memory_is_wanted, nested_is_stream, of_parser, OfBasic, OfGiven, OfJson, OfLayout, OfQuoted, OfTexts, Ok, one_meaning, one_reading, Option, Parsed, refl, Result, Scanned, subst, sym, Tree, tree_of, true, up_to_nul, Vec, Yaml, ℕ, ◌∙◌, ◌∷◌, ◌≡◌}
 use Rattle.yaml_chars.proofs.SpelledLemmas.{Chars-spelled}
 use Rattle.defs_layout.specs.Layout as layout
-use Rattle.proof_loads.specs.AtStart.{IsAtStart}
 use Rattle.proof_loads.specs.Spelled.{IsWithoutNul}
 use Rattle.proof_loads.proofs.LayoutNul.{layouts_have_no_nul}
 use Rattle.proof_loads.proofs.LayoutTexts.{layouts_are_read}

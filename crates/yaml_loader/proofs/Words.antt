@@ -1,7 +1,6 @@
 -- Texts as bytes and as characters, against words that are both.
 use Rattle.std.specs.Bool.{Decides}
-use Rattle.yaml_loader.proofs.Common.{[], and_from, and_parts, ap, arith, Bool, bytes_eq, bytes_eq-Decides, chars, chars-encodes, encode_ascii, encodes-chars, false, is_among, IsUtf8, List, list_all, nat_lt, nat_tests, refl, same_from_decides, sym, true, ℕ, ◌++◌, ◌<◌, ◌||◌, ◌∙◌, ◌∷◌, ◌≡◌}
-use Rattle.std.proofs.lemmas.Bool.{false_from_ne_true}
+use Rattle.yaml_loader.proofs.Common.{[], and_from, and_parts, ap, arith, Bool, bytes_eq, bytes_eq-Decides, chars, chars-encodes, encode_ascii, encodes-chars, false, false_from_ne_true, is_among, IsUtf8, List, list_all, nat_lt, nat_tests, refl, same_from_decides, sym, true, ℕ, ◌++◌, ◌<◌, ◌||◌, ◌∙◌, ◌∷◌, ◌≡◌}
 use lib.Utf8.{scalar, scalars, encodes}
 
 -- a word whose bytes are its characters

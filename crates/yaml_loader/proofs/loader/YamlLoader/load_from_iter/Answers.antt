@@ -1,6 +1,5 @@
-use Rattle.yaml_loader.proofs.Common.{false, LoadsText, OfGiven, parsed, up_to_nul, ◌∙◌}
+use Rattle.yaml_loader.proofs.Common.{false, IsAtStart, LoadsText, OfGiven, parsed, up_to_nul, ◌∙◌}
 use Rattle.yaml_loader.proofs.TextLemmas.{given_may_be, begins_given, answers, of_texts, of_row, of_whole}
-use Rattle.proof_loads.specs.AtStart.{IsAtStart}
 use Rattle.yaml_loader.proofs.loader.YamlLoader.load_from_iter.Goals as goal
 
 pub returns : goal.returns

@@ -1,5 +1,4 @@
-use Rattle.std.proofs.Common.{rules}
-use Rattle.yaml_loader.proofs.Common.{err_from_is_err_and, of_parser}
+use Rattle.yaml_loader.proofs.Common.{err_from_is_err_and, of_parser, rules}
 use Rattle.yaml_loader.proofs.LoadLemmas.{went_well, load_fault, load_given}
 use Rattle.yaml_loader.proofs.AnyText.{any_text_leaves, left_gives}
 use Rattle.yaml_loader.proofs.loader.YamlLoader.load_from_parser.Goals as goal

@@ -1,5 +1,4 @@
-use Rattle.std.specs.Str.{chars}
-use Rattle.yaml_loader.proofs.Common.{up_to_nul}
+use Rattle.yaml_loader.proofs.Common.{chars, up_to_nul}
 use Rattle.yaml_loader.proofs.TextLemmas.{answers, of_row, of_whole}
 use Rattle.yaml_loader.proofs.loader.YamlLoader.load_from_str.Goals as goal
 

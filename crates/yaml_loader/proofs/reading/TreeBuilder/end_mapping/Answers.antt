@@ -1,5 +1,4 @@
-use Rattle.std.proofs.Common.{rules}
-use Rattle.yaml_loader.proofs.Common.{[], all_opened, ap, hash, None, opened_mapping, opened_of, option_map, pairs_of, sym, unfinished_of, view, with_mapping_end, ◌∙◌}
+use Rattle.yaml_loader.proofs.Common.{[], all_opened, ap, hash, None, opened_mapping, opened_of, option_map, pairs_of, rules, sym, unfinished_of, view, with_mapping_end, ◌∙◌}
 use Rattle.yaml_loader.proofs.AliasLemmas.{ended}
 use Rattle.yaml_loader.proofs.OpenedLemmas.{popped_as}
 use Rattle.yaml_loader.proofs.reading.TreeBuilder.end_mapping.Goals as goal

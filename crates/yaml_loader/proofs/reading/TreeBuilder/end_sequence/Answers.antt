@@ -1,5 +1,4 @@
-use Rattle.std.proofs.Common.{rules}
-use Rattle.yaml_loader.proofs.Common.{[], all_opened, ap, array, items_of, opened_of, opened_sequence, sym, unfinished_of, with_sequence_end}
+use Rattle.yaml_loader.proofs.Common.{[], all_opened, ap, array, items_of, opened_of, opened_sequence, rules, sym, unfinished_of, with_sequence_end}
 use Rattle.yaml_loader.proofs.AliasLemmas.{ended}
 use Rattle.yaml_loader.proofs.OpenedLemmas.{popped_as}
 use Rattle.yaml_loader.proofs.reading.TreeBuilder.end_sequence.Goals as goal

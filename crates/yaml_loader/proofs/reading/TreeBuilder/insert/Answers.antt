@@ -1,5 +1,4 @@
-use Rattle.std.proofs.Common.{rules}
-use Rattle.yaml_loader.proofs.Common.{refl, unfinished_of, view}
+use Rattle.yaml_loader.proofs.Common.{refl, rules, unfinished_of, view}
 use Rattle.yaml_loader.proofs.OpenedLemmas.{inserted_at}
 use Rattle.yaml_loader.proofs.reading.TreeBuilder.insert.Goals as goal
 

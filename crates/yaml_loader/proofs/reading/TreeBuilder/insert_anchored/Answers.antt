@@ -1,5 +1,4 @@
-use Rattle.std.proofs.Common.{rules}
-use Rattle.yaml_loader.proofs.Common.{ap, finished, IfErr, IsRefusedBy, OnOk, reads, subst, unfinished_of, view, with_tree, ◌≡◌}
+use Rattle.yaml_loader.proofs.Common.{ap, finished, IfErr, IsRefusedBy, OnOk, reads, rules, subst, unfinished_of, view, with_tree, ◌≡◌}
 use Rattle.yaml_loader.proofs.AliasLemmas.{inserted_over}
 use Rattle.yaml_loader.proofs.reading.TreeBuilder.insert_anchored.Goals as goal
 
