@@ -1,5 +1,5 @@
 -- Marks in a row, and those of open collections.
-use Rattle.yaml_loader.proofs.MarkedCommon.{[], AllOpenStand, AllStand, ap, append-nil, append_assoc, arith, Begun, drop, drop-append_seam, length, length-append, List, Mark, Marks, marks, OpenMarks, Parts, parts_at, PartsStand, refl, Stands, subst, sym, take, take-append_seam, take-length, ◌++◌, ◌∙◌, ◌∷◌, ◌≡◌, ◌≤◌}
+use Rattle.yaml_loader.proofs.MarkedCommon.{[], AllOpenStand, AllStand, ap, append_assoc, arith, Begun, drop, drop-append_seam, length, length-append, List, Mark, Marks, marks, OpenMarks, Parts, parts_at, PartsStand, refl, Stands, subst, sym, take, take-append_seam, take-length, ◌++◌, ◌∙◌, ◌∷◌, ◌≡◌, ◌≤◌}
 use Rattle.yaml_loader.proofs.Growing.{grown_parts}
 
 -- one more mark in a row
@@ -15,12 +15,6 @@ open_and table b bs waiting o os m s (outer, (r, h)) stands =
     let waits = ap (λ w. w ++ m ∷ []) r.waits ∙ append_assoc outer r.mine (m ∷ []) in
     let stand = row_and table r.mine o.parts m s r.stand stands in
     (outer, (record { mine = r.mine ++ m ∷ []; waits = waits; before = r.before; anchor = r.anchor; start = r.start; stand = stand }, h))
-
--- a collection begins
-pub open_more : (table : List Mark) (bs : List Begun) (waiting : List Mark) (os : List OpenMarks) (b : Begun) (o : OpenMarks)
-    → AllOpenStand table bs waiting os → b.before ≡ length waiting → b.anchor ≡ o.anchor → b.start ≡ o.start → o.parts ≡ [] → AllOpenStand table (b ∷ bs) waiting (o ∷ os)
-open_more table bs waiting os b o h before anchor start none =
-    (waiting, (record { mine = []; waits = sym (append-nil waiting); before = before; anchor = anchor; start = start; stand = subst (AllStand table []) (sym none) tt }, h))
 
 -- the innermost collection, whose parts go into the table
 pub record Closed (table : List Mark) (b : Begun) (bs : List Begun) (waiting : List Mark) (o : OpenMarks) (os : List OpenMarks) : Type 0 where
