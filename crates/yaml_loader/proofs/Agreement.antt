@@ -1,6 +1,6 @@
 -- For one text two answers agree, and two parsers read and push the same events.
 use Rattle.std.proofs.lemmas.List.{map-append}
-use Rattle.yaml_loader.proofs.Common.{[], AnswersText, ap, Bool, both_ways, Err, ErrorReport, Ev, events_of, false, faulted, HasEvents, HasNoted, inl, inr, IsFaultOf, IsPlacedStream, IsStream, IsUnread, items_view, List, Means, memory_is_wanted, nested_is_stream, new_loader, no_stream, no_token, of_parser, Ok, one_by_one, one_meaning, one_reading, placed_stream, Position, read, reading, Receives, refl, refused, Result, subst, sym, TellsKey, texts_are_answered, Token, toks, Tree, true, wants_memory, whole, with_events, ℕ, ◌++◌, ◌∙◌, ◌∷◌, ◌≡◌, ◌⊎◌}
+use Rattle.yaml_loader.proofs.Common.{[], AnswersText, ap, Bool, both_ways, Err, ErrorReport, Ev, events_of, false, HasEvents, HasNoted, inl, inr, IsFaultOf, IsPlacedStream, IsStream, IsUnread, items_view, List, Means, memory_is_wanted, nested_is_stream, new_loader, no_stream, no_token, of_parser, Ok, one_by_one, one_meaning, one_reading, placed_stream, Position, read, reading, Receives, refl, Result, subst, sym, TellsKey, texts_are_answered, Token, toks, Tree, true, wants_memory, whole, with_events, ℕ, ◌++◌, ◌∙◌, ◌∷◌, ◌≡◌, ◌⊎◌}
 use Rattle.defs_event.proofs.OneReading as grammar
 use Rattle.defs_token.specs.Row.{IsRead}
 use Rattle.proof_row.proofs.OneRow as row
@@ -12,8 +12,7 @@ use Rattle.yaml_loader.proofs.Finishing.{was_noted}
 
 pub one_list_of_documents : OneListOfDocuments
 one_list_of_documents keep_tags text (Ok ones) (Ok others) m n = one_meaning keep_tags text (items_view ones.items) (items_view others.items) m n
-one_list_of_documents keep_tags text (Ok ones) (Err f) m n = tt
-one_list_of_documents keep_tags text (Err f) other m n = tt
+one_list_of_documents keep_tags text one other m n = tt
 
 -- ---- events of the tokens that a text is read as
 
@@ -77,8 +76,7 @@ one_answer keep_tags text (Err f) (Err g) x y = λ m n. faults_agree keep_tags t
 all_taken : {R : Type 0} {takes : R → Ev → Position → Result (Unit {0}) ErrorReport → R → Type 0} {r s : R} {result : Result (Unit {0}) ErrorReport} {keep_tags : Bool} {text : List ℕ}
     → AnswersText takes keep_tags text r result s → result ≡ Ok tt → (es : List (Ev × Position)) × HasEvents keep_tags text es × Receives takes r es s
 all_taken (whole es has received) ok = (es, has, received)
-all_taken (faulted es why after received) ok = cc
-all_taken (refused es last p begins received takes) ok = cc
+all_taken answers ok = cc
 
 pub one_list_of_pushed_events : {R S : Type 0} (takes : R → Ev → Position → Result (Unit {0}) ErrorReport → R → Type 0) (others : S → Ev → Position → Result (Unit {0}) ErrorReport → S → Type 0)
     → OneListOfPushedEvents takes others

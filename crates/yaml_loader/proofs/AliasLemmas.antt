@@ -1,5 +1,5 @@
 -- The finished anchors of a map, as clauses see them: what an alias means.
-use Rattle.yaml_loader.proofs.Common.{[], aliased, Anchors, anchors_of, ap, AreAlike, arith, bad_value, Bool, cond, Err, false, finished, has_key, IfErr, if◌then◌else◌, insert, is_at, IsRefusedBy, List, lookup, nat_cmp, nat_eq, None, Ok, OnOk, Opened, opened_mapping, Option, option_map, out_of_nesting, reads, ReadsTo, refl, Refusal, repeats, Result, Some, Step, subst, suc, sym, Tree, true, Unfinished, unwrap_or, view, with_anchors, with_node, with_root, with_tree, Yaml, zero, ℕ, ◌<◌, ◌∙◌, ◌∷◌, ◌≡◌}
+use Rattle.yaml_loader.proofs.Common.{[], aliased, Anchors, anchors_of, ap, AreAlike, arith, bad_value, Bool, cond, Err, false, finished, has_key, IfErr, if◌then◌else◌, insert, is_at, IsRefusedBy, List, lookup, nat_cmp, nat_eq, None, Ok, OnOk, Opened, opened_mapping, Option, option_map, reads, ReadsTo, refl, Refusal, repeats, Result, Some, Step, subst, suc, sym, Tree, true, Unfinished, unwrap_or, view, with_anchors, with_node, with_root, with_tree, Yaml, zero, ℕ, ◌<◌, ◌∙◌, ◌∷◌, ◌≡◌}
 use Rattle.yaml_loader.specs.declared.reading.Refusal.TheVariants as refusal
 use Rattle.yaml_loader.proofs.Anchors.{found_at, put_at}
 
@@ -39,8 +39,7 @@ reads_alike : (s : Step) (a b : Anchors) (v : Unfinished) → ((n : ℕ) → ali
 reads_alike (reads u) a b v same e =
     let f : record u { anchors = b } ≡ v = cc in
     subst (λ w. AreAlike (record u { anchors = a }) w) f (record { documents = refl; opened = refl; root = refl; aliases = same })
-reads_alike (repeats k) a b v same e = cc
-reads_alike out_of_nesting a b v same e = cc
+reads_alike s a b v same e = cc
 
 refused_alike : (r : Refusal) (s : Step) (a b : Anchors) (opened : List Opened) → IsRefusedBy r (with_anchors b s) opened → IsRefusedBy r (with_anchors a s) opened
 refused_alike refusal.OutOfMemory s a b opened h = tt

@@ -1,5 +1,5 @@
 -- What a load answers of any text.
-use Rattle.yaml_loader.proofs.Common.{[], AnswersText, ap, at_work, BeginsEvents, BeginsPlaced, Bool, Err, ErrorReport, Ev, events_of, faulted, Gives, Global, HasDocuments, HasEvents, HasRead, inl, inr, IsFaultOf, IsNewFault, items_view, kept_fault, List, Loader, loader_of, Loads, LoadsText, nested_is_stream, new_loader, None, noted, OfTexts, Ok, one_by_one, Parsed, placed_stream, Position, reading, Receives, refl, refused, refused_at, Result, Scans, Some, subst, sym, Takes, texts_are_answered, Token, toks, Tree, true, Vec, want_of_memory, wants_memory, WantsMemory, whole, with_event_at, with_events, Yaml, YamlLoader, ℕ, ◌++◌, ◌∙◌, ◌∷◌, ◌≡◌}
+use Rattle.yaml_loader.proofs.Common.{[], AnswersText, ap, BeginsEvents, BeginsPlaced, Bool, Err, ErrorReport, Ev, events_of, faulted, Gives, Global, HasDocuments, HasEvents, HasRead, inl, inr, IsFaultOf, IsNewFault, items_view, kept_fault, List, Loader, loader_of, Loads, LoadsText, nested_is_stream, new_loader, None, OfTexts, Ok, one_by_one, Parsed, placed_stream, Position, reading, Receives, refl, refused, refused_at, Result, Scans, Some, subst, sym, Takes, texts_are_answered, Token, toks, Tree, true, Vec, want_of_memory, wants_memory, WantsMemory, whole, with_event_at, with_events, Yaml, YamlLoader, ℕ, ◌++◌, ◌∙◌, ◌∷◌, ◌≡◌}
 use Rattle.defs_event.specs.Unfinished as unfinished
 use Rattle.defs_event.proofs.StreamNests.{stream_nests}
 use Rattle.yaml_loader.specs.Gives as given
@@ -20,14 +20,13 @@ not_refused keep_tags tokens es p b = by (with_events new_loader es) refl
     never (Err key) documents q h = h
 
     by : (x : Loader) → with_events new_loader es ≡ x → refused_at x ≡ Some p → ⊥
-    by (at_work u) e h = cc
-    by (noted documents key q) e h = cc
     by (unfinished.refused documents q) e h =
         let nested = stream_nests keep_tags (toks (tokens ++ b.more_tokens)) (events_of all) (placed_stream keep_tags (tokens ++ b.more_tokens) all b.stream) in
         let read = one_by_one nested.0 all (sym nested.1) in
         let stays : with_events new_loader all ≡ unfinished.refused documents q =
         events_append new_loader es b.more_events ∙ ap (λ x. with_events x b.more_events) e ∙ refused_stays documents q b.more_events in
         never (reading nested.0) documents q (subst (HasRead (reading nested.0)) stays read)
+    by x e h = cc
 
 -- ---- how the loader is left
 

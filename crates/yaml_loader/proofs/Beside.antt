@@ -150,8 +150,7 @@ module _ {R : ℕ → Tree → Tree → Type 0} {before : List Tree} where
       after_beside u.documents v.documents p (ap (λ x. x.documents) h.is)
       (subst (λ x. StepsBeside R before v.documents true (with_event x e) (with_event v e)) (sym h.is)
       (event_beside R before v.documents true v.root e v.opened u.anchors v.anchors (λ k. cc) s h.anchors h.opened))
-  event_at_beside e p s (noting h) = noting h
-  event_at_beside e p s (refusing h) = refusing h
+  event_at_beside e p s h = h
 
   pub events_beside : (es : List (Ev × Position)) {l m : Loader} → AllSuit R es → StandBeside R before l m → StandBeside R before (with_events l es) (with_events m es)
   events_beside [] s h = h
@@ -166,23 +165,19 @@ module _ {R : ℕ → Tree → Tree → Type 0} {before : List Tree} where
 
   pub beside_has : {x y : Loader} (ds : List Tree) → StandBeside R before x y → HasDocuments y ds → HasDocuments x (before ++ ds)
   beside_has ds (working h) r = ap (λ u. u.documents) h.is ∙ ap (λ es. before ++ es) r
-  beside_has ds (noting e) r = absurd r
-  beside_has ds (refusing e) r = absurd r
+  beside_has ds h r = absurd r
 
   pub beside_read : {x y : Loader} (ds : List Tree) → StandBeside R before x y → HasRead (Ok ds) y → HasRead (Ok (before ++ ds)) x
   beside_read ds (working h) r = (ap (λ u. u.documents) h.is ∙ ap (λ es. before ++ es) r.0, ap (λ u. u.opened) h.is ∙ r.1, ap (λ u. u.root) h.is ∙ r.2)
-  beside_read ds (noting e) r = absurd r
-  beside_read ds (refusing e) r = absurd r
+  beside_read ds h r = absurd r
 
   pub beside_noted : {x y : Loader} (key : Tree) (p : Position) → StandBeside R before x y → HasNoted y key p → HasNoted x key p
-  beside_noted key p (working h) r = absurd r
   beside_noted key p (noting e) r = r
-  beside_noted key p (refusing e) r = absurd r
+  beside_noted key p h r = absurd r
 
   pub beside_refused : {x y : Loader} → StandBeside R before x y → refused_at x ≡ refused_at y
   beside_refused (working h) = refl
-  beside_refused (noting e) = refl
-  beside_refused (refusing e) = refl
+  beside_refused h = refl
 
 -- ---- where each alias means the same
 
@@ -205,8 +200,7 @@ event_keeps (at_work u) e p h =
   where
     by : {s r : Step} → StepsBeside Same [] u.documents false s r → documents_of (loader_after r u.documents p) ≡ u.documents
     by (reading x k) = k refl
-    by (repeating key) = refl
-    by nesting = refl
+    by x = refl
 event_keeps l e p h = refl
 
 -- Events without an end finish no document.

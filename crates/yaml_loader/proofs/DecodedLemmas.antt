@@ -15,5 +15,4 @@ not_decoded (Decode m) P h = h
 pub decoded : (r : Result (Vec Yaml Global) LoadError) (characters : List ℕ) (P : Outcome → Type 0) → P (text characters) → Loads characters r → LoadedIs r P
 decoded (Ok documents) characters P h l = (characters, h, l)
 decoded (Err (Scan f)) characters P h l = (characters, h, l)
-decoded (Err (Decode m)) characters P h l = absurd l
-decoded (Err (IO e)) characters P h l = absurd l
+decoded r characters P h l = absurd l

@@ -7,7 +7,7 @@ use Rattle.yaml_loader.specs.Gives as given
 use Rattle.yaml_loader.specs.declared.one_document.Halt.{Halt}
 use Rattle.yaml_loader.specs.declared.one_document.Halt.TheVariants as halt
 use Rattle.yaml_loader.proofs.Numbers.{highest, AreOwn, stream_own, own_rest, up_to, UpTo}
-use Rattle.yaml_loader.proofs.Beside.{AllSuit, StandBeside, working, noting, refusing, events_beside, beside_read, beside_has, beside_noted, beside_documents, beside_refused, no_more_documents}
+use Rattle.yaml_loader.proofs.Beside.{AllSuit, StandBeside, working, events_beside, beside_read, beside_has, beside_noted, beside_documents, beside_refused, no_more_documents}
 use Rattle.yaml_loader.proofs.Between.{ClosesStream, closes_at_start, closes_after, nothing_began, Over, over_so_far}
 use Rattle.yaml_loader.proofs.Finishing.{events_append, end_stays, read_documents, has_are, was_noted, HasOneOrNone, one_or_none}
 use Rattle.yaml_loader.proofs.AnyText.{new_fault_wants, not_refused}
@@ -84,8 +84,7 @@ module _ {old now : Parsed} (b : IsBetween old) (c : Ended old now) where
         anchors = λ n l. (k.anchors n).1 l;
         opened = tt;
       })
-      at_start ds h (noting e) = absurd h
-      at_start ds h (refusing e) = absurd h
+      at_start ds h x = absurd h
 
   -- With the stream's end nothing was read.
   nothing_read : c.last ≡ Ev.stream_end → with_events new_loader (all_of c) ≡ new_loader

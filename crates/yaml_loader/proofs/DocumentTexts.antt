@@ -1,6 +1,6 @@
 -- What the readings of one document say of a text.
 use Rattle.yaml_loader.proofs.Common.{first_position, Means, memory_is_wanted}
-use Rattle.yaml_loader.proofs.DocumentCommon.{[], ap, at_work, Bool, by_key, by_memory, by_parser, documents_of, EndsDocument, ErrorReport, Ev, events_of, false, fault_of, finished, Foretells, has_end, HasNoted, HasRead, IsNested, IsPlain, IsRead, IsStream, List, Loader, map, nested_stream, NestedDocument, new_loader, noted, Ok, one_by_one, Parsed, placed_stream, Position, read, reading, ReadsAll, ReadsOne, refl, refused, ScansIn, Stops, stream_nests, subst, sym, toks, Tree, with_events, with_last, ℕ, ◌++◌, ◌∙◌, ◌∷◌, ◌≡◌}
+use Rattle.yaml_loader.proofs.DocumentCommon.{[], ap, Bool, by_key, by_memory, by_parser, documents_of, EndsDocument, ErrorReport, Ev, events_of, false, fault_of, finished, Foretells, has_end, HasNoted, HasRead, IsNested, IsPlain, IsRead, IsStream, List, Loader, map, nested_stream, NestedDocument, new_loader, noted, Ok, one_by_one, Parsed, placed_stream, Position, read, reading, ReadsAll, ReadsOne, refl, ScansIn, Stops, stream_nests, subst, sym, toks, Tree, with_events, with_last, ℕ, ◌++◌, ◌∙◌, ◌∷◌, ◌≡◌}
 use Rattle.yaml_parser.specs.Follows.{Explains}
 use Rattle.proof_loads.specs.TextEvents.{AreFirst, BeginsEvents, IsFaultOf, wants_memory}
 use Rattle.proof_loads.proofs.StreamEnds.{all_tokens}
@@ -123,6 +123,5 @@ only_memory_is_wanted keep_tags text trees all f (first.repeated_key es ds b key
     absurd (by g.0 (with_events new_loader es) has g.1)
   where
     by : (more : List (Ev × Position)) (l : Loader) → HasNoted l key f.position → HasRead (Ok all) (with_events l more) → ⊥
-    by more (at_work u) h r = absurd h
     by more (noted d k p) h r = subst (HasRead (Ok all)) (noted_stays d k p more) r
-    by more (refused d p) h r = absurd h
+    by more l h r = absurd h

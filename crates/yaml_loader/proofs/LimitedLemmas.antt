@@ -28,8 +28,7 @@ module _ (taken : TakenTextsAreLoaded) (read : TakenEventsAreRead) (limits : Lim
     fault = tt;
   }
   loaded r s (Err (error.Scan f)) empty clear h gives = not_loaded limits text (error.Scan f) (unread f (taken false text h.events r s (Err f) empty clear h.has h.received gives))
-  loaded r s (Err (error.Levels p)) empty clear h gives = absurd gives
-  loaded r s (Err (error.Size p)) empty clear h gives = absurd gives
+  loaded r s result empty clear h gives = absurd gives
 
   -- one that takes positions too
   pub loaded_marked : (r s : MarkedLoader) (result : Result (Vec Yaml Global) LimitsError) → IsEmpty r → IsHanded TakesMarked limits text r s → GivesAll s.loader result → Answers limits text result

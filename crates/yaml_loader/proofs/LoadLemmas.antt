@@ -23,10 +23,8 @@ pub record StandsAfter (es : List (Ev × Position)) (l : YamlLoader) : Type 0 wh
 
 -- a loader that is at work has noted no key
 nothing_noted : (l : YamlLoader) → (d : LoaderState) → loader_by d (unfinished_of l.reading) ≡ new_loader → TellsBy d (unfinished_of l.reading).opened
-nothing_noted l state.Reading e = tt
 nothing_noted l (state.RepeatedKey position text) e = cc
-nothing_noted l (state.OutOfNesting position) e = tt
-nothing_noted l (state.OutOfMemory position) e = tt
+nothing_noted l d e = tt
 
 -- what stands after a load that went well
 abbrev pub Went : Parsed → Parsed → YamlLoader → Type 0

@@ -1,5 +1,5 @@
 -- The trees that a loader makes of events are no larger than what was made.
-use Rattle.yaml_loader.proofs.LimitedCommon.{[], alias, AreAbove, AreNoDeeper, arith, array, at_work, bad_value, Bool, document_extent, documents_size, Ev, extended, Extent, extent_at, false, has_key, HasDocuments, hash, if◌then◌else◌, insert, items_extent, items_of, length, List, Loader, loader_after, Made, made, made_by, made_from, max, nat_eq, new_loader, None, nothing_made, Opened, opened_mapping, opened_sequence, opened_size, Option, out_of_nesting, pairs_extent, pairs_of, Position, reads, refl, repeats, scalar_extent, scalar_tree, single_node, Some, Step, subst, suc, sym, Tag, tag_size, Tree, tree_extent, true, Unfinished, unwrap_or, with_document_end, with_end, with_event, with_event_at, with_events, with_kept, with_mapping_end, with_node, with_part, with_root, with_sequence_end, with_start, with_tag, with_tree, zero, ℕ, ◌++◌, ◌+◌, ◌∷◌, ◌≡◌, ◌≤◌}
+use Rattle.yaml_loader.proofs.LimitedCommon.{[], alias, AreAbove, AreNoDeeper, arith, array, at_work, bad_value, Bool, document_extent, documents_size, Ev, extended, Extent, extent_at, false, has_key, HasDocuments, hash, if◌then◌else◌, insert, items_extent, items_of, length, List, Loader, loader_after, Made, made, made_by, made_from, max, nat_eq, new_loader, None, nothing_made, Opened, opened_mapping, opened_sequence, opened_size, Option, pairs_extent, pairs_of, Position, reads, refl, repeats, scalar_extent, scalar_tree, single_node, Some, Step, subst, suc, sym, Tag, tag_size, Tree, tree_extent, true, Unfinished, unwrap_or, with_document_end, with_end, with_event, with_event_at, with_events, with_kept, with_mapping_end, with_node, with_part, with_root, with_sequence_end, with_start, with_tag, with_tree, zero, ℕ, ◌++◌, ◌+◌, ◌∷◌, ◌≡◌, ◌≤◌}
 use Rattle.defs_event.specs.Anchors as trees
 use Rattle.defs_event.specs.Anchors.{aliased}
 use Rattle.defs_event.specs.Unfinished as reading
@@ -209,15 +209,13 @@ OfLoader _ m = Unit {0}
 
 of_step : (s : Step) (documents : List Tree) (p : Position) (m : Made) → OfStep s m → OfLoader (loader_after s documents p) m
 of_step (reads u) documents p m h = h
-of_step (repeats key) documents p m h = tt
-of_step out_of_nesting documents p m h = tt
+of_step s documents p m h = tt
 
 all_events : (es : List (Ev × Position)) (l : Loader) (m : Made) → OfLoader l m → OfLoader (with_events l es) (made_from m es)
 all_events [] l m h = h
 all_events (e ∷ es) (at_work u) m h =
     all_events es (with_event_at (at_work u) e.0 e.1) (made_by m e.0) (of_step (with_event u e.0) u.documents e.1 (made_by m e.0) (one_event u m e.0 h))
-all_events (e ∷ es) (reading.noted documents key p) m h = all_events es (reading.noted documents key p) (made_by m e.0) tt
-all_events (e ∷ es) (reading.refused documents p) m h = all_events es (reading.refused documents p) (made_by m e.0) tt
+all_events (e ∷ es) l m h = all_events es (with_event_at l e.0 e.1) (made_by m e.0) tt
 
 of_documents : (l : Loader) (m : Made) (documents : List Tree) → OfLoader l m → HasDocuments l documents → (documents_size documents ≤ m.size) × AreNoDeeper m.levels documents
 of_documents (at_work u) m documents h is = subst (λ ts. (documents_size ts ≤ m.size) × AreNoDeeper m.levels ts) is (omega arith, h.deep)
