@@ -1,5 +1,5 @@
 -- Where documents begin and end among nested events.
-use Rattle.yaml_loader.proofs.DocumentCommon.{[], after_node, ap, arith, at_key, at_value, before_node, Bool, closes, Ev, events_of, false, HasNoEnd, in_sequence, in_stream, is_end, is_nested, IsNested, List, max, new_loader, None, Open, open_after, Option, Position, refl, Some, subst, sym, there_and, true, with_events, ℕ, ◌++◌, ◌<◌, ◌∙◌, ◌∷◌, ◌≡◌, ◌≤◌}
+use Rattle.yaml_loader.proofs.DocumentCommon.{[], after_node, ap, arith, at_key, before_node, Bool, closes, Ev, events_of, false, HasNoEnd, in_sequence, in_stream, is_end, is_nested, IsNested, List, max, new_loader, None, Open, open_after, Option, Position, refl, Some, subst, sym, there_and, true, with_events, ℕ, ◌++◌, ◌<◌, ◌∙◌, ◌∷◌, ◌≡◌, ◌≤◌}
 use Rattle.std.specs.Prelude.{IfSome}
 use Rattle.defs_event.proofs.NestedTest.{test_is_exact}
 use Rattle.yaml_loader.proofs.Numbers.{low_after, IsOver, AreOwn}
@@ -135,12 +135,11 @@ over_so_far (e ∷ es) more fs low high c o = over_closed high (e ∷ es) more f
 -- ---- before the stream's end
 
 abbrev IsInside : List Open → Type 0
+IsInside [] = ⊥
+IsInside (in_stream ∷ os) = ⊥
 IsInside (before_node ∷ os) = Unit {0}
 IsInside (after_node ∷ os) = Unit {0}
-IsInside (in_sequence ∷ os) = IsInside os
-IsInside (at_key ∷ os) = IsInside os
-IsInside (at_value ∷ os) = IsInside os
-IsInside _ = ⊥
+IsInside (o ∷ os) = IsInside os
 
 still_inside : (e : Ev) (os : List Open) → is_end e ≡ false → IsInside os → IfSome (open_after e os) IsInside
 still_inside Ev.document_end os n i = cc

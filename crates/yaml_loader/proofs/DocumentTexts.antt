@@ -1,7 +1,6 @@
 -- What the readings of one document say of a text.
 use Rattle.yaml_loader.proofs.Common.{first_position, Means, memory_is_wanted}
-use Rattle.yaml_loader.proofs.DocumentCommon.{[], ap, Bool, by_key, by_memory, by_parser, documents_of, EndsDocument, ErrorReport, Ev, events_of, false, fault_of, finished, Foretells, has_end, HasNoted, HasRead, IsNested, IsPlain, IsRead, IsStream, List, Loader, map, nested_stream, NestedDocument, new_loader, noted, Ok, one_by_one, Parsed, placed_stream, Position, read, reading, ReadsAll, ReadsOne, refl, ScansIn, Stops, stream_nests, subst, sym, toks, Tree, with_events, with_last, ℕ, ◌++◌, ◌∙◌, ◌∷◌, ◌≡◌}
-use Rattle.yaml_parser.specs.Follows.{Explains}
+use Rattle.yaml_loader.proofs.DocumentCommon.{[], ap, Bool, by_key, by_memory, by_parser, documents_of, EndsDocument, ErrorReport, Ev, events_of, false, fault_of, finished, Foretells, has_end, HasNoted, HasRead, IsNested, IsRead, IsStream, List, Loader, map, nested_stream, NestedDocument, new_loader, noted, Ok, one_by_one, Parsed, placed_stream, Position, read, reading, ReadsAll, ReadsOne, refl, ScansIn, Stops, stream_nests, subst, sym, toks, Tree, with_events, with_last, ℕ, ◌++◌, ◌∙◌, ◌∷◌, ◌≡◌}
 use Rattle.proof_loads.specs.TextEvents.{AreFirst, BeginsEvents, IsFaultOf, wants_memory}
 use Rattle.proof_loads.proofs.StreamEnds.{all_tokens}
 use Rattle.proof_loads.proofs.Texts.{goes_on, first_tokens}
@@ -77,13 +76,9 @@ says_all {old} {now} text r scans =
       };
     }
 
--- of a parser's fault
-fault_is : (p : Parsed) (text : List ℕ) (f : ErrorReport) → IsPlain p → ScansIn text p.scanner → Explains f p → IsFaultOf false text f
-fault_is p text f plain scans why = subst (λ k. IsFaultOf k text f) plain.keep_tags (fault_of text p f scans plain.steady why)
-
 -- after a fault
 pub says_stop : {old now : Parsed} (f : ErrorReport) (text : List ℕ) → Stops old f now → ScansIn text now.scanner → IsStopped false text (finished now) f
-says_stop {old} {now} f text (by_parser why plain same) scans = first.of_parser (fault_is now text f plain scans why)
+says_stop {old} {now} f text (by_parser why plain same) scans = first.of_parser (subst (λ k. IsFaultOf k text f) plain.keep_tags (fault_of text now f scans plain.steady why))
 says_stop f text (by_memory wants) scans = first.of_parser (wants_memory wants)
 says_stop {old} {now} f text (by_key is_read ends same key has tells owned) scans =
     let b = begins_documents now text is_read ends scans in

@@ -43,17 +43,16 @@ documents_grow l es = beside_documents (events_beside es (all_suit es) (beside_c
 
 -- ---- a loader that has read
 
-pub read_documents : (x : Loader) (ds : List Tree) → HasRead (Ok ds) x → documents_of x ≡ ds
-read_documents (at_work u) ds h = h.0
-read_documents x ds h = absurd h
+pub has_are : (x : Loader) (ds : List Tree) → HasDocuments x ds → documents_of x ≡ ds
+has_are (at_work u) ds h = h
+has_are x ds h = absurd h
 
 pub read_has : (x : Loader) (ds : List Tree) → HasRead (Ok ds) x → HasDocuments x ds
 read_has (at_work u) ds h = h.0
 read_has x ds h = absurd h
 
-pub has_are : (x : Loader) (ds : List Tree) → HasDocuments x ds → documents_of x ≡ ds
-has_are (at_work u) ds h = h
-has_are x ds h = absurd h
+pub read_documents : (x : Loader) (ds : List Tree) → HasRead (Ok ds) x → documents_of x ≡ ds
+read_documents x ds h = has_are x ds (read_has x ds h)
 
 pub was_read : (r : Result (List Tree) Tree) (x : Loader) (ds : List Tree) → HasRead r x → HasDocuments x ds → r ≡ Ok ds
 was_read (Ok trees) (at_work u) ds h has = ap Ok (sym h.0 ∙ has)

@@ -33,15 +33,11 @@ mutual
 -- ---- what a load answers
 
 -- the one tree, or out of memory
-one_read : (text : List ℕ) (tree : Tree) (documents : List Tree) → IsJsonText tree text → documents ≡ tree ∷ [] → Means false (up_to_nul text) documents
-one_read text tree documents (w, is, e, same) shown =
-    subst (Means false (up_to_nul text)) (ap (λ t. t ∷ []) same ∙ sym shown)
-    (subst (λ a. Means false a (tree_of w.value ∷ [])) (sym (json_texts_have_no_nul w is) ∙ ap up_to_nul e) (json_texts_are_read false w is))
-
-one_no_alias : (text : List ℕ) (tree : Tree) (documents : List Tree) → IsJsonText tree text → documents ≡ tree ∷ [] → All HasNoAlias documents
-one_no_alias text tree documents (w, is, e, same) shown = subst (λ ts. All HasNoAlias ts) (sym shown) (All-cons HasNoAlias tree [] (subst HasNoAlias same (value_no_alias w.value)) (All-nil HasNoAlias))
-
 pub json_given : (text : List ℕ) (tree : Tree) (result : Result (Vec Yaml Global) ErrorReport) → IsJsonText tree text → IfOk result (λ documents. items_view documents.items ≡ tree ∷ []) → IfErr result (λ f. WantsMemory f)
     → LoadsText false (up_to_nul text) result × IfOk result (λ documents. All HasNoAlias (items_view documents.items))
-json_given text tree (Ok documents) is ok err = (one_read text tree (items_view documents.items) is ok, one_no_alias text tree (items_view documents.items) is ok)
+json_given text tree (Ok documents) (w, is, e, same) ok err =
+    let reads = subst (λ a. Means false a (tree_of w.value ∷ [])) (sym (json_texts_have_no_nul w is) ∙ ap up_to_nul e) (json_texts_are_read false w is) in (
+      subst (Means false (up_to_nul text)) (ap (λ t. t ∷ []) same ∙ sym ok) reads,
+      subst (λ ts. All HasNoAlias ts) (sym ok) (All-cons HasNoAlias tree [] (subst HasNoAlias same (value_no_alias w.value)) (All-nil HasNoAlias)),
+    )
 json_given text tree (Err f) is ok err = (of_parser (wants_memory err), tt)

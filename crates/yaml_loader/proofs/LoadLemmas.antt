@@ -99,9 +99,6 @@ has_documents x y documents alike has = beside_has documents (alike_beside alike
 pub has_noted : (x y : Loader) (key : Tree) (p : Position) → StandAlike x y → HasNoted y key p → HasNoted x key p
 has_noted x y key p alike has = beside_noted key p (alike_beside alike) has
 
-were_loaded : {old new : Parsed} (l : YamlLoader) (documents : List Tree) → Went old new l → HasDocuments (loader_of l) documents → AreLoaded old documents new
-were_loaded l documents (es, all, clear, after) has = (es, all, has_documents (with_events new_loader es) (loader_of l) documents after.alike has)
-
 had_noted : {old new : Parsed} {f : ErrorReport} (l : YamlLoader) → Went old new l → IsGivenFault l f → IsLoadFault old f new
 had_noted l (es, all, clear, after) (given.kept is) = let both = sym after.clear ∙ is in cc
 had_noted {f = f} l (es, all, clear, after) (given.repeated_key key has tells owned) =
@@ -118,7 +115,8 @@ no_alias documents law (es, all, read) = by (with_events new_loader es) (law es)
 pub load_given : {old new : Parsed} (l : YamlLoader) (result : Result (Vec Yaml Global) ErrorReport) → LoadedTreesHaveNoAlias → Went old new l → Gives l result
     → IfOk result (λ documents. AreLoaded old (items_view documents.items) new) × IfOk result (λ documents. All HasNoAlias (items_view documents.items))
     × OnOk result (new.fault ≡ None) × IfErr result (λ f. IsLoadFault old f new)
-load_given l (Ok documents) law went gives =
-    let loaded = were_loaded l (items_view documents.items) went gives in
+load_given {old} {new} l (Ok documents) law went gives =
+    let loaded : AreLoaded old (items_view documents.items) new =
+    (went.0, went.1, has_documents (with_events new_loader went.0) (loader_of l) (items_view documents.items) went.3.alike gives) in
     (loaded, no_alias (items_view documents.items) law loaded, went.2, tt)
 load_given l (Err f) law went gives = (tt, tt, tt, had_noted l went gives)

@@ -1,5 +1,5 @@
 -- Plain scalars with a tag: what the bytes of text, handle and suffix say.
-use Rattle.yaml_loader.proofs.Common.{[], ap, as_boolean, as_integer, as_null, as_real, bad_value, Bool, boolean, by_name, bytes_eq, chars, codes, core_prefix, false, false_words, if◌then◌else◌, is_among, IsUtf8, List, not, null, refl, string, sym, Tag, tagged_tree, true, true_words, ℕ, ◌∙◌, ◌∷◌, ◌≡◌}
+use Rattle.yaml_loader.proofs.Common.{[], ap, arith, as_boolean, as_integer, as_null, as_real, bad_value, Bool, boolean, by_name, bytes_eq, chars, codes, core_prefix, false, false_words, if◌then◌else◌, is_among, IsUtf8, List, not, null, refl, string, sym, Tag, tagged_tree, true, true_words, ℕ, ◌∙◌, ◌∷◌, ◌≡◌}
 use Rattle.yaml_loader.proofs.Words.{IsNoneOf, ascii_word, ascii_words, among_chars, not_among, chars_word, word_other}
 
 pub boolean-chars : (bs : List ℕ) → IsUtf8 bs → as_boolean (chars bs) ≡ as_boolean bs
@@ -48,8 +48,7 @@ core_test : (t : Tag) (handle : List ℕ) (other : Bool) → t.handle ≡ chars 
 core_test t handle other e utf8 is = ap (λ h. bytes_eq h core_prefix) e ∙ chars_word core_prefix handle (ascii_word core_prefix refl) utf8 ∙ by (bytes_eq handle core_prefix) other is
   where
     by : (b d : Bool) → d ≡ not b → b ≡ not d
-    by true d e = sym (ap not e)
-    by false d e = sym (ap not e)
+    by b d e = grind arith
 
 -- a handle that is not that of the core schema
 pub other_tag : (t : Tag) (handle text : List ℕ) (other : Bool) → t.handle ≡ chars handle → IsUtf8 handle → other ≡ not (bytes_eq handle core_prefix) → other ≡ true → string text ≡ tagged_tree t text
