@@ -50,11 +50,6 @@ record Leaves (keep_tags : Bool) (s : Names) (low : ℕ) (e : Raw) (v : Ev) : Ty
   count : max s.count (anchor_of v) ≡ (names_after keep_tags s e).count
   under : low_after v low s.count ≤ (names_after keep_tags s e).count
 
--- an event of what an option holds
-of_mapped : {A B : Type 0} (f : A → B) (o : Option A) (v : B) (P : B → Type 0) → option_map f o ≡ Some v → ((x : A) → P (f x)) → P v
-of_mapped f None v P e h = cc
-of_mapped f (Some x) v P e h = subst P (some_is e) (h x)
-
 module _ (keep_tags : Bool) (s : Names) (low : ℕ) (h : low ≤ s.count) (o : AllOver low s.anchors) where
   -- the names after an anchor, or none
   with_one : (a : Option (List ℕ)) → AllOver low (with_anchor s a).anchors × (max s.count (number s a) ≡ (with_anchor s a).count) × (low ≤ (with_anchor s a).count)
@@ -76,7 +71,8 @@ module _ (keep_tags : Bool) (s : Names) (low : ℕ) (h : low ≤ s.count) (o : A
   -- an event of a node, whose tag is resolved
   of_node : (a : Option (List ℕ)) (e : Raw) {T : Type 0} (f : T → Ev) (t : Option T) (v : Ev) → option_map f t ≡ Some v → names_after keep_tags s e ≡ with_anchor s a
       → ((u : T) → IsOver low (f u) × (anchor_of (f u) ≡ number s a) × (low_after (f u) low s.count ≡ low)) → Leaves keep_tags s low e v
-  of_node a e f t v r names h = of_mapped f t v (Leaves keep_tags s low e) r (λ u. let x = h u in anchored a e (f u) names x.0 x.1 x.2)
+  of_node a e f None v r names h = cc
+  of_node a e f (Some t) v r names h = let x = h t in subst (Leaves keep_tags s low e) (some_is r) (anchored a e (f t) names x.0 x.1 x.2)
 
   leaves : (e : Raw) (v : Ev) → resolved_event s e ≡ Some v → Leaves keep_tags s low e v
   leaves (Raw.document_start ds) v r = by (are_allowed ds) r
