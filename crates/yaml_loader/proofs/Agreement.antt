@@ -1,6 +1,6 @@
 -- For one text two answers agree, and two parsers read and push the same events.
 use Rattle.std.proofs.lemmas.List.{map-append}
-use Rattle.yaml_loader.proofs.Common.{[], AnswersText, ap, Bool, both_ways, Err, ErrorReport, Ev, events_of, false, faulted, HasEvents, HasNoted, inl, inr, IsFaultOf, IsPlacedStream, IsStream, IsUnread, items_view, List, Means, memory_is_wanted, nested_is_stream, new_loader, no_stream, no_token, of_parser, Ok, one_by_one, one_meaning, one_reading, placed_stream, Position, read, reading, Receives, refl, refused, Result, subst, sym, TellsKey, texts_are_answered, Token, toks, Tree, true, wants_memory, whole, with_events, ℕ, ◌++◌, ◌∙◌, ◌∷◌, ◌≡◌, ◌⊎◌}
+use Rattle.yaml_loader.proofs.Common.{[], AnswersText, ap, Bool, both_ways, Err, ErrorReport, Ev, events_of, false, HasEvents, HasNoted, inl, inr, IsFaultOf, IsPlacedStream, IsStream, IsUnread, items_view, List, Means, memory_is_wanted, nested_is_stream, new_loader, no_stream, no_token, of_parser, Ok, one_by_one, one_meaning, one_reading, placed_stream, Position, read, reading, Receives, refl, Result, subst, sym, TellsKey, texts_are_answered, Token, toks, Tree, true, wants_memory, whole, with_events, ℕ, ◌++◌, ◌∙◌, ◌∷◌, ◌≡◌, ◌⊎◌}
 use Rattle.defs_event.proofs.OneReading as grammar
 use Rattle.defs_token.specs.Row.{IsRead}
 use Rattle.proof_row.proofs.OneRow as row
@@ -8,12 +8,11 @@ use Rattle.proof_loads.proofs.OneFault.{one_fault}
 use Rattle.proof_loads.proofs.StreamEnds.{all_tokens}
 use Rattle.yaml_loader.specs.Agreement.{OneAnswer, OneListOfDocuments, OneListOfPulledEvents, OneListOfPushedEvents}
 use Rattle.yaml_loader.specs.Unread.{repeated_key}
-use Rattle.yaml_loader.proofs.AnyText.{noted_key}
+use Rattle.yaml_loader.proofs.Finishing.{was_noted}
 
 pub one_list_of_documents : OneListOfDocuments
 one_list_of_documents keep_tags text (Ok ones) (Ok others) m n = one_meaning keep_tags text (items_view ones.items) (items_view others.items) m n
-one_list_of_documents keep_tags text (Ok ones) (Err f) m n = tt
-one_list_of_documents keep_tags text (Err f) other m n = tt
+one_list_of_documents keep_tags text one other m n = tt
 
 -- ---- events of the tokens that a text is read as
 
@@ -58,7 +57,7 @@ one_key : (keep_tags : Bool) (text : List ℕ) (es fs : List (Ev × Position)) (
     → HasNoted (with_events new_loader es) key p → reading k.documents ≡ Err other → key ≡ other
 one_key keep_tags text es fs key other p h k noted repeats =
     let same = same_events keep_tags text h.tokens k.tokens es fs h.has k.has h.stream k.stream in
-    err_same (sym (noted_key (reading k.documents) (with_events new_loader es) key p (one_by_one k.documents es (same ∙ k.events_are)) noted) ∙ repeats)
+    err_same (sym (was_noted (reading k.documents) (with_events new_loader es) key p (one_by_one k.documents es (same ∙ k.events_are)) noted) ∙ repeats)
 
 faults_agree : (keep_tags : Bool) (text : List ℕ) (f g : ErrorReport) → IsUnread keep_tags text f → IsUnread keep_tags text g → f.memory ≡ false → g.memory ≡ false → (f ≡ g) ⊎ ((key : Tree) × TellsKey key f.text × TellsKey key g.text)
 faults_agree keep_tags text f g (of_parser x) (of_parser y) m n = inl (one_fault keep_tags text f g x y m n)
@@ -77,8 +76,7 @@ one_answer keep_tags text (Err f) (Err g) x y = λ m n. faults_agree keep_tags t
 all_taken : {R : Type 0} {takes : R → Ev → Position → Result (Unit {0}) ErrorReport → R → Type 0} {r s : R} {result : Result (Unit {0}) ErrorReport} {keep_tags : Bool} {text : List ℕ}
     → AnswersText takes keep_tags text r result s → result ≡ Ok tt → (es : List (Ev × Position)) × HasEvents keep_tags text es × Receives takes r es s
 all_taken (whole es has received) ok = (es, has, received)
-all_taken (faulted es why after received) ok = cc
-all_taken (refused es last p begins received takes) ok = cc
+all_taken answers ok = cc
 
 pub one_list_of_pushed_events : {R S : Type 0} (takes : R → Ev → Position → Result (Unit {0}) ErrorReport → R → Type 0) (others : S → Ev → Position → Result (Unit {0}) ErrorReport → S → Type 0)
     → OneListOfPushedEvents takes others

@@ -1,28 +1,10 @@
 -- The finished anchors of a map, as clauses see them: what an alias means.
-use Rattle.std.specs.Ordering.{nat_cmp}
-use Rattle.std.specs.BTreeMap.{is_at}
-use Rattle.std.specs.Map.{lookup}
-use Rattle.yaml_loader.proofs.Common.{[], aliased, Anchors, anchors_of, ap, AreAlike, arith, bad_value, Bool, cond, false, finished, has_key, IfErr, IfErr-weaker, if◌then◌else◌, insert, IsRefusedBy, List, nat_eq, nat_tests, None, on_ok_weaker, OnOk, Opened, opened_mapping, opened_sequence, Option, option_map, out_of_nesting, reads, ReadsTo, refl, Refusal, repeats, Result, Some, Step, subst, suc, sym, Tree, true, Unfinished, unwrap_or, view, with_anchors, with_node, with_root, with_tree, Yaml, zero, ℕ, ◌<◌, ◌∙◌, ◌∷◌, ◌≡◌}
+use Rattle.yaml_loader.proofs.Common.{[], aliased, Anchors, anchors_of, ap, AreAlike, arith, bad_value, Bool, cond, Err, false, finished, has_key, IfErr, if◌then◌else◌, insert, is_at, IsRefusedBy, List, lookup, nat_cmp, nat_eq, None, Ok, OnOk, Opened, opened_mapping, Option, option_map, reads, ReadsTo, refl, Refusal, repeats, Result, Some, Step, subst, suc, sym, Tree, true, Unfinished, unwrap_or, view, with_anchors, with_node, with_root, with_tree, Yaml, zero, ℕ, ◌<◌, ◌∙◌, ◌∷◌, ◌≡◌}
 use Rattle.yaml_loader.specs.declared.reading.Refusal.TheVariants as refusal
-
-at_number : (n k : ℕ) → is_at (nat_cmp n) k ≡ nat_eq n k
-at_number n k = grind (arith, nat_tests)
-
-same_number : (n k : ℕ) → nat_eq n k ≡ nat_eq k n
-same_number n k = grind (arith, nat_tests)
-
--- the tree under a number, where there is one
-abbrev tree_or_bad : Option Yaml → Tree
-tree_or_bad o = unwrap_or (option_map view o) bad_value
+use Rattle.yaml_loader.proofs.Anchors.{found_at, put_at}
 
 pub aliased_is : (es : List (ℕ × Yaml)) (n : ℕ) → aliased n (anchors_of es) ≡ unwrap_or (option_map view (lookup (is_at (nat_cmp n)) es)) bad_value
-aliased_is [] n = refl
-aliased_is (e ∷ es) n = by (is_at (nat_cmp n) e.0) (nat_eq n e.0) (at_number n e.0) (aliased_is es n)
-  where
-    by : (a b : Bool) → a ≡ b → aliased n (anchors_of es) ≡ tree_or_bad (lookup (is_at (nat_cmp n)) es)
-        → (if b then view e.1 else aliased n (anchors_of es)) ≡ tree_or_bad (cond a (Some e.1) (lookup (is_at (nat_cmp n)) es))
-    by true b h ih = ap (λ x. if x then view e.1 else aliased n (anchors_of es)) (sym h)
-    by false b h ih = ap (λ x. if x then view e.1 else aliased n (anchors_of es)) (sym h) ∙ ih
+aliased_is es n = found_at view bad_value (λ n es. aliased n (anchors_of es)) (λ n. refl) (λ n e es. refl) es n
 
 finished_at : (a : ℕ) (t : Tree) (anchors : Anchors) → 0 < a → finished a t anchors ≡ (a, t) ∷ anchors
 finished_at zero t anchors h = absurd (omega arith)
@@ -33,12 +15,8 @@ pub finished_in : (es fs : List (ℕ × Yaml)) (a : ℕ) (copy : Yaml) (t : Tree
     → ((q : ℕ) → lookup (is_at (nat_cmp q)) fs ≡ cond (is_at (nat_cmp a) q) (Some copy) (lookup (is_at (nat_cmp q)) es))
     → (n : ℕ) → aliased n (finished a t (anchors_of es)) ≡ aliased n (anchors_of fs)
 finished_in es fs a copy t some same puts n =
-    ap (aliased n) (finished_at a t (anchors_of es) some) ∙ by (nat_eq n a) (is_at (nat_cmp a) n) (same_number n a ∙ sym (at_number a n)) (puts n) ∙ sym (aliased_is fs n)
-  where
-    by : (b d : Bool) → b ≡ d → lookup (is_at (nat_cmp n)) fs ≡ cond d (Some copy) (lookup (is_at (nat_cmp n)) es)
-        → (if b then t else aliased n (anchors_of es)) ≡ tree_or_bad (lookup (is_at (nat_cmp n)) fs)
-    by b true h e = ap (λ x. if x then t else aliased n (anchors_of es)) h ∙ sym same ∙ sym (ap tree_or_bad e)
-    by b false h e = ap (λ x. if x then t else aliased n (anchors_of es)) h ∙ aliased_is es n ∙ sym (ap tree_or_bad e)
+    ap (aliased n) (finished_at a t (anchors_of es) some) ∙ ap (λ u. if nat_eq n a then u else aliased n (anchors_of es)) (sym same)
+    ∙ sym (put_at view bad_value (λ n es. aliased n (anchors_of es)) (λ n. refl) (λ n e es. refl) es fs a copy puts n)
 
 -- ---- the anchors in a step
 
@@ -49,42 +27,35 @@ with_root_anchors t u anchors (Some r) = refl
 -- a step that inserts a tree leaves the anchors, and doesn't look at them
 pub with_tree_anchors : (t : Tree) (u : Unfinished) (anchors : Anchors) (os : List Opened) → with_tree t (record u { anchors = anchors }) os ≡ with_anchors anchors (with_tree t u os)
 with_tree_anchors t u anchors [] = with_root_anchors t u anchors u.root
-with_tree_anchors t u anchors (opened_sequence a ts ∷ outer) = refl
-with_tree_anchors t u anchors (opened_mapping a ps None ∷ outer) = refl
 with_tree_anchors t u anchors (opened_mapping a ps (Some k) ∷ outer) = by (has_key k ps)
   where
     by : (b : Bool) → (if b then repeats k else reads (record u { opened = opened_mapping a (insert k t ps) None ∷ outer; anchors = anchors }))
         ≡ with_anchors anchors (if b then repeats k else reads (record u { opened = opened_mapping a (insert k t ps) None ∷ outer }))
     by true = refl
     by false = refl
+with_tree_anchors t u anchors (o ∷ outer) = refl
 
 reads_alike : (s : Step) (a b : Anchors) (v : Unfinished) → ((n : ℕ) → aliased n a ≡ aliased n b) → with_anchors b s ≡ reads v → ReadsTo (with_anchors a s) v
 reads_alike (reads u) a b v same e =
     let f : record u { anchors = b } ≡ v = cc in
     subst (λ w. AreAlike (record u { anchors = a }) w) f (record { documents = refl; opened = refl; root = refl; aliases = same })
-reads_alike (repeats k) a b v same e = cc
-reads_alike out_of_nesting a b v same e = cc
+reads_alike s a b v same e = cc
 
 refused_alike : (r : Refusal) (s : Step) (a b : Anchors) (opened : List Opened) → IsRefusedBy r (with_anchors b s) opened → IsRefusedBy r (with_anchors a s) opened
 refused_alike refusal.OutOfMemory s a b opened h = tt
 refused_alike refusal.OutOfNesting (reads u) a b opened h = cc
-refused_alike refusal.OutOfNesting (repeats k) a b opened h = h
-refused_alike refusal.OutOfNesting out_of_nesting a b opened h = h
 refused_alike refusal.RepeatedKey (reads u) a b opened h = cc
-refused_alike refusal.RepeatedKey (repeats k) a b opened h = h
-refused_alike refusal.RepeatedKey out_of_nesting a b opened h = h
+refused_alike r s a b opened h = h
 
 -- a tree is inserted over anchors in which each alias means the same
-pub reads_over : (t : Tree) (u : Unfinished) (os : List Opened) (a b : Anchors) (v : Unfinished) → ((n : ℕ) → aliased n a ≡ aliased n b)
-    → with_tree t (record u { anchors = b }) os ≡ reads v → ReadsTo (with_tree t (record u { anchors = a }) os) v
-reads_over t u os a b v same e =
-    subst (λ s. ReadsTo s v) (sym (with_tree_anchors t u a os)) (reads_alike (with_tree t u os) a b v same (sym (with_tree_anchors t u b os) ∙ e))
-
-pub refused_over : (r : Refusal) (t : Tree) (u : Unfinished) (os : List Opened) (a b : Anchors) (opened : List Opened)
-    → IsRefusedBy r (with_tree t (record u { anchors = b }) os) opened → IsRefusedBy r (with_tree t (record u { anchors = a }) os) opened
-refused_over r t u os a b opened h =
-    subst (λ s. IsRefusedBy r s opened) (sym (with_tree_anchors t u a os))
-    (refused_alike r (with_tree t u os) a b opened (subst (λ s. IsRefusedBy r s opened) (with_tree_anchors t u b os) h))
+pub inserted_over : (r : Result (Unit {0}) Refusal) (t : Tree) (u : Unfinished) (os : List Opened) (a b : Anchors) (v : Unfinished) → ((n : ℕ) → aliased n a ≡ aliased n b)
+    → OnOk r (with_tree t (record u { anchors = b }) os ≡ reads v) → IfErr r (λ x. IsRefusedBy x (with_tree t (record u { anchors = b }) os) v.opened)
+    → OnOk r (ReadsTo (with_tree t (record u { anchors = a }) os) v) × IfErr r (λ x. IsRefusedBy x (with_tree t (record u { anchors = a }) os) v.opened)
+inserted_over (Ok x) t u os a b v same ok err =
+    (subst (λ s. ReadsTo s v) (sym (with_tree_anchors t u a os)) (reads_alike (with_tree t u os) a b v same (sym (with_tree_anchors t u b os) ∙ ok)), tt)
+inserted_over (Err r) t u os a b v same ok err =
+    let refused = refused_alike r (with_tree t u os) a b v.opened (subst (λ s. IsRefusedBy r s v.opened) (with_tree_anchors t u b os) err) in
+    (tt, subst (λ s. IsRefusedBy r s v.opened) (sym (with_tree_anchors t u a os)) refused)
 
 -- ---- what a step says of the open collections doesn't hang on those that stood there
 
@@ -92,23 +63,17 @@ with_root_opened : (t : Tree) (u : Unfinished) (x : List Opened) (root : Option 
 with_root_opened t u x None = refl
 with_root_opened t u x (Some r) = refl
 
-pub with_tree_opened : (t : Tree) (u : Unfinished) (x os : List Opened) → with_tree t (record u { opened = x }) os ≡ with_tree t u os
+with_tree_opened : (t : Tree) (u : Unfinished) (x os : List Opened) → with_tree t (record u { opened = x }) os ≡ with_tree t u os
 with_tree_opened t u x [] = with_root_opened t u x u.root
-with_tree_opened t u x (opened_sequence a ts ∷ outer) = refl
 with_tree_opened t u x (opened_mapping a ps None ∷ outer) = refl
-with_tree_opened t u x (opened_mapping a ps (Some k) ∷ outer) = refl
+with_tree_opened t u x (o ∷ outer) = refl
 
-pub with_node_opened : (a : ℕ) (t : Tree) (u : Unfinished) (x os : List Opened) → with_node a t (record u { opened = x }) os ≡ with_node a t u os
+with_node_opened : (a : ℕ) (t : Tree) (u : Unfinished) (x os : List Opened) → with_node a t (record u { opened = x }) os ≡ with_node a t u os
 with_node_opened a t u x os = with_tree_opened t (record u { anchors = finished a t u.anchors }) x os
 
--- ---- the end of a collection: its node goes to those around it
-
-module _ (a : ℕ) (t : Tree) (u : Unfinished) (outer : List Opened) (v : Unfinished) {s : Step} (r : Result (Unit {0}) Refusal) (is : with_node a t u outer ≡ s) where
-  same_end : with_node a t (record u { opened = outer }) outer ≡ s
-  same_end = with_node_opened a t u outer outer ∙ is
-
-  pub end_reads : OnOk r (ReadsTo (with_node a t (record u { opened = outer }) outer) v) → OnOk r (ReadsTo s v)
-  end_reads = on_ok_weaker r (λ h. subst (λ x. ReadsTo x v) same_end h)
-
-  pub end_refuses : IfErr r (λ x. IsRefusedBy x (with_node a t (record u { opened = outer }) outer) v.opened) → IfErr r (λ x. IsRefusedBy x s v.opened)
-  end_refuses = IfErr-weaker r (λ x. IsRefusedBy x (with_node a t (record u { opened = outer }) outer) v.opened) (λ x. IsRefusedBy x s v.opened) (λ x h. subst (λ y. IsRefusedBy x y v.opened) same_end h)
+-- The end of a collection: its node goes to those around it.
+pub ended : (a : ℕ) (t : Tree) (u : Unfinished) (outer : List Opened) (v : Unfinished) {s : Step} (r : Result (Unit {0}) Refusal) → with_node a t u outer ≡ s
+    → OnOk r (ReadsTo (with_node a t (record u { opened = outer }) outer) v) → IfErr r (λ x. IsRefusedBy x (with_node a t (record u { opened = outer }) outer) v.opened)
+    → OnOk r (ReadsTo s v) × IfErr r (λ x. IsRefusedBy x s v.opened)
+ended a t u outer v r is ok err =
+    subst (λ s. OnOk r (ReadsTo s v) × IfErr r (λ x. IsRefusedBy x s v.opened)) (with_node_opened a t u outer outer ∙ is) (ok, err)

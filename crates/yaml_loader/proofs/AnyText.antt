@@ -1,24 +1,13 @@
 -- What a load answers of any text.
-use Rattle.yaml_loader.proofs.Common.{[], AnswersText, ap, at_work, BeginsEvents, BeginsPlaced, Bool, Err, ErrorReport, Ev, events_of, faulted, Gives, Global, HasDocuments, HasEvents, HasNoted, HasRead, inl, inr, IsFaultOf, IsNewFault, items_view, kept_fault, List, Loader, loader_of, Loads, LoadsText, nested_is_stream, new_loader, None, noted, OfTexts, Ok, one_by_one, Parsed, placed_stream, Position, reading, Receives, refl, refused, refused_at, Result, Scans, Some, subst, sym, Takes, texts_are_answered, Token, toks, Tree, true, Vec, wants_memory, WantsMemory, whole, with_event_at, with_events, Yaml, YamlLoader, ℕ, ◌++◌, ◌∙◌, ◌∷◌, ◌≡◌}
+use Rattle.yaml_loader.proofs.Common.{[], AnswersText, ap, BeginsEvents, BeginsPlaced, Bool, Err, ErrorReport, Ev, events_of, faulted, Gives, Global, HasDocuments, HasEvents, HasRead, inl, inr, IsFaultOf, IsNewFault, items_view, kept_fault, List, Loader, loader_of, Loads, LoadsText, nested_is_stream, new_loader, None, OfTexts, Ok, one_by_one, Parsed, placed_stream, Position, reading, Receives, refl, refused, refused_at, Result, Scans, Some, subst, sym, Takes, texts_are_answered, Token, toks, Tree, true, Vec, want_of_memory, wants_memory, WantsMemory, whole, with_event_at, with_events, Yaml, YamlLoader, ℕ, ◌++◌, ◌∙◌, ◌∷◌, ◌≡◌}
 use Rattle.defs_event.specs.Unfinished as unfinished
 use Rattle.defs_event.proofs.StreamNests.{stream_nests}
 use Rattle.yaml_loader.specs.Gives as given
 use Rattle.yaml_loader.specs.Unread as unread
+use Rattle.yaml_loader.proofs.Finishing.{events_append, refused_stays, was_read, was_noted}
 use Rattle.yaml_loader.proofs.LoadLemmas.{with_last, StandsAfter, stands, new_fault, has_documents, has_noted}
 
 -- ---- events with which a stream's begin are not refused
-
-pub events_append : (x : Loader) (es fs : List (Ev × Position)) → with_events x (es ++ fs) ≡ with_events (with_events x es) fs
-events_append x [] fs = refl
-events_append x (e ∷ es) fs = events_append (with_event_at x e.0 e.1) es fs
-
-refused_stays : (documents : List Tree) (p : Position) (es : List (Ev × Position)) → with_events (unfinished.refused documents p) es ≡ unfinished.refused documents p
-refused_stays documents p [] = refl
-refused_stays documents p (e ∷ es) = refused_stays documents p es
-
-nothing_read_refused : (r : Result (List Tree) Tree) (documents : List Tree) (p : Position) → HasRead r (unfinished.refused documents p) → ⊥
-nothing_read_refused (Ok trees) documents p h = h
-nothing_read_refused (Err key) documents p h = h
 
 pub not_refused : (keep_tags : Bool) (tokens : List Token) (es : List (Ev × Position)) (p : Position) → BeginsPlaced keep_tags tokens es → refused_at (with_events new_loader es) ≡ Some p → ⊥
 not_refused keep_tags tokens es p b = by (with_events new_loader es) refl
@@ -26,15 +15,18 @@ not_refused keep_tags tokens es p b = by (with_events new_loader es) refl
     all : List (Ev × Position)
     all = es ++ b.more_events
 
+    never : (r : Result (List Tree) Tree) (documents : List Tree) (q : Position) → HasRead r (unfinished.refused documents q) → ⊥
+    never (Ok trees) documents q h = h
+    never (Err key) documents q h = h
+
     by : (x : Loader) → with_events new_loader es ≡ x → refused_at x ≡ Some p → ⊥
-    by (at_work u) e h = cc
-    by (noted documents key q) e h = cc
     by (unfinished.refused documents q) e h =
         let nested = stream_nests keep_tags (toks (tokens ++ b.more_tokens)) (events_of all) (placed_stream keep_tags (tokens ++ b.more_tokens) all b.stream) in
         let read = one_by_one nested.0 all (sym nested.1) in
         let stays : with_events new_loader all ≡ unfinished.refused documents q =
         events_append new_loader es b.more_events ∙ ap (λ x. with_events x b.more_events) e ∙ refused_stays documents q b.more_events in
-        nothing_read_refused (reading nested.0) documents q (subst (HasRead (reading nested.0)) stays read)
+        never (reading nested.0) documents q (subst (HasRead (reading nested.0)) stays read)
+    by x e h = cc
 
 -- ---- how the loader is left
 
@@ -43,12 +35,18 @@ abbrev pub LeftBy : Bool → List ℕ → Result (Unit {0}) ErrorReport → Yaml
 LeftBy keep_tags text (Ok u) n = (es : List (Ev × Position)) × HasEvents keep_tags text es × StandsAfter es n
 LeftBy keep_tags text (Err f) n = IsFaultOf keep_tags text f
 
+pub wants : {f : ErrorReport} {p : Position} → f ≡ want_of_memory p → WantsMemory f
+wants e = record { memory = ap (λ g. g.memory) e; text = ap (λ g. g.text) e }
+
+-- a new fault with an event that is not refused
+pub new_fault_wants : {f : ErrorReport} {p : Position} (l : Loader) → IsNewFault f p l → (refused_at l ≡ Some p → ⊥) → WantsMemory f
+new_fault_wants l (inl e) other = wants e
+new_fault_wants l (inr nesting) other = absurd (other nesting.1)
+
 refuses_for_memory : {keep_tags : Bool} {text : List ℕ} (es : List (Ev × Position)) (e : Ev) (p : Position) (f : ErrorReport) → IsNewFault f p (with_event_at (with_events new_loader es) e p) → BeginsEvents keep_tags text (es ++ (e, p) ∷ [])
     → WantsMemory f
-refuses_for_memory {keep_tags} es e p f why b = elim why [
-  | inl wants ↦ record { memory = ap (λ g. g.memory) wants; text = ap (λ g. g.text) wants }
-  | inr nesting ↦ absurd (not_refused keep_tags b.before (es ++ (e, p) ∷ []) p b.begins (ap refused_at (with_last new_loader es e p) ∙ nesting.1))
-]
+refuses_for_memory {keep_tags} es e p f why b =
+    new_fault_wants (with_event_at (with_events new_loader es) e p) why (λ at. not_refused keep_tags b.before (es ++ (e, p) ∷ []) p b.begins (ap refused_at (with_last new_loader es e p) ∙ at))
 
 left_by : {l n : YamlLoader} {keep_tags : Bool} {text : List ℕ} {result : Result (Unit {0}) ErrorReport} → loader_of l ≡ new_loader → kept_fault l ≡ None → AnswersText Takes keep_tags text l result n → LeftBy keep_tags text result n
 left_by {l} new clear (whole es h took) = (es, h, stands l new clear took)
@@ -61,18 +59,6 @@ pub any_text_leaves : {old new : Parsed} {l n : YamlLoader} {result : Result (Un
 any_text_leaves {old} {new} {l} {n} {result} empty clear scans loads start text may = left_by empty clear (texts_are_answered Takes old new l n result text start (scans.scans text may) loads)
 
 -- ---- what the loader gives then
-
-was_read : (r : Result (List Tree) Tree) (x : Loader) (documents : List Tree) → HasRead r x → HasDocuments x documents → r ≡ Ok documents
-was_read (Ok trees) (at_work u) documents h has = ap Ok (sym h.0 ∙ has)
-was_read (Err key) (at_work u) documents h has = absurd h
-was_read r (noted d k p) documents h has = absurd has
-was_read r (unfinished.refused d p) documents h has = absurd has
-
-pub noted_key : (r : Result (List Tree) Tree) (x : Loader) (key : Tree) (p : Position) → HasRead r x → HasNoted x key p → r ≡ Err key
-noted_key r (at_work u) key p h has = absurd has
-noted_key (Ok trees) (noted d k q) key p h has = absurd h
-noted_key (Err other) (noted d k q) key p h has = ap Err (sym h ∙ has.0)
-noted_key r (unfinished.refused d q) key p h has = absurd has
 
 -- of a loader that stands after all events of a text
 text_given : {keep_tags : Bool} {text : List ℕ} (es : List (Ev × Position)) (l : YamlLoader) (result : Result (Vec Yaml Global) ErrorReport) → HasEvents keep_tags text es → StandsAfter es l → Gives l result
@@ -92,7 +78,7 @@ text_given es l (Err f) h after (given.kept is) = let both = sym after.clear ∙
 text_given es l (Err f) h after (given.repeated_key key has tells owned) =
     let x = with_events new_loader es in
     let had = has_noted x (loader_of l) key f.position after.alike has in
-    unread.repeated_key es h key (noted_key (reading h.documents) x key f.position (one_by_one h.documents es h.events_are) had) had (tells after.tells) owned
+    unread.repeated_key es h key (was_noted (reading h.documents) x key f.position (one_by_one h.documents es h.events_are) had) had (tells after.tells) owned
 
 pub left_gives : {keep_tags : Bool} {text : List ℕ} (l : YamlLoader) (result : Result (Vec Yaml Global) ErrorReport) → LeftBy keep_tags text (Ok tt) l → Gives l result → LoadsText keep_tags text result
 left_gives l result (es, h, after) gives = text_given es l result h after gives

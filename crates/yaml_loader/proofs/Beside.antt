@@ -1,251 +1,209 @@
--- A loader that stands at a document's start, beside a new one: over the document's events both come to the same.
-use Rattle.yaml_loader.proofs.DocumentCommon.{[], aliased, Anchors, ap, append-nil, append_assoc, arith, array, at_work, bad_value, Bool, Ev, events_of, false, has_key, hash, if◌then◌else◌, insert, items_of, le-max_left, le-max_right, List, Loader, loader_after, max, nat_eq, None, noted, Opened, opened_mapping, opened_sequence, Option, out_of_nesting, pairs_of, Position, reads, refl, refused, repeats, scalar_tree, Some, Step, subst, suc, sym, Tree, true, Unfinished, unwrap_or, with_document_end, with_event, with_event_at, with_events, with_mapping_end, with_node, with_root, with_sequence_end, with_start, with_tree, zero, ℕ, ◌++◌, ◌<◌, ◌∷◌, ◌≡◌, ◌≤◌}
-use Rattle.defs_event.specs.Anchors.{finished}
-use Rattle.yaml_loader.proofs.Numbers.{anchor_of, highest, IsOver}
+-- Two loaders beside each other, over the same events: they differ in the documents before, and in anchors that no alias tells apart.
+use Rattle.yaml_loader.proofs.Common.{[], aliased, Anchors, ap, arith, array, at_work, bad_value, Bool, documents_of, Ev, false, finished, has_key, hash, HasDocuments, HasNoted, HasRead, if◌then◌else◌, insert, items_of, List, Loader, loader_after, nat_eq, nat_tests, None, noted, Ok, Opened, opened_mapping, opened_sequence, Option, out_of_nesting, pairs_of, Position, reads, refl, refused_at, repeats, scalar_tree, Some, Step, subst, suc, sym, Tree, true, Unfinished, unwrap_or, with_document_end, with_event, with_event_at, with_events, with_mapping_end, with_node, with_sequence_end, with_start, with_tree, zero, ℕ, ◌++◌, ◌∙◌, ◌∷◌, ◌≡◌}
+use Rattle.std.proofs.Common.{append_assoc}
+use Rattle.defs_event.specs.Unfinished.{refused, with_root}
+use Rattle.yaml_loader.specs.OneDocument.{is_end, HasNoEnd}
 
--- ---- the numbers of the anchors that are finished or open
+-- the number of the anchor of the node that begins with the event, or 0
+abbrev pub anchor_of : Ev → ℕ
+anchor_of (Ev.scalar x s a t) = a
+anchor_of (Ev.sequence_start a t) = a
+anchor_of (Ev.mapping_start a t) = a
+anchor_of _ = 0
 
-abbrev AnchorsUpTo : ℕ → Anchors → Type 0
-AnchorsUpTo high [] = Unit {0}
-AnchorsUpTo high (a ∷ anchors) = (a.0 ≤ high) × AnchorsUpTo high anchors
-
-abbrev OpenUpTo : ℕ → Opened → Type 0
-OpenUpTo high (opened_sequence a ts) = a ≤ high
-OpenUpTo high (opened_mapping a ps k) = a ≤ high
-
-abbrev AllOpenUpTo : ℕ → List Opened → Type 0
-AllOpenUpTo high [] = Unit {0}
-AllOpenUpTo high (c ∷ outer) = OpenUpTo high c × AllOpenUpTo high outer
-
-pub record IsUpTo (high : ℕ) (u : Unfinished) : Type 0 where
-  pub anchors : AnchorsUpTo high u.anchors
-  pub opened : AllOpenUpTo high u.opened
-
-abbrev StepUpTo : ℕ → Step → Type 0
-StepUpTo high (reads u) = IsUpTo high u
-StepUpTo high _ = Unit {0}
-
-abbrev pub LoaderUpTo : ℕ → Loader → Type 0
-LoaderUpTo high (at_work u) = IsUpTo high u
-LoaderUpTo high _ = Unit {0}
-
-anchors_more : (low high : ℕ) (anchors : Anchors) → low ≤ high → AnchorsUpTo low anchors → AnchorsUpTo high anchors
-anchors_more low high [] h a = tt
-anchors_more low high (x ∷ anchors) h a = let one = a.0 in (omega (arith, h, one), anchors_more low high anchors h a.1)
-
-open_more : (low high : ℕ) (os : List Opened) → low ≤ high → AllOpenUpTo low os → AllOpenUpTo high os
-open_more low high [] h a = tt
-open_more low high (opened_sequence n ts ∷ os) h a = let one = a.0 in (omega (arith, h, one), open_more low high os h a.1)
-open_more low high (opened_mapping n ps k ∷ os) h a = let one = a.0 in (omega (arith, h, one), open_more low high os h a.1)
-
-finished_up_to : (high a : ℕ) (t : Tree) (anchors : Anchors) → a ≤ high → AnchorsUpTo high anchors → AnchorsUpTo high (finished a t anchors)
-finished_up_to high zero t anchors h all = all
-finished_up_to high (suc n) t anchors h all = (h, all)
-
-over_all : (high n : ℕ) (anchors : Anchors) → high < n → AnchorsUpTo high anchors → aliased n anchors ≡ bad_value
-over_all high n [] h all = refl
-over_all high n (a ∷ anchors) h all = by (nat_eq n a.0) refl (over_all high n anchors h all.1)
-  where
-    other : nat_eq n a.0 ≡ true → ⊥
-    other e = let one = all.0 in grind (arith, e, one, h)
-
-    by : (b : Bool) → nat_eq n a.0 ≡ b → aliased n anchors ≡ bad_value → (if b then a.1 else aliased n anchors) ≡ bad_value
-    by true e k = absurd (other e)
-    by false e k = k
-
-module _ (high : ℕ) where
-  tree_up_to : (t : Tree) (u : Unfinished) (os : List Opened) → AnchorsUpTo high u.anchors → AllOpenUpTo high os → StepUpTo high (with_tree t u os)
-  tree_up_to t u [] h o = by u.root
-    where
-      by : (root : Option Tree) → StepUpTo high (with_root t u root)
-      by None = record { anchors = h; opened = tt }
-      by (Some x) = tt
-  tree_up_to t u (opened_sequence a ts ∷ os) h o = record { anchors = h; opened = o }
-  tree_up_to t u (opened_mapping a ps None ∷ os) h o = record { anchors = h; opened = o }
-  tree_up_to t u (opened_mapping a ps (Some k) ∷ os) h o = by (has_key k ps)
-    where
-      by : (b : Bool) → StepUpTo high (if b then repeats k else reads (record u { opened = opened_mapping a (insert k t ps) None ∷ os }))
-      by true = tt
-      by false = record { anchors = h; opened = o }
-
-  node_up_to : (a : ℕ) (t : Tree) (u : Unfinished) (os : List Opened) → a ≤ high → AnchorsUpTo high u.anchors → AllOpenUpTo high os → StepUpTo high (with_node a t u os)
-  node_up_to a t u os n h o = tree_up_to t (record u { anchors = finished a t u.anchors }) os (finished_up_to high a t u.anchors n h) o
-
-  start_up_to : (c : Opened) (u : Unfinished) (os : List Opened) (root : Option Tree) → OpenUpTo high c → AnchorsUpTo high u.anchors → AllOpenUpTo high os → StepUpTo high (with_start c u os root)
-  start_up_to c u [] None n h o = record { anchors = h; opened = (n, tt) }
-  start_up_to c u [] (Some x) n h o = tt
-  start_up_to c u (d ∷ os) root n h o = record { anchors = h; opened = (n, o) }
-
-  sequence_end_up_to : (u : Unfinished) (os : List Opened) → AnchorsUpTo high u.anchors → AllOpenUpTo high os → StepUpTo high (with_sequence_end u os)
-  sequence_end_up_to u [] h o = tt
-  sequence_end_up_to u (opened_sequence a ts ∷ os) h o = node_up_to a (array (items_of ts)) u os o.0 h o.1
-  sequence_end_up_to u (opened_mapping a ps k ∷ os) h o = tt
-
-  mapping_end_up_to : (u : Unfinished) (os : List Opened) → AnchorsUpTo high u.anchors → AllOpenUpTo high os → StepUpTo high (with_mapping_end u os)
-  mapping_end_up_to u [] h o = tt
-  mapping_end_up_to u (opened_sequence a ts ∷ os) h o = tt
-  mapping_end_up_to u (opened_mapping a ps None ∷ os) h o = node_up_to a (hash (pairs_of ps)) u os o.0 h o.1
-  mapping_end_up_to u (opened_mapping a ps (Some k) ∷ os) h o = tt
-
-  document_end_up_to : (u : Unfinished) (os : List Opened) → IsUpTo high u → StepUpTo high (with_document_end u os)
-  document_end_up_to u [] h = record { anchors = h.anchors; opened = h.opened }
-  document_end_up_to u (c ∷ os) h = tt
-
-  event_up_to : (u : Unfinished) (e : Ev) → anchor_of e ≤ high → IsUpTo high u → StepUpTo high (with_event u e)
-  event_up_to u Ev.nothing n h = h
-  event_up_to u Ev.stream_start n h = h
-  event_up_to u Ev.stream_end n h = h
-  event_up_to u Ev.document_start n h = h
-  event_up_to u Ev.document_end n h = document_end_up_to u u.opened h
-  event_up_to u (Ev.alias k) n h = tree_up_to (aliased k u.anchors) u u.opened h.anchors h.opened
-  event_up_to u (Ev.scalar x s a t) n h = node_up_to a (scalar_tree x s t) u u.opened n h.anchors h.opened
-  event_up_to u (Ev.sequence_start a t) n h = start_up_to (opened_sequence a []) u u.opened u.root n h.anchors h.opened
-  event_up_to u Ev.sequence_end n h = sequence_end_up_to u u.opened h.anchors h.opened
-  event_up_to u (Ev.mapping_start a t) n h = start_up_to (opened_mapping a [] None) u u.opened u.root n h.anchors h.opened
-  event_up_to u Ev.mapping_end n h = mapping_end_up_to u u.opened h.anchors h.opened
-
-after_up_to : (high : ℕ) (s : Step) (documents : List Tree) (p : Position) → StepUpTo high s → LoaderUpTo high (loader_after s documents p)
-after_up_to high (reads u) documents p h = h
-after_up_to high (repeats key) documents p h = tt
-after_up_to high out_of_nesting documents p h = tt
-
-loader_up_to : (high : ℕ) (l : Loader) (e : Ev) (p : Position) → LoaderUpTo high l → LoaderUpTo (max high (anchor_of e)) (with_event_at l e p)
-loader_up_to high (at_work u) e p h =
-    let more = le-max_left high (anchor_of e) in
-    let all = max high (anchor_of e) in
-    after_up_to all (with_event u e) u.documents p
-    (event_up_to all u e (le-max_right high (anchor_of e)) (record { anchors = anchors_more high all u.anchors more h.anchors; opened = open_more high all u.opened more h.opened }))
-loader_up_to high (noted documents key at) e p h = tt
-loader_up_to high (refused documents at) e p h = tt
-
--- After events, the anchors have numbers up to the highest one that came.
-pub events_up_to : (high : ℕ) (l : Loader) (es : List (Ev × Position)) → LoaderUpTo high l → LoaderUpTo (highest high (events_of es)) (with_events l es)
-events_up_to high l [] h = h
-events_up_to high l (e ∷ es) h = events_up_to (max high (anchor_of e.0)) (with_event_at l e.0 e.1) es (loader_up_to high l e.0 e.1 h)
-
--- ---- beside a new loader
-
--- Each alias over this number means the same.
-abbrev MeanSame : ℕ → Anchors → Anchors → Type 0
-MeanSame low a b = (n : ℕ) → low < n → aliased n a ≡ aliased n b
-
--- All is the same but for the documents before, and for anchors that no alias means.
-pub record AreBeside (low : ℕ) (before : List Tree) (u v : Unfinished) : Type 0 where
-  pub documents : u.documents ≡ before ++ v.documents
-  pub opened : u.opened ≡ v.opened
-  pub root : u.root ≡ v.root
-  pub aliases : MeanSame low u.anchors v.anchors
-
-abbrev StepsBeside : ℕ → List Tree → Step → Step → Type 0
-StepsBeside low before (reads u) (reads v) = AreBeside low before u v
-StepsBeside low before (reads u) _ = ⊥
-StepsBeside low before (repeats k) s = repeats k ≡ s
-StepsBeside low before out_of_nesting s = out_of_nesting ≡ s
-
-abbrev pub StandBeside : ℕ → List Tree → Loader → Loader → Type 0
-StandBeside low before (at_work u) (at_work v) = AreBeside low before u v
-StandBeside low before (noted documents k p) l = (ds : List Tree) × (documents ≡ before ++ ds) × (l ≡ noted ds k p)
-StandBeside low before (refused documents p) l = (ds : List Tree) × (documents ≡ before ++ ds) × (l ≡ refused ds p)
-StandBeside low before (at_work u) _ = ⊥
-
-finished_same : (low k : ℕ) (t : Tree) (a b : Anchors) → MeanSame low a b → MeanSame low (finished k t a) (finished k t b)
-finished_same low zero t a b h n o = h n o
-finished_same low (suc k) t a b h n o = by (nat_eq n (suc k))
-  where
-    by : (x : Bool) → (if x then t else aliased n a) ≡ (if x then t else aliased n b)
-    by true = refl
-    by false = h n o
-
-abbrev state : List Tree → List Opened → Option Tree → Anchors → Unfinished
+abbrev pub state : List Tree → List Opened → Option Tree → Anchors → Unfinished
 state docs opened root anchors = record { documents = docs; opened = opened; root = root; anchors = anchors }
 
-module _ (low : ℕ) (before docs : List Tree) where
-  -- the one with these anchors, the other with those
-  abbrev one : List Opened → Option Tree → Anchors → Unfinished
-  one os root a = state (before ++ docs) os root a
+-- ---- what is known of the anchors: R of each number, and of its two trees
 
-  tree_beside : (t : Tree) (all os : List Opened) (root : Option Tree) (a b : Anchors) → MeanSame low a b → StepsBeside low before (with_tree t (one all root a) os) (with_tree t (state docs all root b) os)
-  tree_beside t all [] None a b h = record { documents = refl; opened = refl; root = refl; aliases = h }
-  tree_beside t all [] (Some x) a b h = refl
-  tree_beside t all (opened_sequence n ts ∷ os) root a b h = record { documents = refl; opened = refl; root = refl; aliases = h }
-  tree_beside t all (opened_mapping n ps None ∷ os) root a b h = record { documents = refl; opened = refl; root = refl; aliases = h }
-  tree_beside t all (opened_mapping n ps (Some k) ∷ os) root a b h = by (has_key k ps)
+module _ (R : ℕ → Tree → Tree → Type 0) where
+  abbrev pub AreRelated : Anchors → Anchors → Type 0
+  AreRelated a b = (n : ℕ) → R n (aliased n a) (aliased n b)
+
+  -- Both may finish a node with this anchor.
+  abbrev pub MayFinish : ℕ → Type 0
+  MayFinish a = (t : Tree) → R a t t
+
+  abbrev pub AllMayFinish : List Opened → Type 0
+  AllMayFinish [] = Unit {0}
+  AllMayFinish (opened_sequence a ts ∷ os) = MayFinish a × AllMayFinish os
+  AllMayFinish (opened_mapping a ps k ∷ os) = MayFinish a × AllMayFinish os
+
+  -- An alias means the same, and a node may be finished.
+  abbrev pub Suits : Ev → Type 0
+  Suits (Ev.alias n) = (s t : Tree) → R n s t → s ≡ t
+  Suits e = MayFinish (anchor_of e)
+
+  abbrev pub AllSuit : List (Ev × Position) → Type 0
+  AllSuit [] = Unit {0}
+  AllSuit (e ∷ es) = Suits e.0 × AllSuit es
+
+  finished_related : (k : ℕ) (t : Tree) (a b : Anchors) → MayFinish k → AreRelated a b → AreRelated (finished k t a) (finished k t b)
+  finished_related zero t a b f h n = h n
+  finished_related (suc k) t a b f h n = by (nat_eq n (suc k)) refl
+    where
+      by : (x : Bool) → nat_eq n (suc k) ≡ x → R n (if x then t else aliased n a) (if x then t else aliased n b)
+      by true e = let same : suc k ≡ n = grind (arith, nat_tests, e) in subst (λ m. R m t t) same (f t)
+      by false e = h n
+
+-- All is the same but for the documents before, and the anchors.
+pub record AreBeside (R : ℕ → Tree → Tree → Type 0) (before : List Tree) (u v : Unfinished) : Type 0 where
+  pub is : u ≡ state (before ++ v.documents) v.opened v.root u.anchors
+  pub anchors : AreRelated R u.anchors v.anchors
+  pub opened : AllMayFinish R v.opened
+
+-- One step of both. But for an end, the documents stay.
+data StepsBeside (R : ℕ → Tree → Tree → Type 0) (before docs : List Tree) (end : Bool) : Step → Step → Type 0 where
+  reading : {u v : Unfinished} → AreBeside R before u v → (end ≡ false → v.documents ≡ docs) → StepsBeside R before docs end (reads u) (reads v)
+  repeating : (key : Tree) → StepsBeside R before docs end (repeats key) (repeats key)
+  nesting : StepsBeside R before docs end out_of_nesting out_of_nesting
+
+pub data StandBeside (R : ℕ → Tree → Tree → Type 0) (before : List Tree) : Loader → Loader → Type 0 where
+  working : {u v : Unfinished} → AreBeside R before u v → StandBeside R before (at_work u) (at_work v)
+  noting : {ds es : List Tree} {key : Tree} {p : Position} → ds ≡ before ++ es → StandBeside R before (noted ds key p) (noted es key p)
+  refusing : {ds es : List Tree} {p : Position} → ds ≡ before ++ es → StandBeside R before (refused ds p) (refused es p)
+
+-- ---- one step
+
+module _ (R : ℕ → Tree → Tree → Type 0) (before docs : List Tree) (end : Bool) (root : Option Tree) where
+  -- the one with these anchors, the other with those
+  abbrev one : List Opened → Anchors → Unfinished
+  one os a = state (before ++ docs) os root a
+
+  abbrev two : List Opened → Anchors → Unfinished
+  two os b = state docs os root b
+
+  abbrev Beside : Step → Step → Type 0
+  Beside s r = StepsBeside R before docs end s r
+
+  both : (os : List Opened) (r : Option Tree) (a b : Anchors) → AreRelated R a b → AllMayFinish R os
+      → Beside (reads (state (before ++ docs) os r a)) (reads (state docs os r b))
+  both os r a b h o = reading (record { is = refl; anchors = h; opened = o }) (λ k. refl)
+
+  tree_beside : (t : Tree) (all os : List Opened) (a b : Anchors) → AreRelated R a b → AllMayFinish R os
+      → Beside (with_tree t (one all a) os) (with_tree t (two all b) os)
+  tree_beside t all [] a b h o = by root
+    where
+      by : (r : Option Tree) → Beside (with_root t (one all a) r) (with_root t (two all b) r)
+      by None = both [] (Some t) a b h o
+      by (Some x) = nesting
+  tree_beside t all (opened_sequence n ts ∷ os) a b h o = both (opened_sequence n (ts ++ t ∷ []) ∷ os) root a b h o
+  tree_beside t all (opened_mapping n ps None ∷ os) a b h o = both (opened_mapping n ps (Some t) ∷ os) root a b h o
+  tree_beside t all (opened_mapping n ps (Some k) ∷ os) a b h o = by (has_key k ps)
     where
       new : List Opened
       new = opened_mapping n (insert k t ps) None ∷ os
 
-      by : (x : Bool) → StepsBeside low before (if x then repeats k else reads (one new root a)) (if x then repeats k else reads (state docs new root b))
-      by true = refl
-      by false = record { documents = refl; opened = refl; root = refl; aliases = h }
+      by : (x : Bool) → Beside (if x then repeats k else reads (one new a)) (if x then repeats k else reads (two new b))
+      by true = repeating k
+      by false = both new root a b h o
 
-  node_beside : (k : ℕ) (t : Tree) (all os : List Opened) (root : Option Tree) (a b : Anchors) → MeanSame low a b → StepsBeside low before (with_node k t (one all root a) os) (with_node k t (state docs all root b) os)
-  node_beside k t all os root a b h = tree_beside t all os root (finished k t a) (finished k t b) (finished_same low k t a b h)
+  node_beside : (k : ℕ) (t : Tree) (all os : List Opened) (a b : Anchors) → AreRelated R a b → MayFinish R k → AllMayFinish R os
+      → Beside (with_node k t (one all a) os) (with_node k t (two all b) os)
+  node_beside k t all os a b h f o = tree_beside t all os (finished k t a) (finished k t b) (finished_related R k t a b f h) o
 
-  start_beside : (c : Opened) (all os : List Opened) (root r : Option Tree) (a b : Anchors) → MeanSame low a b → StepsBeside low before (with_start c (one all root a) os r) (with_start c (state docs all root b) os r)
-  start_beside c all [] root None a b h = record { documents = refl; opened = refl; root = refl; aliases = h }
-  start_beside c all [] root (Some x) a b h = refl
-  start_beside c all (d ∷ os) root r a b h = record { documents = refl; opened = refl; root = refl; aliases = h }
+  start_beside : (c : Opened) (all os : List Opened) (r : Option Tree) (a b : Anchors) → AreRelated R a b → AllMayFinish R (c ∷ os)
+      → Beside (with_start c (one all a) os r) (with_start c (two all b) os r)
+  start_beside c all [] (Some x) a b h o = nesting
+  start_beside c all os r a b h o = both (c ∷ os) root a b h o
 
-  sequence_end_beside : (all os : List Opened) (root : Option Tree) (a b : Anchors) → MeanSame low a b → StepsBeside low before (with_sequence_end (one all root a) os) (with_sequence_end (state docs all root b) os)
-  sequence_end_beside all [] root a b h = refl
-  sequence_end_beside all (opened_sequence k ts ∷ os) root a b h = node_beside k (array (items_of ts)) all os root a b h
-  sequence_end_beside all (opened_mapping k ps w ∷ os) root a b h = refl
+  sequence_end_beside : (all os : List Opened) (a b : Anchors) → AreRelated R a b → AllMayFinish R os
+      → Beside (with_sequence_end (one all a) os) (with_sequence_end (two all b) os)
+  sequence_end_beside all (opened_sequence k ts ∷ os) a b h o = node_beside k (array (items_of ts)) all os a b h o.0 o.1
+  sequence_end_beside all os a b h o = nesting
 
-  mapping_end_beside : (all os : List Opened) (root : Option Tree) (a b : Anchors) → MeanSame low a b → StepsBeside low before (with_mapping_end (one all root a) os) (with_mapping_end (state docs all root b) os)
-  mapping_end_beside all [] root a b h = refl
-  mapping_end_beside all (opened_sequence k ts ∷ os) root a b h = refl
-  mapping_end_beside all (opened_mapping k ps None ∷ os) root a b h = node_beside k (hash (pairs_of ps)) all os root a b h
-  mapping_end_beside all (opened_mapping k ps (Some w) ∷ os) root a b h = refl
+  mapping_end_beside : (all os : List Opened) (a b : Anchors) → AreRelated R a b → AllMayFinish R os
+      → Beside (with_mapping_end (one all a) os) (with_mapping_end (two all b) os)
+  mapping_end_beside all (opened_mapping k ps None ∷ os) a b h o = node_beside k (hash (pairs_of ps)) all os a b h o.0 o.1
+  mapping_end_beside all os a b h o = nesting
 
-  document_end_beside : (all os : List Opened) (root : Option Tree) (a b : Anchors) → MeanSame low a b → StepsBeside low before (with_document_end (one all root a) os) (with_document_end (state docs all root b) os)
-  document_end_beside all [] root a b h = record { documents = append_assoc before docs (unwrap_or root bad_value ∷ []); opened = refl; root = refl; aliases = h }
-  document_end_beside all (c ∷ os) root a b h = refl
+  document_end_beside : (all os : List Opened) (a b : Anchors) → (end ≡ false → true ≡ false) → AreRelated R a b → AllMayFinish R all
+      → Beside (with_document_end (one all a) os) (with_document_end (two all b) os)
+  document_end_beside all [] a b k h o =
+      let same = append_assoc before docs (unwrap_or root bad_value ∷ []) in
+      reading (record { is = ap (λ ds. state ds all None a) same; anchors = h; opened = o }) (λ f. let no = k f in cc)
+  document_end_beside all (c ∷ os) a b k h o = nesting
 
-  event_beside : (e : Ev) (os : List Opened) (root : Option Tree) (a b : Anchors) → IsOver low e → MeanSame low a b → StepsBeside low before (with_event (one os root a) e) (with_event (state docs os root b) e)
-  event_beside Ev.nothing os root a b o h = record { documents = refl; opened = refl; root = refl; aliases = h }
-  event_beside Ev.stream_start os root a b o h = record { documents = refl; opened = refl; root = refl; aliases = h }
-  event_beside Ev.stream_end os root a b o h = record { documents = refl; opened = refl; root = refl; aliases = h }
-  event_beside Ev.document_start os root a b o h = record { documents = refl; opened = refl; root = refl; aliases = h }
-  event_beside Ev.document_end os root a b o h = document_end_beside os os root a b h
-  event_beside (Ev.alias n) os root a b o h =
-      subst (λ t. StepsBeside low before (with_tree (aliased n a) (one os root a) os) (with_tree t (state docs os root b) os)) (h n o) (tree_beside (aliased n a) os os root a b h)
-  event_beside (Ev.scalar text style k tag) os root a b o h = node_beside k (scalar_tree text style tag) os os root a b h
-  event_beside (Ev.sequence_start k tag) os root a b o h = start_beside (opened_sequence k []) os os root root a b h
-  event_beside Ev.sequence_end os root a b o h = sequence_end_beside os os root a b h
-  event_beside (Ev.mapping_start k tag) os root a b o h = start_beside (opened_mapping k [] None) os os root root a b h
-  event_beside Ev.mapping_end os root a b o h = mapping_end_beside os os root a b h
+  event_beside : (e : Ev) (os : List Opened) (a b : Anchors) → (end ≡ false → is_end e ≡ false) → Suits R e → AreRelated R a b → AllMayFinish R os
+      → Beside (with_event (one os a) e) (with_event (two os b) e)
+  event_beside Ev.document_end os a b k s h o = document_end_beside os os a b k h o
+  event_beside (Ev.alias n) os a b k s h o =
+      subst (λ t. Beside (with_tree (aliased n a) (one os a) os) (with_tree t (two os b) os)) (s _ _ (h n)) (tree_beside (aliased n a) os os a b h o)
+  event_beside (Ev.scalar text style a t) os x y k s h o = node_beside a (scalar_tree text style t) os os x y h s o
+  event_beside (Ev.sequence_start a t) os x y k s h o = start_beside (opened_sequence a []) os os root x y h (s, o)
+  event_beside Ev.sequence_end os a b k s h o = sequence_end_beside os os a b h o
+  event_beside (Ev.mapping_start a t) os x y k s h o = start_beside (opened_mapping a [] None) os os root x y h (s, o)
+  event_beside Ev.mapping_end os a b k s h o = mapping_end_beside os os a b h o
+  event_beside _ os a b k s h o = both os root a b h o
 
-after_beside : (low : ℕ) (before : List Tree) (s r : Step) (ds es : List Tree) (p : Position) → ds ≡ before ++ es → StepsBeside low before s r → StandBeside low before (loader_after s ds p) (loader_after r es p)
-after_beside low before (reads x) (reads y) ds es p e h = h
-after_beside low before (reads x) (repeats k) ds es p e h = absurd h
-after_beside low before (reads x) out_of_nesting ds es p e h = absurd h
-after_beside low before (repeats k) r ds es p e h = (es, e, ap (λ s. loader_after s es p) (sym h))
-after_beside low before out_of_nesting r ds es p e h = (es, e, ap (λ s. loader_after s es p) (sym h))
+-- ---- loaders
 
-event_at_beside : (low : ℕ) (before : List Tree) (l m : Loader) (e : Ev) (p : Position) → IsOver low e → StandBeside low before l m → StandBeside low before (with_event_at l e p) (with_event_at m e p)
-event_at_beside low before (at_work u) (at_work v) e p o h =
-    let same : u ≡ state (before ++ v.documents) v.opened v.root u.anchors = λ i. record { documents = h.documents i; opened = h.opened i; root = h.root i; anchors = u.anchors } in
-    after_beside low before (with_event u e) (with_event v e) u.documents v.documents p h.documents
-    (subst (λ w. StepsBeside low before (with_event w e) (with_event v e)) (sym same) (event_beside low before v.documents e v.opened v.root u.anchors v.anchors o h.aliases))
-event_at_beside low before (at_work u) (noted ds k q) e p o h = absurd h
-event_at_beside low before (at_work u) (refused ds q) e p o h = absurd h
-event_at_beside low before (noted ds k q) m e p o h = (h.0, h.1, ap (λ l. with_event_at l e p) h.2)
-event_at_beside low before (refused ds q) m e p o h = (h.0, h.1, ap (λ l. with_event_at l e p) h.2)
+module _ {R : ℕ → Tree → Tree → Type 0} {before : List Tree} where
+  after_beside : {end : Bool} {s r : Step} (ds es : List Tree) (p : Position) → ds ≡ before ++ es → StepsBeside R before es end s r
+      → StandBeside R before (loader_after s ds p) (loader_after r es p)
+  after_beside ds es p e (reading h k) = working h
+  after_beside ds es p e (repeating key) = noting e
+  after_beside ds es p e nesting = refusing e
 
--- No alias of these events has a number up to this one.
-abbrev pub AllOver : ℕ → List (Ev × Position) → Type 0
-AllOver low [] = Unit {0}
-AllOver low (e ∷ es) = IsOver low e.0 × AllOver low es
+  pub event_at_beside : {l m : Loader} (e : Ev) (p : Position) → Suits R e → StandBeside R before l m → StandBeside R before (with_event_at l e p) (with_event_at m e p)
+  event_at_beside e p s (working {u} {v} h) =
+      after_beside u.documents v.documents p (ap (λ x. x.documents) h.is)
+      (subst (λ x. StepsBeside R before v.documents true (with_event x e) (with_event v e)) (sym h.is)
+      (event_beside R before v.documents true v.root e v.opened u.anchors v.anchors (λ k. cc) s h.anchors h.opened))
+  event_at_beside e p s h = h
 
-pub events_beside : (low : ℕ) (before : List Tree) (l m : Loader) (es : List (Ev × Position)) → AllOver low es → StandBeside low before l m → StandBeside low before (with_events l es) (with_events m es)
-events_beside low before l m [] o h = h
-events_beside low before l m (e ∷ es) o h = events_beside low before (with_event_at l e.0 e.1) (with_event_at m e.0 e.1) es o.1 (event_at_beside low before l m e.0 e.1 o.0 h)
+  pub events_beside : (es : List (Ev × Position)) {l m : Loader} → AllSuit R es → StandBeside R before l m → StandBeside R before (with_events l es) (with_events m es)
+  events_beside [] s h = h
+  events_beside (e ∷ es) s h = events_beside es s.1 (event_at_beside e.0 e.1 s.0 h)
 
--- Where a document begins, a loader stands beside a new one.
-pub begins_beside : (high : ℕ) (u : Unfinished) → u.opened ≡ [] → u.root ≡ None → IsUpTo high u → StandBeside high u.documents (at_work u) (at_work (state [] [] None []))
-begins_beside high u opened root h = record {
-  documents = sym (append-nil u.documents);
-  opened = opened;
-  root = root;
-  aliases = λ n o. over_all high n u.anchors o h.anchors;
-}
+  -- ---- what the one shows, as the other does
+
+  pub beside_documents : {x y : Loader} → StandBeside R before x y → documents_of x ≡ before ++ documents_of y
+  beside_documents (working h) = ap (λ u. u.documents) h.is
+  beside_documents (noting e) = e
+  beside_documents (refusing e) = e
+
+  pub beside_has : {x y : Loader} (ds : List Tree) → StandBeside R before x y → HasDocuments y ds → HasDocuments x (before ++ ds)
+  beside_has ds (working h) r = ap (λ u. u.documents) h.is ∙ ap (λ es. before ++ es) r
+  beside_has ds h r = absurd r
+
+  pub beside_read : {x y : Loader} (ds : List Tree) → StandBeside R before x y → HasRead (Ok ds) y → HasRead (Ok (before ++ ds)) x
+  beside_read ds (working h) r = (ap (λ u. u.documents) h.is ∙ ap (λ es. before ++ es) r.0, ap (λ u. u.opened) h.is ∙ r.1, ap (λ u. u.root) h.is ∙ r.2)
+  beside_read ds h r = absurd r
+
+  pub beside_noted : {x y : Loader} (key : Tree) (p : Position) → StandBeside R before x y → HasNoted y key p → HasNoted x key p
+  beside_noted key p (noting e) r = r
+  beside_noted key p h r = absurd r
+
+  pub beside_refused : {x y : Loader} → StandBeside R before x y → refused_at x ≡ refused_at y
+  beside_refused (working h) = refl
+  beside_refused h = refl
+
+-- ---- where each alias means the same
+
+abbrev pub Same : ℕ → Tree → Tree → Type 0
+Same n s t = s ≡ t
+
+pub suits_same : (e : Ev) → Suits Same e
+suits_same (Ev.alias n) = λ s t h. h
+suits_same e = λ t. refl
+
+pub may_finish_same : (os : List Opened) → AllMayFinish Same os
+may_finish_same [] = tt
+may_finish_same (opened_sequence a ts ∷ os) = (λ t. refl, may_finish_same os)
+may_finish_same (opened_mapping a ps k ∷ os) = (λ t. refl, may_finish_same os)
+
+-- a loader beside itself
+event_keeps : (l : Loader) (e : Ev) (p : Position) → is_end e ≡ false → documents_of (with_event_at l e p) ≡ documents_of l
+event_keeps (at_work u) e p h =
+    by (event_beside Same [] u.documents false u.root e u.opened u.anchors u.anchors (λ k. h) (suits_same e) (λ n. refl) (may_finish_same u.opened))
+  where
+    by : {s r : Step} → StepsBeside Same [] u.documents false s r → documents_of (loader_after r u.documents p) ≡ u.documents
+    by (reading x k) = k refl
+    by x = refl
+event_keeps l e p h = refl
+
+-- Events without an end finish no document.
+pub no_more_documents : (l : Loader) (es : List (Ev × Position)) → HasNoEnd es → documents_of (with_events l es) ≡ documents_of l
+no_more_documents l [] h = refl
+no_more_documents l (e ∷ es) h = no_more_documents (with_event_at l e.0 e.1) es h.1 ∙ event_keeps l e.0 e.1 h.0

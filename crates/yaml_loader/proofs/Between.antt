@@ -1,44 +1,10 @@
 -- Where documents begin and end among nested events.
-use Rattle.yaml_loader.proofs.DocumentCommon.{[], after_node, ap, arith, at_key, at_value, before_node, closes, Ev, events_of, in_sequence, in_stream, is_nested, IsNested, le-max_left, List, max, None, Open, open_after, Option, Position, refl, Some, subst, sym, there_and, true, ℕ, ◌++◌, ◌∙◌, ◌∷◌, ◌≡◌, ◌≤◌}
+use Rattle.yaml_loader.proofs.DocumentCommon.{[], after_node, ap, arith, at_key, before_node, Bool, closes, Ev, events_of, false, HasNoEnd, in_sequence, in_stream, is_end, is_nested, IsNested, List, max, new_loader, None, Open, open_after, Option, Position, refl, Some, subst, sym, there_and, true, with_events, ℕ, ◌++◌, ◌<◌, ◌∙◌, ◌∷◌, ◌≡◌, ◌≤◌}
+use Rattle.std.specs.Prelude.{IfSome}
 use Rattle.defs_event.proofs.NestedTest.{test_is_exact}
-use Rattle.yaml_loader.proofs.Numbers.{anchor_of, low_after, IsOver, AreOwn}
-use Rattle.yaml_loader.proofs.Beside.{AllOver}
-
--- ---- what is open after events
-
-abbrev then_open : (List Open → Option (List Open)) → Option (List Open) → Option (List Open)
-then_open f None = None
-then_open f (Some os) = f os
-
-abbrev open_after_all : List Ev → List Open → Option (List Open)
-open_after_all [] os = Some os
-open_after_all (e ∷ es) os = then_open (open_after_all es) (open_after e os)
-
--- What closes goes through its first part.
-record Passes (es fs : List Ev) (os : List Open) : Type 0 where
-  new : List Open
-  there : open_after_all es os ≡ Some new
-  rest : closes fs new ≡ true
-
-passes : (es fs : List Ev) (os : List Open) → closes (es ++ fs) os ≡ true → Passes es fs os
-passes [] fs os h = record { new = os; there = refl; rest = h }
-passes (e ∷ es) fs os h =
-    let p = by (open_after e os) (λ new k. passes es fs new k) h in
-    record { new = p.0; there = p.1; rest = p.2 }
-  where
-    by : (o : Option (List Open)) → ((new : List Open) → closes (es ++ fs) new ≡ true → Passes es fs new) → there_and (closes (es ++ fs)) o ≡ true
-        → (new : List Open) × (then_open (open_after_all es) o ≡ Some new) × (closes fs new ≡ true)
-    by None f k = cc
-    by (Some os') f k = let p = f os' k in (p.new, p.there, p.rest)
-
-joins : (es fs : List Ev) (os new : List Open) → open_after_all es os ≡ Some new → closes (es ++ fs) os ≡ closes fs new
-joins [] fs os new h = let same : os ≡ new = cc in ap (closes fs) same
-joins (e ∷ es) fs os new h = by (open_after e os) (λ os' k. joins es fs os' new k) h
-  where
-    by : (o : Option (List Open)) → ((os' : List Open) → open_after_all es os' ≡ Some new → closes (es ++ fs) os' ≡ closes fs new) → then_open (open_after_all es) o ≡ Some new
-        → there_and (closes (es ++ fs)) o ≡ closes fs new
-    by None f k = cc
-    by (Some os') f k = f os' k
+use Rattle.yaml_loader.proofs.Numbers.{low_after, IsOver, AreOwn}
+use Rattle.yaml_loader.proofs.Beside.{AllSuit, anchor_of, Suits}
+use Rattle.defs_tree.specs.Tree.{Tree}
 
 -- ---- a document stands in the stream alone
 
@@ -47,237 +13,156 @@ IsOrdered [] = Unit {0}
 IsOrdered (in_stream ∷ os) = os ≡ []
 IsOrdered (before_node ∷ os) = os ≡ in_stream ∷ []
 IsOrdered (after_node ∷ os) = os ≡ in_stream ∷ []
-IsOrdered (in_sequence ∷ os) = IsOrdered os
-IsOrdered (at_key ∷ os) = IsOrdered os
-IsOrdered (at_value ∷ os) = IsOrdered os
+IsOrdered (o ∷ os) = IsOrdered os
 
-some_is : {A : Type 0} {x y : A} → Some x ≡ Some y → x ≡ y
-some_is h = cc
+ordered_after : (e : Ev) (os : List Open) → IsOrdered os → IfSome (open_after e os) IsOrdered
+ordered_after Ev.document_start (in_stream ∷ os) o = ap (λ r. in_stream ∷ r) o
+ordered_after Ev.document_end (before_node ∷ os) o = subst IsOrdered (sym o) refl
+ordered_after Ev.document_end (after_node ∷ os) o = subst IsOrdered (sym o) refl
+ordered_after Ev.stream_end (in_stream ∷ os) o = subst IsOrdered (sym o) tt
+ordered_after e (before_node ∷ os) o = assumption
+ordered_after e os o = assumption
 
-ordered_after : (e : Ev) (os new : List Open) → IsOrdered os → open_after e os ≡ Some new → IsOrdered new
-ordered_after Ev.document_start (in_stream ∷ os) new o h = subst IsOrdered (some_is h) (ap (λ r. in_stream ∷ r) o)
-ordered_after Ev.document_end (before_node ∷ os) new o h = subst IsOrdered (sym o ∙ some_is h) refl
-ordered_after Ev.document_end (after_node ∷ os) new o h = subst IsOrdered (sym o ∙ some_is h) refl
-ordered_after Ev.stream_end (in_stream ∷ os) new o h = subst IsOrdered (sym o ∙ some_is h) tt
-ordered_after Ev.sequence_end (in_sequence ∷ os) new o h = subst IsOrdered (some_is h) o
-ordered_after Ev.mapping_end (at_key ∷ os) new o h = subst IsOrdered (some_is h) o
-ordered_after (Ev.alias n) (before_node ∷ os) new o h = subst IsOrdered (some_is h) o
-ordered_after (Ev.alias n) (in_sequence ∷ os) new o h = subst IsOrdered (some_is h) o
-ordered_after (Ev.alias n) (at_key ∷ os) new o h = subst IsOrdered (some_is h) o
-ordered_after (Ev.alias n) (at_value ∷ os) new o h = subst IsOrdered (some_is h) o
-ordered_after (Ev.scalar x s a t) (before_node ∷ os) new o h = subst IsOrdered (some_is h) o
-ordered_after (Ev.scalar x s a t) (in_sequence ∷ os) new o h = subst IsOrdered (some_is h) o
-ordered_after (Ev.scalar x s a t) (at_key ∷ os) new o h = subst IsOrdered (some_is h) o
-ordered_after (Ev.scalar x s a t) (at_value ∷ os) new o h = subst IsOrdered (some_is h) o
-ordered_after (Ev.sequence_start a t) (before_node ∷ os) new o h = subst IsOrdered (some_is h) o
-ordered_after (Ev.sequence_start a t) (in_sequence ∷ os) new o h = subst IsOrdered (some_is h) o
-ordered_after (Ev.sequence_start a t) (at_key ∷ os) new o h = subst IsOrdered (some_is h) o
-ordered_after (Ev.sequence_start a t) (at_value ∷ os) new o h = subst IsOrdered (some_is h) o
-ordered_after (Ev.mapping_start a t) (before_node ∷ os) new o h = subst IsOrdered (some_is h) o
-ordered_after (Ev.mapping_start a t) (in_sequence ∷ os) new o h = subst IsOrdered (some_is h) o
-ordered_after (Ev.mapping_start a t) (at_key ∷ os) new o h = subst IsOrdered (some_is h) o
-ordered_after (Ev.mapping_start a t) (at_value ∷ os) new o h = subst IsOrdered (some_is h) o
-ordered_after e os new o h = cc
-
--- After a document's end the stream alone is open.
-ends_document : (os new : List Open) → IsOrdered os → open_after Ev.document_end os ≡ Some new → new ≡ in_stream ∷ []
-ends_document (before_node ∷ os) new o h = sym (some_is h) ∙ o
-ends_document (after_node ∷ os) new o h = sym (some_is h) ∙ o
-ends_document os new o h = cc
-
-ends_last : (es : List Ev) (os new : List Open) → IsOrdered os → open_after_all (es ++ Ev.document_end ∷ []) os ≡ Some new → new ≡ in_stream ∷ []
-ends_last [] os new o h = by (open_after Ev.document_end os) refl h
+-- After a document's end that goes on to close, the stream alone is open.
+ends_alone : (es more : List Ev) (os : List Open) → IsOrdered os → closes ((es ++ Ev.document_end ∷ []) ++ more) os ≡ true
+    → (fs : List Ev) → closes ((es ++ Ev.document_end ∷ []) ++ fs) os ≡ closes fs (in_stream ∷ [])
+ends_alone [] more (before_node ∷ os) o h fs = ap (closes fs) o
+ends_alone [] more (after_node ∷ os) o h fs = ap (closes fs) o
+ends_alone [] more os o h fs = cc
+ends_alone (e ∷ es) more os o h fs = by (open_after e os) (ordered_after e os o) (λ r i k. ends_alone es more r i k fs) h
   where
-    by : (x : Option (List Open)) → open_after Ev.document_end os ≡ x → then_open (λ r. Some r) x ≡ Some new → new ≡ in_stream ∷ []
-    by None e k = cc
-    by (Some r) e k = sym (some_is k) ∙ ends_document os r o e
-ends_last (e ∷ es) os new o h = by (open_after e os) refl (λ r i k. ends_last es r new i k) h
+    by : (x : Option (List Open)) → IfSome x IsOrdered
+        → ((r : List Open) → IsOrdered r → closes ((es ++ Ev.document_end ∷ []) ++ more) r ≡ true → closes ((es ++ Ev.document_end ∷ []) ++ fs) r ≡ closes fs (in_stream ∷ []))
+        → there_and (closes ((es ++ Ev.document_end ∷ []) ++ more)) x ≡ true → there_and (closes ((es ++ Ev.document_end ∷ []) ++ fs)) x ≡ closes fs (in_stream ∷ [])
+    by None i f k = cc
+    by (Some r) i f k = f r i k
+
+-- What goes on to close is open in some way, of which P holds.
+through : (P : List Open → Type 0) {Q : Type 0} (test : List Open → Bool) (x : Option (List Open)) → IfSome x P → there_and test x ≡ true → ((r : List Open) → P r → test r ≡ true → Q) → Q
+through P test None i k f = cc
+through P test (Some r) i k f = f r i k
+
+-- ---- what follows in the stream
+
+-- These events close the stream, maybe after its start.
+abbrev inner : List Ev → List Ev
+inner (Ev.stream_start ∷ es) = es
+inner es = es
+
+abbrev pub ClosesStream : List Ev → Type 0
+ClosesStream es = closes (inner es) (in_stream ∷ []) ≡ true
+
+pub closes_at_start : (es : List Ev) → IsNested es → ClosesStream es
+closes_at_start es n = by es ((test_is_exact es).1 n)
   where
-    by : (x : Option (List Open)) → open_after e os ≡ x → ((r : List Open) → IsOrdered r → open_after_all (es ++ Ev.document_end ∷ []) r ≡ Some new → new ≡ in_stream ∷ [])
-        → then_open (open_after_all (es ++ Ev.document_end ∷ [])) x ≡ Some new → new ≡ in_stream ∷ []
-    by None q f k = cc
-    by (Some r) q f k = f r (ordered_after e os r o q) k
+    by : (es : List Ev) → is_nested es ≡ true → ClosesStream es
+    by (Ev.stream_start ∷ es) h = h
+    by es h = cc
 
--- ---- where a document begins
+closes_so : (es : List Ev) → closes es (in_stream ∷ []) ≡ true → ClosesStream es
+closes_so (Ev.stream_start ∷ es) h = cc
+closes_so es h = h
 
--- These events begin where a document may: with its start, or they are the stream's end alone.
-abbrev pub BeginDocument : List Ev → Type 0
-BeginDocument [] = Unit {0}
-BeginDocument (Ev.document_start ∷ es) = Unit {0}
-BeginDocument (Ev.stream_end ∷ es) = es ≡ []
-BeginDocument _ = ⊥
+-- all that is nested with a document's end in it
+nested_ends : (es more : List Ev) → IsNested ((es ++ Ev.document_end ∷ []) ++ more)
+    → (closes more (in_stream ∷ []) ≡ true) × ((fs : List Ev) → closes fs (in_stream ∷ []) ≡ true → is_nested ((es ++ Ev.document_end ∷ []) ++ fs) ≡ true)
+nested_ends es more n = by es ((test_is_exact ((es ++ Ev.document_end ∷ []) ++ more)).1 n)
+  where
+    by : (es : List Ev) → is_nested ((es ++ Ev.document_end ∷ []) ++ more) ≡ true
+        → (closes more (in_stream ∷ []) ≡ true) × ((fs : List Ev) → closes fs (in_stream ∷ []) ≡ true → is_nested ((es ++ Ev.document_end ∷ []) ++ fs) ≡ true)
+    by (Ev.stream_start ∷ es) h =
+        let alone = ends_alone es more (in_stream ∷ []) refl h in
+        (sym (alone more) ∙ h, λ fs k. alone fs ∙ k)
+    by es h = cc
 
--- the same, maybe after the stream's start
-abbrev pub BeginSo : List Ev → Type 0
-BeginSo (Ev.stream_start ∷ es) = BeginDocument es
-BeginSo es = BeginDocument es
-
-nothing_closes : (e : Ev) (es : List Ev) → closes (e ∷ es) [] ≡ true → ⊥
-nothing_closes Ev.nothing es h = cc
-nothing_closes Ev.stream_start es h = cc
-nothing_closes Ev.stream_end es h = cc
-nothing_closes Ev.document_start es h = cc
-nothing_closes Ev.document_end es h = cc
-nothing_closes (Ev.alias n) es h = cc
-nothing_closes (Ev.scalar x s a t) es h = cc
-nothing_closes (Ev.sequence_start a t) es h = cc
-nothing_closes Ev.sequence_end es h = cc
-nothing_closes (Ev.mapping_start a t) es h = cc
-nothing_closes Ev.mapping_end es h = cc
-
-none_after : (es more : List Ev) → closes (es ++ more) [] ≡ true → es ≡ []
-none_after [] more h = refl
-none_after (e ∷ es) more h = absurd (nothing_closes e (es ++ more) h)
-
-begin_document : (es more : List Ev) → closes (es ++ more) (in_stream ∷ []) ≡ true → BeginDocument es
-begin_document [] more h = tt
-begin_document (Ev.document_start ∷ es) more h = tt
-begin_document (Ev.stream_end ∷ es) more h = none_after es more h
-begin_document (Ev.nothing ∷ es) more h = cc
-begin_document (Ev.stream_start ∷ es) more h = cc
-begin_document (Ev.document_end ∷ es) more h = cc
-begin_document (Ev.alias n ∷ es) more h = cc
-begin_document (Ev.scalar x s a t ∷ es) more h = cc
-begin_document (Ev.sequence_start a t ∷ es) more h = cc
-begin_document (Ev.sequence_end ∷ es) more h = cc
-begin_document (Ev.mapping_start a t ∷ es) more h = cc
-begin_document (Ev.mapping_end ∷ es) more h = cc
-
-so_too : (es : List Ev) → BeginDocument es → BeginSo es
-so_too [] h = h
-so_too (Ev.document_start ∷ es) h = h
-so_too (Ev.stream_end ∷ es) h = h
-so_too (Ev.nothing ∷ es) h = h
-so_too (Ev.stream_start ∷ es) h = absurd h
-so_too (Ev.document_end ∷ es) h = h
-so_too (Ev.alias n ∷ es) h = h
-so_too (Ev.scalar x s a t ∷ es) h = h
-so_too (Ev.sequence_start a t ∷ es) h = h
-so_too (Ev.sequence_end ∷ es) h = h
-so_too (Ev.mapping_start a t ∷ es) h = h
-so_too (Ev.mapping_end ∷ es) h = h
-
--- nested events are the stream's start and what closes the stream
-record FromStart (es : List Ev) : Type 0 where
-  more : List Ev
-  whole : es ≡ Ev.stream_start ∷ more
-  closed : closes more (in_stream ∷ []) ≡ true
-
-from_start : (es : List Ev) → is_nested es ≡ true → FromStart es
-from_start (Ev.stream_start ∷ es) h = record { more = es; whole = refl; closed = h }
-from_start es h = cc
-
--- at the start of the stream
-pub begin_at_start : (es more : List Ev) → IsNested (es ++ more) → BeginSo es
-begin_at_start [] more h = tt
-begin_at_start (e ∷ es) more h =
-    let f = from_start (e ∷ es ++ more) ((test_is_exact (e ∷ es ++ more)).1 h) in
-    let first : Ev.stream_start ≡ e = cc in
-    let rest : es ++ more ≡ f.more = cc in
-    subst (λ x. BeginSo (x ∷ es)) first (begin_document es more (subst (λ vs. closes vs (in_stream ∷ []) ≡ true) (sym rest) f.closed))
-
--- after a document's end
-record After (es more : List Ev) : Type 0 where
-  rest : closes more (in_stream ∷ []) ≡ true
-  inner : List Ev
-  whole : es ++ Ev.document_end ∷ [] ≡ Ev.stream_start ∷ inner
-  there : open_after_all inner (in_stream ∷ []) ≡ Some (in_stream ∷ [])
-
-after_end : (es more : List Ev) → IsNested ((es ++ Ev.document_end ∷ []) ++ more) → After es more
-after_end [] more h = let f = from_start (Ev.document_end ∷ more) ((test_is_exact (Ev.document_end ∷ more)).1 h) in let e = f.whole in cc
-after_end (e ∷ es) more h =
-    let all = (e ∷ es ++ Ev.document_end ∷ []) ++ more in
-    let f = from_start all ((test_is_exact all).1 h) in
-    let first : e ≡ Ev.stream_start = cc in
-    let rest : (es ++ Ev.document_end ∷ []) ++ more ≡ f.more = cc in
-    let p = passes (es ++ Ev.document_end ∷ []) more (in_stream ∷ []) (subst (λ vs. closes vs (in_stream ∷ []) ≡ true) (sym rest) f.closed) in
-    let is = ends_last es (in_stream ∷ []) p.new refl p.there in
-    record {
-      rest = subst (λ os. closes more os ≡ true) is p.rest;
-      inner = es ++ Ev.document_end ∷ [];
-      whole = ap (λ x. x ∷ es ++ Ev.document_end ∷ []) first;
-      there = p.there ∙ ap (λ os. Some os) is;
-    }
-
-pub begin_after : (given es more : List Ev) → IsNested ((given ++ Ev.document_end ∷ []) ++ (es ++ more)) → BeginSo es
-begin_after given es more h = so_too es (begin_document es more (after_end given (es ++ more) h).rest)
+pub closes_after : (given es : List Ev) → IsNested ((given ++ Ev.document_end ∷ []) ++ es) → ClosesStream es
+closes_after given es n = closes_so es (nested_ends given es n).0
 
 -- After a document's end the stream may end.
 pub nested_so_far : (es more : List Ev) → IsNested ((es ++ Ev.document_end ∷ []) ++ more) → IsNested ((es ++ Ev.document_end ∷ []) ++ Ev.stream_end ∷ [])
-nested_so_far es more h =
-    let a = after_end es more h in
-    let closed : closes (a.inner ++ Ev.stream_end ∷ []) (in_stream ∷ []) ≡ true = joins a.inner (Ev.stream_end ∷ []) (in_stream ∷ []) (in_stream ∷ []) a.there in
-    subst (λ vs. IsNested (vs ++ Ev.stream_end ∷ [])) (sym a.whole) ((test_is_exact (Ev.stream_start ∷ a.inner ++ Ev.stream_end ∷ [])).0 closed)
+nested_so_far es more n = (test_is_exact ((es ++ Ev.document_end ∷ []) ++ Ev.stream_end ∷ [])).0 ((nested_ends es more n).1 (Ev.stream_end ∷ []) refl)
 
 -- ---- so its aliases are its own
 
-over_less : (low high : ℕ) (e : Ev) → low ≤ high → IsOver high e → IsOver low e
-over_less low high (Ev.alias n) l h = omega (arith, l, h)
-over_less low high Ev.nothing l h = tt
-over_less low high Ev.stream_start l h = tt
-over_less low high Ev.stream_end l h = tt
-over_less low high Ev.document_start l h = tt
-over_less low high Ev.document_end l h = tt
-over_less low high (Ev.scalar x s a t) l h = tt
-over_less low high (Ev.sequence_start a t) l h = tt
-over_less low high Ev.sequence_end l h = tt
-over_less low high (Ev.mapping_start a t) l h = tt
-over_less low high Ev.mapping_end l h = tt
+-- an alias over this number; a node may have any
+abbrev pub Over : ℕ → ℕ → Tree → Tree → Type 0
+Over floor n s t = floor < n → s ≡ t
 
-all_over : (floor low high : ℕ) (es : List (Ev × Position)) → floor ≤ low → low ≤ high → AreOwn low high (events_of es) → AllOver floor es
-all_over floor low high [] l m o = tt
-all_over floor low high (e ∷ es) l m o =
-    let r = risen e.0 in
-    (over_less floor low e.0 l o.0, all_over floor (low_after e.0 low high) (max high (anchor_of e.0)) es r.0 r.1 o.1)
-  where
-    up : high ≤ max high (anchor_of e.0)
-    up = le-max_left high (anchor_of e.0)
+-- where a document is open
+abbrev IfOpen : Type 0 → List Open → Type 0
+IfOpen P [] = Unit {0}
+IfOpen P (in_stream ∷ os) = IfOpen P os
+IfOpen P (o ∷ os) = P
 
-    higher : low ≤ max high (anchor_of e.0)
-    higher = let u = up in omega (arith, u, m)
+if_open : {P : Type 0} (os : List Open) → P → IfOpen P os
+if_open [] p = tt
+if_open (in_stream ∷ os) p = if_open os p
+if_open (o ∷ os) p = p
 
-    risen : (v : Ev) → (floor ≤ low_after v low high) × (low_after v low high ≤ max high (anchor_of e.0))
-    risen Ev.document_start = let u = up in (omega (arith, l, m), u)
-    risen Ev.nothing = (l, higher)
-    risen Ev.stream_start = (l, higher)
-    risen Ev.stream_end = (l, higher)
-    risen Ev.document_end = (l, higher)
-    risen (Ev.alias n) = (l, higher)
-    risen (Ev.scalar x s a t) = (l, higher)
-    risen (Ev.sequence_start a t) = (l, higher)
-    risen Ev.sequence_end = (l, higher)
-    risen (Ev.mapping_start a t) = (l, higher)
-    risen Ev.mapping_end = (l, higher)
+module _ (floor : ℕ) where
+  still_open : (e : Ev) (os : List Open) (low high : ℕ) → floor ≤ high → IfOpen (floor ≤ low) os → IfSome (open_after e os) (IfOpen (floor ≤ low_after e low high))
+  still_open Ev.document_start (in_stream ∷ os) low high m l = m
+  still_open Ev.stream_end (in_stream ∷ os) low high m l = l
+  still_open Ev.document_end (before_node ∷ os) low high m l = if_open os l
+  still_open Ev.document_end (after_node ∷ os) low high m l = if_open os l
+  still_open Ev.sequence_end (in_sequence ∷ os) low high m l = if_open os l
+  still_open Ev.mapping_end (at_key ∷ os) low high m l = if_open os l
+  still_open e (before_node ∷ os) low high m l = assumption
+  still_open e os low high m l = assumption
 
-nil_is_not : {A : Type 0} {x : A} {xs : List A} → x ∷ xs ≡ [] → ⊥
-nil_is_not h = cc
+  suits_over : (e : Ev) (os : List Open) (low : ℕ) (rest : List Ev) → IfOpen (floor ≤ low) os → there_and (closes rest) (open_after e os) ≡ true → IsOver low e
+      → Suits (Over floor) e
+  suits_over (Ev.alias n) [] low rest l c o = cc
+  suits_over (Ev.alias n) (in_stream ∷ os) low rest l c o = cc
+  suits_over (Ev.alias n) (x ∷ os) low rest l c o = λ s t r. r (omega (arith, l, o))
+  suits_over e os low rest l c o = λ t k. refl
 
-over_begun : (floor low high : ℕ) (es : List (Ev × Position)) → floor ≤ high → BeginDocument (events_of es) → AreOwn low high (events_of es) → AllOver floor es
-over_begun floor low high [] m b o = tt
-over_begun floor low high ((Ev.document_start, p) ∷ es) m b o = (tt, all_over floor high (max high 0) es m (le-max_left high 0) o.1)
-over_begun floor low high ((Ev.stream_end, p) ∷ []) m b o = (tt, tt)
-over_begun floor low high ((Ev.stream_end, p) ∷ e ∷ es) m b o = absurd (nil_is_not b)
-over_begun floor low high ((Ev.nothing, p) ∷ es) m b o = absurd b
-over_begun floor low high ((Ev.stream_start, p) ∷ es) m b o = absurd b
-over_begun floor low high ((Ev.document_end, p) ∷ es) m b o = absurd b
-over_begun floor low high ((Ev.alias n, p) ∷ es) m b o = absurd b
-over_begun floor low high ((Ev.scalar x s a t, p) ∷ es) m b o = absurd b
-over_begun floor low high ((Ev.sequence_start a t, p) ∷ es) m b o = absurd b
-over_begun floor low high ((Ev.sequence_end, p) ∷ es) m b o = absurd b
-over_begun floor low high ((Ev.mapping_start a t, p) ∷ es) m b o = absurd b
-over_begun floor low high ((Ev.mapping_end, p) ∷ es) m b o = absurd b
+  over_closed : (es : List (Ev × Position)) (more fs : List Ev) (os : List Open) (low high : ℕ) → closes (events_of es ++ more) os ≡ true → floor ≤ high
+      → IfOpen (floor ≤ low) os → AreOwn low high (events_of es ++ fs) → AllSuit (Over floor) es
+  over_closed [] more fs os low high c m l o = tt
+  over_closed (e ∷ es) more fs os low high c m l o = (
+    suits_over e.0 os low (events_of es ++ more) l c o.0,
+    through (IfOpen (floor ≤ low_after e.0 low high)) (closes (events_of es ++ more)) (open_after e.0 os) (still_open e.0 os low high m l) c
+        (λ r i k. over_closed es more fs r (low_after e.0 low high) (max high (anchor_of e.0)) k (omega arith) i o.1),
+  )
 
--- Where a document begins, each alias has a number over the highest one so far.
-pub over_so_far : (low high : ℕ) (es : List (Ev × Position)) → BeginSo (events_of es) → AreOwn low high (events_of es) → AllOver high es
-over_so_far low high [] b o = tt
-over_so_far low high ((Ev.stream_start, p) ∷ es) b o = (tt, over_begun high low (max high 0) es (le-max_left high 0) b o.1)
-over_so_far low high ((Ev.document_start, p) ∷ es) b o = over_begun high low high ((Ev.document_start, p) ∷ es) (omega arith) b o
-over_so_far low high ((Ev.stream_end, p) ∷ es) b o = over_begun high low high ((Ev.stream_end, p) ∷ es) (omega arith) b o
-over_so_far low high ((Ev.nothing, p) ∷ es) b o = absurd b
-over_so_far low high ((Ev.document_end, p) ∷ es) b o = absurd b
-over_so_far low high ((Ev.alias n, p) ∷ es) b o = absurd b
-over_so_far low high ((Ev.scalar x s a t, p) ∷ es) b o = absurd b
-over_so_far low high ((Ev.sequence_start a t, p) ∷ es) b o = absurd b
-over_so_far low high ((Ev.sequence_end, p) ∷ es) b o = absurd b
-over_so_far low high ((Ev.mapping_start a t, p) ∷ es) b o = absurd b
-over_so_far low high ((Ev.mapping_end, p) ∷ es) b o = absurd b
+-- Where a document may begin, each alias has a number over the highest one so far.
+pub over_so_far : (es : List (Ev × Position)) (more fs : List Ev) (low high : ℕ) → ClosesStream (events_of es ++ more) → AreOwn low high (events_of es ++ fs) → AllSuit (Over high) es
+over_so_far [] more fs low high c o = tt
+over_so_far ((Ev.stream_start, p) ∷ es) more fs low high c o = (λ t k. refl, over_closed high es more fs (in_stream ∷ []) low (max high 0) c (omega arith) tt o.1)
+over_so_far (e ∷ es) more fs low high c o = over_closed high (e ∷ es) more fs (in_stream ∷ []) low high c (omega arith) tt o
+
+-- ---- before the stream's end
+
+abbrev IsInside : List Open → Type 0
+IsInside [] = ⊥
+IsInside (in_stream ∷ os) = ⊥
+IsInside (before_node ∷ os) = Unit {0}
+IsInside (after_node ∷ os) = Unit {0}
+IsInside (o ∷ os) = IsInside os
+
+still_inside : (e : Ev) (os : List Open) → is_end e ≡ false → IsInside os → IfSome (open_after e os) IsInside
+still_inside Ev.document_end os n i = cc
+still_inside Ev.stream_end os n i = cc
+still_inside e (before_node ∷ os) n i = assumption
+still_inside e os n i = assumption
+
+never_ends : (es : List (Ev × Position)) (p : Position) (more : List Ev) (os : List Open) → HasNoEnd es → IsInside os
+    → closes (events_of (es ++ (Ev.stream_end, p) ∷ []) ++ more) os ≡ true → ⊥
+never_ends [] p more (in_stream ∷ os) n i h = i
+never_ends [] p more os n i h = cc
+never_ends (e ∷ es) p more os n i h =
+    through IsInside (closes (events_of (es ++ (Ev.stream_end, p) ∷ []) ++ more)) (open_after e.0 os) (still_inside e.0 os n.0 i) h (λ r j k. never_ends es p more r n.1 j k)
+
+none_begins : (e : Ev) (es : List (Ev × Position)) (p : Position) (more : List Ev) → is_end e ≡ false → HasNoEnd es
+    → closes (e ∷ events_of (es ++ (Ev.stream_end, p) ∷ []) ++ more) (in_stream ∷ []) ≡ true → ⊥
+none_begins Ev.document_start es p more n m h = never_ends es p more (before_node ∷ in_stream ∷ []) m tt h
+none_begins e es p more n m h = cc
+
+-- Before the stream's end no document began, where none ended.
+pub nothing_began : (es : List (Ev × Position)) (p : Position) (more : List Ev) → HasNoEnd es → ClosesStream (events_of (es ++ (Ev.stream_end, p) ∷ []) ++ more)
+    → with_events new_loader es ≡ new_loader
+nothing_began [] p more n c = refl
+nothing_began ((Ev.stream_start, q) ∷ []) p more n c = refl
+nothing_began ((Ev.stream_start, q) ∷ e ∷ es) p more n c = absurd (none_begins e.0 es p more n.1.0 n.1.1 c)
+nothing_began (e ∷ es) p more n c = absurd (none_begins e.0 es p more n.0 n.1 c)

@@ -1,8 +1,8 @@
 -- The words of other crates and of specs/ that the proofs here use, passed on from one place. Declares nothing.
-pub use Rattle.std.proofs.Common.{[], ap, arith, Bool, cond, false, inl, inr, length, List, nat_eq, not, pred, refl, subst, suc, sym, true, zero, ℕ, ◌++◌, ◌-◌, ◌<◌, ◌||◌, ◌∙◌, ◌∷◌, ◌≡◌, ◌⊎◌}
-pub use Rattle.std.proofs.lemmas.Bool.{and_from, and_parts, both_ways, false≢true, or_cases, or_left, or_right, true≢false}
+pub use Rattle.std.proofs.Common.{[], ap, arith, Bool, cond, false, inl, inr, length, List, nat_eq, not, pred, refl, rules, subst, suc, sym, true, zero, ℕ, ◌++◌, ◌-◌, ◌<◌, ◌||◌, ◌∙◌, ◌∷◌, ◌≡◌, ◌⊎◌}
+pub use Rattle.std.proofs.lemmas.Bool.{and_from, and_parts, both_ways, false_from_ne_true, false≢true, or_cases, true≢false}
 pub use Rattle.std.proofs.lemmas.Bool.Decides.{nat_tests, same_from_decides}
-pub use Rattle.std.proofs.lemmas.Result.{err_from_is_err_and, IfErr-weaker, IfOk-weaker, MatchResult-at_err, MatchResult-at_ok, on_ok_weaker}
+pub use Rattle.std.proofs.lemmas.Result.{err_from_is_err_and, IfOk-weaker, MatchResult-at_err, MatchResult-at_ok}
 pub use Rattle.std.proofs.lemmas.Slice.Eq.{bytes_eq-Decides}
 pub use Rattle.std.proofs.lemmas.Str.{chars-encodes, encode_ascii, encodes-chars, IsUtf8-string_bytes}
 pub use Rattle.std.specs.List.{list_all}
@@ -21,7 +21,7 @@ pub use Rattle.defs_event.specs.Reading.{reading}
 pub use Rattle.defs_event.specs.Scalar.{as_boolean, as_integer, as_null, as_real, by_name, scalar_tree, tagged_tree}
 pub use Rattle.defs_event.specs.Stream.{BeginsPlaced, events_of, IsPlacedStream, IsStream}
 pub use Rattle.defs_event.specs.Unfinished.{at_work, documents_of, Loader, loader_after, new_loader, noted, Opened, opened_mapping, opened_sequence, out_of_nesting, reads, refused_at, repeats, Step, Unfinished, with_document_end, with_event, with_event_at, with_events, with_mapping_end, with_node, with_root, with_sequence_end, with_start, with_tree}
-pub use Rattle.defs_layout.specs.Json.{element, Elements, empty_array, empty_object, false_word, IsJsonText, items, Json, last_element, last_member, member, Members, null_word, number, object, pair_list, spell_text, tree_of, true_word}
+pub use Rattle.defs_layout.specs.Json.{element, Elements, IsJsonText, items, Json, last_element, last_member, member, Members, number, object, pair_list, tree_of}
 pub use Rattle.defs_text.specs.Position.{first_position, Position}
 pub use Rattle.defs_text.specs.Text.{has_no_nul, up_to_nul}
 unfoldable pub use Rattle.defs_text.specs.Text.{string_chars}
@@ -44,9 +44,9 @@ pub use Rattle.yaml_chars.specs.Source.{CameFrom}
 pub use Rattle.yaml_chars.specs.WindowView.{BeginsText, HasNoNul}
 pub use Rattle.yaml_loader.specs.Alike.{AreAlike, ReadsTo, StandAlike}
 pub use Rattle.yaml_loader.specs.Gives.{Gives, IsGivenFault}
-pub use Rattle.yaml_loader.specs.Loading.{IsNewFault, kept_fault, loader_by, loader_of, Takes, TellsBy, TellsNotedKey}
+pub use Rattle.yaml_loader.specs.Loading.{IsNewFault, kept_fault, loader_by, loader_of, Takes, TellsBy, TellsNotedKey, want_of_memory}
 pub use Rattle.yaml_loader.specs.Loads.{AreLoaded, HasDocuments, HasNoted, IsLoadFault, Notes, Pushes}
-pub use Rattle.yaml_loader.specs.Meant.{LoadsOnly, OfBasic, OfGiven, OfJson, OfLayout, OfMeaning, OfQuoted}
+pub use Rattle.yaml_loader.specs.Meant.{LoadsOnly, OfBasic, OfGiven, OfJson, OfLayout, OfQuoted}
 pub use Rattle.yaml_loader.specs.RepeatedKey.{shown_key, TellsKey}
 pub use Rattle.yaml_loader.specs.TextLoads.{Answers, LoadsText, OfTexts}
 pub use Rattle.yaml_loader.specs.Unread.{IsUnread, of_parser}
@@ -61,3 +61,11 @@ pub use Rattle.yaml_scanner.specs.Scanned.{MayBe, Scanned, Scans}
 pub use Rattle.yaml_tokens.specs.ErrorReport.{ErrorReport, owned_at}
 pub use Rattle.yaml_tree.specs.View.{items_view, view}
 pub use Rattle.yaml_tree.specs.declared.yaml.Yaml.{Yaml}
+pub use Rattle.proof_loads.specs.AtStart.{IsAtStart}
+pub use Rattle.std.specs.BTreeMap.{is_at}
+pub use Rattle.std.specs.Map.{lookup}
+pub use Rattle.std.specs.Option.{option_copied}
+pub use Rattle.std.specs.Ordering.{nat_cmp}
+pub use Rattle.yaml_loader.specs.DocumentStream.{stream_of}
+pub use Rattle.yaml_loader.specs.Laws.{RefusedTextsWantMemory, TakenTextsAreLoaded}
+pub use Rattle.yaml_loader.specs.declared.marked_receiver.MarkedLoader.{MarkedLoader}

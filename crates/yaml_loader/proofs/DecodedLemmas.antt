@@ -1,8 +1,6 @@
 -- From the outcome of decoding to that of a load.
-use Rattle.std.specs.Prelude.{ℕ, List, Result, Ok, Err, Vec}
-use Rattle.std.specs.declared.alloc.Global.{Global}
+use Rattle.yaml_loader.proofs.Common.{Err, Global, List, Ok, Result, Vec, Yaml, ℕ}
 use Rattle.yaml_encoding.specs.Decoding.{Outcome, text}
-use Rattle.yaml_tree.specs.declared.yaml.Yaml.{Yaml}
 use Rattle.yaml_loader.specs.declared.decoder.LoadError.{LoadError}
 use Rattle.yaml_loader.specs.declared.decoder.LoadError.TheVariants.{IO, Scan, Decode}
 use Rattle.yaml_loader.specs.Read.{DecodedIs, Loads, LoadedIs}
@@ -17,5 +15,4 @@ not_decoded (Decode m) P h = h
 pub decoded : (r : Result (Vec Yaml Global) LoadError) (characters : List ℕ) (P : Outcome → Type 0) → P (text characters) → Loads characters r → LoadedIs r P
 decoded (Ok documents) characters P h l = (characters, h, l)
 decoded (Err (Scan f)) characters P h l = (characters, h, l)
-decoded (Err (Decode m)) characters P h l = absurd l
-decoded (Err (IO e)) characters P h l = absurd l
+decoded r characters P h l = absurd l

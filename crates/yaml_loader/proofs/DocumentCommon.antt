@@ -1,29 +1,14 @@
 -- The words of other crates and of specs/ that the proofs here use, passed on from one place. Declares nothing.
-pub use Rattle.std.proofs.Common.{[], ap, append-nil, append_assoc, arith, Bool, Err, false, if◌then◌else◌, inl, inr, length, List, nat_eq, None, Ok, Option, option_map, refl, Some, subst, suc, sym, true, zero, ℕ, ◌++◌, ◌+◌, ◌<◌, ◌||◌, ◌∙◌, ◌∷◌, ◌≡◌, ◌≢◌, ◌≤◌}
-pub use Rattle.std.proofs.Math.Nat.{le-max_left, le-max_right, max-le, max-zero}
+pub use Rattle.yaml_loader.proofs.Common.{bad_value, ErrorReport, Ev, HasDocuments, HasNoted, HasRead, items_view, one_by_one, Position, reading, Token, toks, Tree, view, Yaml}
+pub use Rattle.std.proofs.Common.{[], ap, append-nil, append_assoc, arith, Bool, Err, false, if◌then◌else◌, inl, inr, length, List, None, Ok, Option, option_map, refl, Some, subst, sym, true, ℕ, ◌++◌, ◌+◌, ◌<◌, ◌||◌, ◌∙◌, ◌∷◌, ◌≡◌, ◌≢◌, ◌≤◌}
 pub use Rattle.std.proofs.lemmas.List.{map-append}
 pub use Rattle.std.specs.Prelude.{bytes_eq, IsSome, map, max, option_to_list, Result, unwrap_or, ◌⊎◌}
-pub use Rattle.defs_event.proofs.OneByOne.{one_by_one}
 pub use Rattle.defs_event.proofs.StreamNests.{stream_nests}
-pub use Rattle.defs_event.specs.Anchors.{aliased, Anchors}
-pub use Rattle.defs_event.specs.Event.{Ev}
-pub use Rattle.defs_event.specs.Laws.{HasRead}
 pub use Rattle.defs_event.specs.Nested.{after_node, at_key, at_value, before_node, closes, in_sequence, in_stream, is_nested, IsNested, nested_stream, NestedDocument, Open, open_after, there_and}
-pub use Rattle.defs_event.specs.Reading.{reading}
-pub use Rattle.defs_event.specs.Scalar.{scalar_tree}
 pub use Rattle.defs_event.specs.Stream.{BeginsPlaced, events_of, Foretells, IsStream, raws_of}
-pub use Rattle.defs_event.specs.Unfinished.{at_work, documents_of, Loader, loader_after, new_loader, noted, Opened, opened_mapping, opened_sequence, out_of_nesting, reads, refused, refused_at, repeats, Step, Unfinished, with_document_end, with_event, with_event_at, with_events, with_mapping_end, with_node, with_root, with_sequence_end, with_start, with_tree}
-pub use Rattle.defs_text.specs.Position.{Position}
-pub use Rattle.defs_token.specs.Token.{Style, Token}
-pub use Rattle.defs_token.specs.Toks.{toks}
-pub use Rattle.defs_tree.specs.Pairs.{has_key, insert}
-pub use Rattle.defs_tree.specs.Tree.{array, bad_value, hash, items_of, pairs_of, Tree}
+pub use Rattle.defs_event.specs.Unfinished.{at_work, documents_of, Loader, loader_after, new_loader, noted, Opened, refused, refused_at, with_document_end, with_event_at, with_events}
 pub use Rattle.proof_loads.proofs.Answers.{fault_of, placed_stream}
 pub use Rattle.yaml_loader.specs.OneDocument.{by_key, by_memory, by_parser, Ended, EndsDocument, fault_in, Faults, finished, Goes, HasNoEnd, is_end, IsBetween, IsGoing, IsPlain, IsRead, Reads, ReadsAll, ReadsOne, Refuses, Stops, TakesAll, TakesDocument}
 pub use Rattle.yaml_loader.proofs.LoadLemmas.{has_documents, has_noted, new_fault, stands, with_last}
-pub use Rattle.yaml_loader.specs.Loads.{HasDocuments, HasNoted}
 pub use Rattle.yaml_parser.specs.Parsed.{has_end, is_stream_end, Parse, Parsed, parsed, read}
 pub use Rattle.yaml_scanner.specs.Scanned.{Scans, ScansIn}
-pub use Rattle.yaml_tokens.specs.ErrorReport.{ErrorReport}
-pub use Rattle.yaml_tree.specs.View.{items_view, view}
-pub use Rattle.yaml_tree.specs.declared.yaml.Yaml.{Yaml}

@@ -1,20 +1,16 @@
 -- What the reading of one document does, from what its loader took.
+use Rattle.yaml_loader.proofs.Common.{IsGivenFault, kept_fault, loader_of, Takes, WantsMemory, YamlLoader}
 use Rattle.std.specs.Result.{IsErrAnd}
-use Rattle.yaml_loader.proofs.DocumentCommon.{[], ap, append-nil, append_assoc, arith, at_work, BeginsPlaced, Bool, by_key, by_memory, by_parser, documents_of, Ended, EndsDocument, Err, ErrorReport, Ev, events_of, false, fault_in, Faults, finished, has_documents, has_end, has_noted, HasDocuments, HasNoEnd, HasNoted, HasRead, inl, inr, is_end, is_stream_end, IsBetween, IsNested, IsPlain, IsRead, IsSome, items_view, length, List, Loader, map-append, new_fault, new_loader, None, noted, Ok, one_by_one, Option, option_to_list, Parsed, placed_stream, Position, raws_of, read, reading, Reads, ReadsAll, ReadsOne, refl, refused, refused_at, Refuses, Result, Some, stands, Stops, stream_nests, subst, sym, TakesAll, TakesDocument, Token, toks, Tree, true, view, with_event_at, with_events, with_last, Yaml, ℕ, ◌++◌, ◌<◌, ◌||◌, ◌∙◌, ◌∷◌, ◌≡◌, ◌⊎◌}
-use Rattle.yaml_parser.specs.Blames.{WantsMemory}
-use Rattle.yaml_parser.specs.Nests.{BeginsNested, opened, is_open}
-use Rattle.yaml_parser.proofs.Nesting.{no_end_inside}
+use Rattle.yaml_loader.proofs.DocumentCommon.{[], ap, append-nil, append_assoc, arith, BeginsPlaced, by_key, by_memory, by_parser, documents_of, Ended, EndsDocument, Err, ErrorReport, Ev, events_of, false, fault_in, Faults, finished, has_documents, has_end, has_noted, HasDocuments, HasNoEnd, HasNoted, HasRead, inl, inr, is_end, is_stream_end, IsBetween, IsNested, IsPlain, IsRead, IsSome, items_view, length, List, Loader, map-append, new_fault, new_loader, None, Ok, Option, option_to_list, Parsed, Position, raws_of, read, Reads, ReadsAll, ReadsOne, refl, refused_at, Refuses, Result, Some, stands, Stops, subst, sym, TakesAll, TakesDocument, Token, Tree, true, view, with_event_at, with_events, with_last, Yaml, ℕ, ◌++◌, ◌<◌, ◌∙◌, ◌∷◌, ◌≡◌, ◌⊎◌}
 use Rattle.proof_loads.proofs.Pulled.{read_given, has_end_append}
-use Rattle.yaml_loader.specs.Gives.{IsGivenFault}
 use Rattle.yaml_loader.specs.Gives as given
-use Rattle.yaml_loader.specs.Loading.{loader_of, kept_fault, Takes}
-use Rattle.yaml_loader.specs.declared.loader.YamlLoader.{YamlLoader}
 use Rattle.yaml_loader.specs.declared.one_document.Halt.{Halt}
 use Rattle.yaml_loader.specs.declared.one_document.Halt.TheVariants as halt
-use Rattle.yaml_loader.proofs.Numbers.{highest, low_at, AreOwn, stream_own, own_first, own_rest}
-use Rattle.yaml_loader.proofs.Beside.{LoaderUpTo, StandBeside, events_up_to, events_beside, begins_beside}
-use Rattle.yaml_loader.proofs.Between.{BeginDocument, BeginSo, begin_at_start, begin_after, over_so_far}
-use Rattle.yaml_loader.proofs.Finishing.{events_append, no_more_documents, end_stays, refused_stays, read_documents, has_are, never_refused, one_read, none_finished, beside_read, beside_has, beside_noted, beside_documents, beside_refused}
+use Rattle.yaml_loader.proofs.Numbers.{highest, AreOwn, stream_own, own_rest, up_to, UpTo}
+use Rattle.yaml_loader.proofs.Beside.{AllSuit, StandBeside, working, events_beside, beside_read, beside_has, beside_noted, beside_documents, beside_refused, no_more_documents}
+use Rattle.yaml_loader.proofs.Between.{ClosesStream, closes_at_start, closes_after, nothing_began, Over, over_so_far}
+use Rattle.yaml_loader.proofs.Finishing.{events_append, end_stays, read_documents, has_are, was_noted, HasOneOrNone, one_or_none}
+use Rattle.yaml_loader.proofs.AnyText.{new_fault_wants, not_refused}
 
 -- ---- what came
 
@@ -34,7 +30,7 @@ read_is {p} h = read_given p.given p.ended p.ahead h.ahead
 given_is : {old now : Parsed} (c : Ended old now) → read now ≡ old.given ++ all_of c
 given_is {old} {now} c = read_given now.given now.ended now.ahead c.ahead ∙ c.given
 
-parts : (es fs : List (Ev × Position)) → events_of (es ++ fs) ≡ events_of es ++ events_of fs
+pub parts : (es fs : List (Ev × Position)) → events_of (es ++ fs) ≡ events_of es ++ events_of fs
 parts es fs = map-append (λ (v : Ev × Position). v.0) es fs
 
 -- a stream begins with the events that were read
@@ -48,44 +44,55 @@ abbrev high : Parsed → ℕ
 high p = highest 0 (events_of p.given)
 
 module _ {old now : Parsed} (b : IsBetween old) (c : Ended old now) where
-  its_aliases : AreOwn (low_at 0 0 (events_of old.given)) (highest 0 (events_of old.given)) (events_of (all_of c))
-  its_aliases =
+  -- The events that came close the stream, with more.
+  closes_so : (more : List Ev) × ClosesStream (events_of (all_of c) ++ more)
+  closes_so =
+      let n = c.sound.nested in
+      let nested : IsNested (events_of (old.given ++ all_of c) ++ n.0) = subst (λ es. IsNested (events_of es ++ n.0)) (given_is c) n.1 in
+      elim b.last [
+        | inl none ↦ (n.0, closes_at_start (events_of (all_of c) ++ n.0) (subst (λ es. IsNested (events_of (es ++ all_of c) ++ n.0)) none nested))
+        | inr ends ↦
+            let before = events_of ends.before ++ Ev.document_end ∷ [] in
+            let same : events_of old.given ≡ before = ap events_of ends.given ∙ parts ends.before ((Ev.document_end, ends.position) ∷ []) in
+            let split : events_of (old.given ++ all_of c) ++ n.0 ≡ before ++ (events_of (all_of c) ++ n.0) =
+            ap (λ es. es ++ n.0) (parts old.given (all_of c) ∙ ap (λ es. es ++ events_of (all_of c)) same) ∙ append_assoc before (events_of (all_of c)) n.0 in
+            (n.0, closes_after (events_of ends.before) (events_of (all_of c) ++ n.0) (subst IsNested split nested))
+      ]
+
+  its_aliases_are_over : AllSuit (Over (high old)) (all_of c)
+  its_aliases_are_over =
       let s = stream_begins b.plain c in
       let more = s.1.more_events in
-      let all : AreOwn 0 0 (events_of ((old.given ++ all_of c) ++ more)) = stream_own now.keep_tags (raws_of s.1.stream.raws) (events_of ((old.given ++ all_of c) ++ more)) s.1.stream.has_events in
-      let first : AreOwn 0 0 (events_of (old.given ++ all_of c)) =
-      own_first 0 0 (events_of (old.given ++ all_of c)) (events_of more) (subst (AreOwn 0 0) (parts (old.given ++ all_of c) more) all) in
-      own_rest 0 0 (events_of old.given) (events_of (all_of c)) (subst (AreOwn 0 0) (parts old.given (all_of c)) first)
-
-  nested_all : (more : List Ev) × IsNested ((events_of old.given ++ events_of (all_of c)) ++ more)
-  nested_all =
-      let n = c.sound.nested in
-      (n.0, subst (λ vs. IsNested (vs ++ n.0)) (ap events_of (given_is c) ∙ parts old.given (all_of c)) n.1)
-
-  begin_so : BeginSo (events_of (all_of c))
-  begin_so = elim b.last [
-    | inl none ↦ begin_at_start (events_of (all_of c)) nested_all.0 (subst (λ es. IsNested ((events_of es ++ events_of (all_of c)) ++ nested_all.0)) none nested_all.1)
-    | inr ends ↦
-        let before = events_of ends.before in
-        let same : events_of old.given ≡ before ++ Ev.document_end ∷ [] = ap events_of ends.given ∙ parts ends.before ((Ev.document_end, ends.position) ∷ []) in
-        begin_after before (events_of (all_of c)) nested_all.0
-        (subst IsNested (append_assoc (before ++ Ev.document_end ∷ []) (events_of (all_of c)) nested_all.0)
-        (subst (λ vs. IsNested ((vs ++ events_of (all_of c)) ++ nested_all.0)) same nested_all.1))
-  ]
+      let all = stream_own now.keep_tags (raws_of s.1.stream.raws) (events_of ((old.given ++ all_of c) ++ more)) s.1.stream.has_events in
+      let split : events_of ((old.given ++ all_of c) ++ more) ≡ events_of old.given ++ (events_of (all_of c) ++ events_of more) =
+      ap events_of (append_assoc old.given (all_of c) more) ∙ parts old.given (all_of c ++ more) ∙ ap (λ es. events_of old.given ++ es) (parts (all_of c) more) in
+      let own = own_rest 0 0 (events_of old.given) (events_of (all_of c) ++ events_of more) (subst (AreOwn 0 0) split all) in
+      over_so_far (all_of c) closes_so.0 (events_of more) own.0 (high old) closes_so.1 own.1
 
   -- A loader of all events stands beside one of the events that came.
-  beside : StandBeside (highest 0 (events_of old.given)) (finished old) (with_events new_loader now.given) (with_events new_loader (all_of c))
+  beside : StandBeside (Over (high old)) (finished old) (with_events new_loader now.given) (with_events new_loader (all_of c))
   beside =
-      let high = highest 0 (events_of old.given) in
-      let over = over_so_far (low_at 0 0 (events_of old.given)) high (all_of c) begin_so its_aliases in
-      let up = events_up_to 0 new_loader old.given (record { anchors = tt; opened = tt }) in
-      let so = events_beside high (finished old) (with_events new_loader old.given) new_loader (all_of c) over (at_start (with_events new_loader old.given) (finished old) b.read up) in
-      subst (λ l. StandBeside high (finished old) l (with_events new_loader (all_of c))) (sym (ap (with_events new_loader) c.given ∙ events_append new_loader old.given (all_of c))) so
+      let new : StandBeside (UpTo (high old)) [] new_loader new_loader = working (record { is = refl; anchors = λ n. (refl, λ l. refl); opened = tt }) in
+      let up = events_beside old.given (up_to (high old) 0 old.given (omega arith)) new in
+      subst (λ l. StandBeside (Over (high old)) (finished old) l (with_events new_loader (all_of c)))
+      (sym (ap (with_events new_loader) c.given ∙ events_append new_loader old.given (all_of c)))
+      (events_beside (all_of c) its_aliases_are_over (at_start (finished old) b.read up))
     where
-      at_start : (x : Loader) (ds : List Tree) → HasRead (Ok ds) x → LoaderUpTo (highest 0 (events_of old.given)) x → StandBeside (highest 0 (events_of old.given)) ds x new_loader
-      at_start (at_work u) ds h up = subst (λ es. StandBeside (highest 0 (events_of old.given)) es (at_work u) new_loader) h.0 (begins_beside (highest 0 (events_of old.given)) u h.1 h.2 up)
-      at_start (noted es k p) ds h up = absurd h
-      at_start (refused es p) ds h up = absurd h
+      at_start : {x y : Loader} (ds : List Tree) → HasRead (Ok ds) x → StandBeside (UpTo (high old)) [] x y → StandBeside (Over (high old)) ds x new_loader
+      at_start ds h (working {u} k) = working (record {
+        is = λ i. record { documents = (h.0 ∙ sym (append-nil ds)) i; opened = h.1 i; root = h.2 i; anchors = u.anchors };
+        anchors = λ n l. (k.anchors n).1 l;
+        opened = tt;
+      })
+      at_start ds h x = absurd h
+
+  -- With the stream's end nothing was read.
+  nothing_read : c.last ≡ Ev.stream_end → with_events new_loader (all_of c) ≡ new_loader
+  nothing_read e =
+      with_last new_loader c.events c.last c.position ∙ ap (λ v. with_event_at (with_events new_loader c.events) v c.position) e
+      ∙ end_stays (with_events new_loader c.events) c.position
+      ∙ nothing_began c.events c.position closes_so.0 c.no_end
+      (subst (λ v. ClosesStream (events_of (c.events ++ (v, c.position) ∷ []) ++ closes_so.0)) e closes_so.1)
 
 -- ---- which end it is
 
@@ -94,13 +101,16 @@ end_cases Ev.document_end h = inl refl
 end_cases Ev.stream_end h = inr refl
 end_cases _ h = cc
 
+given_with : {old now : Parsed} (c : Ended old now) {e : Ev} → c.last ≡ e → now.given ≡ (old.given ++ c.events) ++ (e, c.position) ∷ []
+given_with {old} c {e} is = c.given ∙ ap (λ v. old.given ++ (c.events ++ (v, c.position) ∷ [])) is ∙ sym (append_assoc old.given c.events ((e, c.position) ∷ []))
+
 -- the last event ended a document
 ends_document : {old now : Parsed} (c : Ended old now) → c.last ≡ Ev.document_end → EndsDocument now
-ends_document {old} {now} c e = record {
-  before = old.given ++ c.events;
-  position = c.position;
-  given = c.given ∙ ap (λ v. old.given ++ (c.events ++ (v, c.position) ∷ [])) e ∙ sym (append_assoc old.given c.events ((Ev.document_end, c.position) ∷ []));
-}
+ends_document {old} c e = record { before = old.given ++ c.events; position = c.position; given = given_with c e }
+
+after_document : {old now : Parsed} (c : Ended old now) → c.last ≡ Ev.document_end → HasOneOrNone (with_events new_loader (all_of c))
+after_document c e =
+    subst (λ v. HasOneOrNone (with_events new_loader (c.events ++ (v, c.position) ∷ []))) (sym e) (one_or_none c.events c.position c.no_end)
 
 -- ---- a document that was read
 
@@ -118,51 +128,47 @@ none_popped xs [] (Some y) e h = let same : view y ∷ [] ≡ [] = ap items_view
 none_popped xs (z ∷ ys) (Some y) e h = let same : view z ∷ items_view (ys ++ y ∷ []) ≡ [] = ap items_view (sym e) ∙ h in cc
 
 module _ {old now : Parsed} {r s : YamlLoader} (b : IsBetween old) (new : loader_of r ≡ new_loader) (clear : kept_fault r ≡ None) where
-  reads_one : (t : TakesAll Takes old r now s) → t.came.last ≡ Ev.document_end → (ds : List Tree) → HasDocuments (with_events new_loader (all_of t.came)) ds → (tree : Tree) × (ds ≡ tree ∷ []) × ReadsOne old tree now
-  reads_one t e ds has =
-      let c = t.came in
-      let same : all_of c ≡ c.events ++ (Ev.document_end, c.position) ∷ [] = ap (λ v. c.events ++ (v, c.position) ∷ []) e in
-      let one = one_read c.events c.position ds c.no_end (subst (λ es. HasDocuments (with_events new_loader es) ds) same has) in
-      let read : HasRead (Ok (finished old ++ one.tree ∷ [])) (with_events new_loader now.given) =
-      beside_read (high old) (finished old) (with_events new_loader now.given) (with_events new_loader (all_of c)) (one.tree ∷ []) (beside b c) (subst (λ es. HasRead (Ok (one.tree ∷ [])) (with_events new_loader es)) (sym same) one.read) in
-      let are : finished now ≡ finished old ++ one.tree ∷ [] = read_documents (with_events new_loader now.given) (finished old ++ one.tree ∷ []) read in (
-        one.tree,
-        one.one,
-        record {
-          between = record {
-            going = record { fault = c.sound.fault; ended = t.ended ∙ ap is_stream_end e };
-            plain = plain_after b.plain c;
-            read = subst (λ xs. HasRead (Ok xs) (with_events new_loader now.given)) (sym are) read;
-            last = inr (ends_document c e);
-          };
-          is_read = is_read b.plain c;
-          last = ends_document c e;
-          added = are;
-          less = t.less (λ k. let no : Ev.document_end ≡ Ev.stream_end = sym e ∙ k in cc);
-        },
-      )
+  reads_one : (t : TakesAll Takes old r now s) → t.came.last ≡ Ev.document_end → (ds : List Tree) → HasDocuments (with_events new_loader (all_of t.came)) ds
+      → (tree : Tree) × (ds ≡ tree ∷ []) × ReadsOne old tree now
+  reads_one t e ds has = elim (after_document t.came e) [
+    | inl one ↦
+        let c = t.came in
+        let read = beside_read (one.0 ∷ []) (beside b c) one.1 in
+        let are : finished now ≡ finished old ++ one.0 ∷ [] = read_documents (with_events new_loader now.given) (finished old ++ one.0 ∷ []) read in (
+          one.0,
+          sym (has_are _ ds has) ∙ read_documents _ (one.0 ∷ []) one.1,
+          record {
+            between = record {
+              going = record { fault = c.sound.fault; ended = t.ended ∙ ap is_stream_end e };
+              plain = plain_after b.plain c;
+              read = subst (λ xs. HasRead (Ok xs) (with_events new_loader now.given)) (sym are) read;
+              last = inr (ends_document c e);
+            };
+            is_read = is_read b.plain c;
+            last = ends_document c e;
+            added = are;
+            less = t.less (λ k. let no : Ev.document_end ≡ Ev.stream_end = sym e ∙ k in cc);
+          },
+        )
+    | inr none ↦ absurd (none.1 ds has)
+  ]
 
   reads_all : (t : TakesAll Takes old r now s) → t.came.last ≡ Ev.stream_end → (ds : List Tree) → HasDocuments (with_events new_loader (all_of t.came)) ds → (ds ≡ []) × ReadsAll old now
   reads_all t e ds has =
       let c = t.came in
-      let stays : with_events new_loader (all_of c) ≡ with_events new_loader c.events =
-      with_last new_loader c.events c.last c.position ∙ ap (λ v. with_event_at (with_events new_loader c.events) v c.position) e ∙ end_stays (with_events new_loader c.events) c.position in
-      let none : ds ≡ [] = sym (has_are (with_events new_loader (all_of c)) ds has) ∙ ap documents_of stays ∙ no_more_documents new_loader c.events c.no_end in
       let all : HasDocuments (with_events new_loader now.given) (finished old) =
-      subst (HasDocuments (with_events new_loader now.given)) (ap (λ xs. finished old ++ xs) none ∙ append-nil (finished old)) (beside_has (high old) (finished old) (with_events new_loader now.given) (with_events new_loader (all_of c)) ds (beside b c) has) in
-      let are : finished now ≡ finished old = has_are (with_events new_loader now.given) (finished old) all in (
-        none,
+      subst (HasDocuments (with_events new_loader now.given)) (append-nil (finished old))
+      (beside_has [] (beside b c) (subst (λ l. HasDocuments l []) (sym (nothing_read b c e)) refl)) in
+      let are : finished now ≡ finished old = has_are (with_events new_loader now.given) (finished old) all in
+      let ends : now.given ≡ (old.given ++ c.events) ++ (Ev.stream_end, c.position) ∷ [] = given_with c e in (
+        sym (subst (λ l. HasDocuments l ds) (nothing_read b c e) has),
         record {
           is_read = is_read b.plain c;
-          ended = ap has_end (c.given ∙ ap (λ v. old.given ++ (c.events ++ (v, c.position) ∷ [])) e ∙ sym (append_assoc old.given c.events ((Ev.stream_end, c.position) ∷ []))) ∙ has_end_append (old.given ++ c.events) ((Ev.stream_end, c.position) ∷ []) ∙ or_true (has_end (old.given ++ c.events));
+          ended = ap has_end ends ∙ has_end_append (old.given ++ c.events) ((Ev.stream_end, c.position) ∷ []) ∙ grind arith;
           same = are;
           documents = subst (HasDocuments (with_events new_loader now.given)) (sym are) all;
         },
       )
-    where
-      or_true : (x : Bool) → x || true ≡ true
-      or_true true = refl
-      or_true false = refl
 
   -- What the loader gives is the document, if there was one.
   pub read_so : (xs ys : List Yaml) (o : Option Yaml) → TakesAll Takes old r now s → HasDocuments (loader_of s) (items_view xs) → xs ≡ ys ++ option_to_list o → (0 < length xs → IsSome o) → Reads old (Ok o) now
@@ -179,72 +185,7 @@ module _ {old now : Parsed} {r s : YamlLoader} (b : IsBetween old) (new : loader
             subst (λ z. Reads old (Ok z) now) (sym (none_popped xs ys o e none.0)) none.1
       ]
 
--- ---- a key that came twice
-
-inside_open : (es : List (Ev × Position)) → HasNoEnd es → is_open true (events_of es) ≡ true
-inside_open [] h = refl
-inside_open (e ∷ es) h = ap (λ b. is_open b (events_of es)) (stays e.0 h.0) ∙ inside_open es h.1
-  where
-    stays : (v : Ev) → is_end v ≡ false → opened v true ≡ true
-    stays Ev.document_end k = cc
-    stays _ k = refl
-
--- before the stream's end no document began, or one is open
-abbrev NoneOrOpen : Bool → List (Ev × Position) → Type 0
-NoneOrOpen b es = (with_events new_loader es ≡ new_loader) ⊎ (is_open b (events_of es) ≡ true)
-
-none_or_open : (b : Bool) (es : List (Ev × Position)) (q : Position) → HasNoEnd es → BeginDocument (events_of (es ++ (Ev.stream_end, q) ∷ [])) → NoneOrOpen b es
-none_or_open b [] q h d = inl refl
-none_or_open b ((Ev.document_start, p) ∷ es) q h d = inr (inside_open es h.1)
-none_or_open b ((Ev.stream_end, p) ∷ es) q h d = let no : true ≡ false = h.0 in cc
-none_or_open b ((_, p) ∷ es) q h d = absurd d
-
-so_none_or_open : (b : Bool) (es : List (Ev × Position)) (q : Position) → HasNoEnd es → BeginSo (events_of (es ++ (Ev.stream_end, q) ∷ [])) → NoneOrOpen b es
-so_none_or_open b [] q h d = inl refl
-so_none_or_open b ((Ev.stream_start, p) ∷ es) q h d = none_or_open (opened Ev.stream_start b) es q h.1 d
-so_none_or_open b ((Ev.document_start, p) ∷ es) q h d = inr (inside_open es h.1)
-so_none_or_open b ((Ev.stream_end, p) ∷ es) q h d = let no : true ≡ false = h.0 in cc
-so_none_or_open b ((_, p) ∷ es) q h d = absurd d
-
-open_append : (b : Bool) (es fs : List Ev) → is_open b (es ++ fs) ≡ is_open (is_open b es) fs
-open_append b [] fs = refl
-open_append b (e ∷ es) fs = open_append (opened e b) es fs
-
--- With the stream's end no key came twice.
-none_noted : {old now : Parsed} → IsBetween old → (c : Ended old now) → c.last ≡ Ev.stream_end → (key : Tree) (p : Position) → HasNoted (with_events new_loader (all_of c)) key p → ⊥
-none_noted {old} {now} b c e key p had = elim either [
-  | inl none ↦ subst (λ l. HasNoted l key p) (stays ∙ none) had
-  | inr is ↦
-      no_end_inside (old.given ++ c.events) c.position (ap (is_open false) (parts old.given c.events) ∙ open_append false (events_of old.given) (events_of c.events) ∙ is)
-      (subst (λ es. BeginsNested (events_of es)) (given_is c ∙ ap (λ es. old.given ++ es) same ∙ sym (append_assoc old.given c.events ((Ev.stream_end, c.position) ∷ []))) c.sound.nested)
-]
-  where
-    same : all_of c ≡ c.events ++ (Ev.stream_end, c.position) ∷ []
-    same = ap (λ v. c.events ++ (v, c.position) ∷ []) e
-
-    stays : with_events new_loader (all_of c) ≡ with_events new_loader c.events
-    stays =
-        with_last new_loader c.events c.last c.position ∙ ap (λ v. with_event_at (with_events new_loader c.events) v c.position) e
-        ∙ end_stays (with_events new_loader c.events) c.position
-
-    either : NoneOrOpen (is_open false (events_of old.given)) c.events
-    either = so_none_or_open (is_open false (events_of old.given)) c.events c.position c.no_end (subst (λ es. BeginSo (events_of es)) same (begin_so b c))
-
--- No event with which a stream's begin is refused.
-not_refused : (keep_tags : Bool) (tokens : List Token) (es : List (Ev × Position)) (p : Position) → BeginsPlaced keep_tags tokens es → refused_at (with_events new_loader es) ≡ Some p → ⊥
-not_refused keep_tags tokens es p begins = by (with_events new_loader es) refl
-  where
-    all : List (Ev × Position)
-    all = es ++ begins.more_events
-
-    by : (x : Loader) → with_events new_loader es ≡ x → refused_at x ≡ Some p → ⊥
-    by (at_work u) e h = cc
-    by (noted ds key q) e h = cc
-    by (refused ds q) e h =
-        let nested = stream_nests keep_tags (toks (tokens ++ begins.more_tokens)) (events_of all) (placed_stream keep_tags (tokens ++ begins.more_tokens) all begins.stream) in
-        let read = one_by_one nested.0 all (sym nested.1) in
-        let stays : with_events new_loader all ≡ refused ds q = events_append new_loader es begins.more_events ∙ ap (λ x. with_events x begins.more_events) e ∙ refused_stays ds q begins.more_events in
-        never_refused (reading nested.0) ds q (subst (HasRead (reading nested.0)) stays read)
+-- ---- why it stops
 
 module _ {old now : Parsed} {r s : YamlLoader} (b : IsBetween old) (new : loader_of r ≡ new_loader) (clear : kept_fault r ≡ None) where
   -- Where the loader has noted a key, the documents are those before.
@@ -256,28 +197,26 @@ module _ {old now : Parsed} {r s : YamlLoader} (b : IsBetween old) (new : loader
       let mine = has_noted (with_events new_loader (all_of c)) (loader_of s) key f.position after.alike has in
       elim (end_cases c.last t.is_end) [
         | inl h ↦
-            let same : all_of c ≡ c.events ++ (Ev.document_end, c.position) ∷ [] = ap (λ v. c.events ++ (v, c.position) ∷ []) h in
-            let none : documents_of (with_events new_loader (all_of c)) ≡ [] =
-            ap (λ es. documents_of (with_events new_loader es)) same ∙ none_finished c.events c.position key f.position c.no_end (subst (λ es. HasNoted (with_events new_loader es) key f.position) same mine) in
+            let none : documents_of (with_events new_loader (all_of c)) ≡ [] = elim (after_document c h) [
+              | inl one ↦ let no = was_noted (Ok (one.0 ∷ [])) (with_events new_loader (all_of c)) key f.position one.1 mine in cc
+              | inr none ↦ none.0
+            ] in
             by_key (is_read b.plain c) (ends_document c h)
-            (beside_documents (high old) (finished old) (with_events new_loader now.given) (with_events new_loader (all_of c)) (beside b c) ∙ ap (λ xs. finished old ++ xs) none ∙ append-nil (finished old))
-            key (beside_noted (high old) (finished old) (with_events new_loader now.given) (with_events new_loader (all_of c)) key f.position (beside b c) mine) (tells after.tells) owned
-        | inr h ↦ absurd (none_noted b c h key f.position mine)
+            (beside_documents (beside b c) ∙ ap (λ xs. finished old ++ xs) none ∙ append-nil (finished old))
+            key (beside_noted key f.position (beside b c) mine) (tells after.tells) owned
+        | inr h ↦ absurd (subst (λ l. HasNoted l key f.position) (nothing_read b c h) mine)
       ]
 
   -- Where the loader refuses an event, memory was refused.
   pub refused_by_memory : (f : ErrorReport) → Refuses Takes old r f now s → WantsMemory f
-  refused_by_memory f q = elim (new_fault r new clear q.came.last q.came.position q.received q.refuses) [
-    | inl wants ↦ record { memory = ap (λ g. g.memory) wants; text = ap (λ g. g.text) wants }
-    | inr nesting ↦
-        let c = q.came in
-        let s = stream_begins b.plain c in
-        let at : refused_at (with_events new_loader (old.given ++ all_of c)) ≡ Some c.position =
-        ap (λ es. refused_at (with_events new_loader es)) (sym c.given)
-        ∙ beside_refused (high old) (finished old) (with_events new_loader now.given) (with_events new_loader (all_of c)) (beside b c)
-        ∙ ap refused_at (with_last new_loader c.events c.last c.position) ∙ nesting.1 in
-        absurd (not_refused now.keep_tags s.0 (old.given ++ all_of c) c.position s.1 at)
-  ]
+  refused_by_memory f q =
+      let c = q.came in
+      let begins = stream_begins b.plain c in
+      let last : with_events new_loader (all_of c) ≡ with_event_at (with_events new_loader c.events) c.last c.position = with_last new_loader c.events c.last c.position in
+      let same : refused_at (with_events new_loader (old.given ++ all_of c)) ≡ refused_at (with_events new_loader (all_of c)) =
+      ap (λ es. refused_at (with_events new_loader es)) (sym c.given) ∙ beside_refused (beside b c) in
+      new_fault_wants (with_event_at (with_events new_loader c.events) c.last c.position) (new_fault r new clear c.last c.position q.received q.refuses)
+      (λ at. not_refused now.keep_tags begins.0 (old.given ++ all_of c) c.position begins.1 (same ∙ ap refused_at last ∙ at))
 
 -- events without an end finish no document more
 pub none_more : (old : Parsed) (es : List (Ev × Position)) (now : Parsed) → HasNoEnd es → now.given ≡ old.given ++ es → finished now ≡ finished old

@@ -1,7 +1,7 @@
 -- The events of one document, one by one.
 use Rattle.yaml_loader.proofs.DocumentCommon.{[], ap, append-nil, append_assoc, arith, Ended, Err, ErrorReport, Ev, false, Faults, Goes, HasNoEnd, if◌then◌else◌, is_end, is_stream_end, IsGoing, List, Ok, Parsed, Position, refl, Refuses, Result, sym, TakesAll, true, ◌++◌, ◌||◌, ◌∙◌, ◌∷◌, ◌≡◌, ◌≢◌}
 use Rattle.yaml_parser.specs.Loads.{no_event, one_event}
-use Rattle.yaml_parser.specs.Pulls.{GivesEvent, GivesFault}
+use Rattle.yaml_parser.specs.Pulls.{GivesEvent, GivesFault, KeepsSettings}
 
 pub is_not_end : (e : Ev) → is_end e ≡ false → e ≢ Ev.stream_end
 is_not_end e h k = let no : true ≡ false = sym (ap is_end k) ∙ h in cc
@@ -25,6 +25,9 @@ begins takes p l h = record {
   left = omega arith;
 }
 
+kept : {a b c : Parsed} → KeepsSettings a b → KeepsSettings b c → KeepsSettings a c
+kept x y = record { keep_tags = y.keep_tags ∙ x.keep_tags; steady = y.steady ∙ x.steady }
+
 given_more : {now new : Parsed} {e : Ev × Position} → IsGoing now → GivesEvent now e new → new.given ≡ now.given ++ e ∷ []
 given_more {now} {new} {e} h g = g.given ∙ ap (λ b. now.given ++ (if b then [] else e ∷ [])) h.ended
 
@@ -45,7 +48,7 @@ module _ {R : Type 0} {takes : R → Ev → Position → Result (Unit {0}) Error
         no_end = no_end_more g.events e p g.no_end other;
         given = more_given e p g gives;
         going = record { fault = gives.sound.fault; ended = ended_by g.going gives ∙ no_stream_end e other };
-        settings = record { keep_tags = gives.settings.keep_tags ∙ g.settings.keep_tags; steady = gives.settings.steady ∙ g.settings.steady };
+        settings = kept g.settings gives.settings;
         received = one_event e p g.received took;
         left = omega (arith, less, before);
       }
@@ -58,7 +61,7 @@ module _ {R : Type 0} {takes : R → Ev → Position → Result (Unit {0}) Error
     no_end = g.no_end;
     given = more_given e p g gives;
     ahead = gives.ahead;
-    settings = record { keep_tags = gives.settings.keep_tags ∙ g.settings.keep_tags; steady = gives.settings.steady ∙ g.settings.steady };
+    settings = kept g.settings gives.settings;
     sound = gives.sound;
   }
 
@@ -78,7 +81,7 @@ module _ {R : Type 0} {takes : R → Ev → Position → Result (Unit {0}) Error
     events = g.events;
     no_end = g.no_end;
     given = gives.given ∙ g.given;
-    settings = record { keep_tags = gives.settings.keep_tags ∙ g.settings.keep_tags; steady = gives.settings.steady ∙ g.settings.steady };
+    settings = kept g.settings gives.settings;
     why = gives.why g.going.fault;
   }
 

@@ -1,17 +1,15 @@
 -- What the readings of one document say of a text.
-use Rattle.yaml_loader.proofs.DocumentCommon.{[], ap, at_work, Bool, by_key, by_memory, by_parser, documents_of, EndsDocument, ErrorReport, Ev, events_of, false, fault_of, finished, Foretells, has_end, HasNoted, HasRead, IsNested, IsPlain, IsRead, IsStream, List, Loader, map, map-append, nested_stream, NestedDocument, new_loader, noted, Ok, one_by_one, Parsed, placed_stream, Position, read, reading, ReadsAll, ReadsOne, refl, refused, ScansIn, Stops, stream_nests, subst, sym, toks, Tree, with_events, with_last, ℕ, ◌++◌, ◌∙◌, ◌∷◌, ◌≡◌}
-use Rattle.yaml_parser.specs.Follows.{Explains}
+use Rattle.yaml_loader.proofs.Common.{first_position, Means, memory_is_wanted}
+use Rattle.yaml_loader.proofs.DocumentCommon.{[], ap, Bool, by_key, by_memory, by_parser, documents_of, EndsDocument, ErrorReport, Ev, events_of, false, fault_of, finished, Foretells, has_end, HasNoted, HasRead, IsNested, IsRead, IsStream, List, Loader, map, nested_stream, NestedDocument, new_loader, noted, Ok, one_by_one, Parsed, placed_stream, Position, read, reading, ReadsAll, ReadsOne, refl, ScansIn, Stops, stream_nests, subst, sym, toks, Tree, with_events, with_last, ℕ, ◌++◌, ◌∙◌, ◌∷◌, ◌≡◌}
 use Rattle.proof_loads.specs.TextEvents.{AreFirst, BeginsEvents, IsFaultOf, wants_memory}
-use Rattle.defs_event.specs.Meaning.{Means}
-use Rattle.proof_loads.proofs.Loads.{memory_is_wanted}
 use Rattle.proof_loads.proofs.StreamEnds.{all_tokens}
 use Rattle.proof_loads.proofs.Texts.{goes_on, first_tokens}
 use Rattle.yaml_loader.specs.FirstDocuments.{BeginsDocuments, BeginsAs, IsStopped}
 use Rattle.yaml_loader.specs.FirstDocuments as first
 use Rattle.yaml_loader.specs.DocumentLaws.{GivenDocumentsAreTheFirst, TextsThatLoadAreNotStopped}
 use Rattle.yaml_loader.proofs.Between.{nested_so_far}
-use Rattle.yaml_loader.proofs.Finishing.{events_append, end_stays, read_documents, read_has, was_read, was_noted, documents_grow, noted_stays}
-use Rattle.yaml_loader.proofs.DocumentReading.{read_is}
+use Rattle.yaml_loader.proofs.Finishing.{cleared, events_append, end_stays, read_documents, read_has, was_read, was_noted, documents_grow, noted_stays}
+use Rattle.yaml_loader.proofs.DocumentReading.{parts, read_is}
 
 -- ---- the text's events begin with those that were read
 
@@ -30,7 +28,7 @@ nested_to_end : (p : Parsed) → IsRead p → EndsDocument p → IsNested (event
 nested_to_end p h ends =
     let n = h.sound.nested in
     let before = events_of ends.before in
-    let same : events_of p.given ≡ before ++ Ev.document_end ∷ [] = ap events_of ends.given ∙ map-append (λ (v : Ev × Position). v.0) ends.before ((Ev.document_end, ends.position) ∷ []) in
+    let same : events_of p.given ≡ before ++ Ev.document_end ∷ [] = ap events_of ends.given ∙ parts ends.before ((Ev.document_end, ends.position) ∷ []) in
     subst (λ vs. IsNested (vs ++ Ev.stream_end ∷ [])) (sym same)
     (nested_so_far before n.0 (subst (λ vs. IsNested (vs ++ n.0)) (ap events_of (read_is h) ∙ same) n.1))
 
@@ -40,14 +38,11 @@ begins_documents p text h ends scans =
     (n.0, record { begins = text_begins p text h scans; nested = sym n.1 })
 
 -- Documents are read as a loader has them after their events.
-abbrev here : Position
-here = record { index = 0; line = 1; col = 0 }
-
 so_read : (es : List (Ev × Position)) (ds : List NestedDocument) → events_of es ++ Ev.stream_end ∷ [] ≡ nested_stream ds → HasRead (reading ds) (with_events new_loader es)
 so_read es ds nested =
-    let all = es ++ (Ev.stream_end, here) ∷ [] in
-    let read = one_by_one ds all (map-append (λ (v : Ev × Position). v.0) es ((Ev.stream_end, here) ∷ []) ∙ nested) in
-    subst (HasRead (reading ds)) (with_last new_loader es Ev.stream_end here ∙ end_stays (with_events new_loader es) here) read
+    let all = es ++ (Ev.stream_end, first_position) ∷ [] in
+    let read = one_by_one ds all (parts es ((Ev.stream_end, first_position) ∷ []) ∙ nested) in
+    subst (HasRead (reading ds)) (with_last new_loader es Ev.stream_end first_position ∙ end_stays (with_events new_loader es) first_position) read
 
 -- ---- what is said of a text
 
@@ -81,13 +76,9 @@ says_all {old} {now} text r scans =
       };
     }
 
--- of a parser's fault
-fault_is : (p : Parsed) (text : List ℕ) (f : ErrorReport) → IsPlain p → ScansIn text p.scanner → Explains f p → IsFaultOf false text f
-fault_is p text f plain scans why = subst (λ k. IsFaultOf k text f) plain.keep_tags (fault_of text p f scans plain.steady why)
-
 -- after a fault
 pub says_stop : {old now : Parsed} (f : ErrorReport) (text : List ℕ) → Stops old f now → ScansIn text now.scanner → IsStopped false text (finished now) f
-says_stop {old} {now} f text (by_parser why plain same) scans = first.of_parser (fault_is now text f plain scans why)
+says_stop {old} {now} f text (by_parser why plain same) scans = first.of_parser (subst (λ k. IsFaultOf k text f) plain.keep_tags (fault_of text now f scans plain.steady why))
 says_stop f text (by_memory wants) scans = first.of_parser (wants_memory wants)
 says_stop {old} {now} f text (by_key is_read ends same key has tells owned) scans =
     let b = begins_documents now text is_read ends scans in
@@ -96,7 +87,7 @@ says_stop {old} {now} f text (by_key is_read ends same key has tells owned) scan
 -- ---- a text that loads
 
 abbrev placed_here : List Ev → List (Ev × Position)
-placed_here vs = map (λ v. (v, here)) vs
+placed_here vs = map (λ v. (v, first_position)) vs
 
 back : (vs : List Ev) → events_of (placed_here vs) ≡ vs
 back [] = refl
@@ -108,7 +99,7 @@ goes_to keep_tags text all es x b =
     let y = goes_on keep_tags text all _ x b.first in
     let o = b.only y.more (nested_stream y.reads.documents) y.reads.stream in
     let more = placed_here o.0 in
-    let are : events_of (es ++ more) ≡ nested_stream y.reads.documents = map-append (λ (v : Ev × Position). v.0) es more ∙ ap (λ vs. events_of es ++ vs) (back o.0) ∙ sym o.1 in
+    let are : events_of (es ++ more) ≡ nested_stream y.reads.documents = parts es more ∙ ap (λ vs. events_of es ++ vs) (back o.0) ∙ sym o.1 in
     let was = one_by_one y.reads.documents (es ++ more) are in
     (more, subst (HasRead (Ok all)) (events_append new_loader es more) (subst (λ r. HasRead r (with_events new_loader (es ++ more))) y.reads.trees_are was))
 
@@ -116,9 +107,9 @@ pub given_are_the_first : GivenDocumentsAreTheFirst
 given_are_the_first keep_tags text trees all b x =
     let g = goes_to keep_tags text all b.events x b.begins.begins in
     let start = with_events new_loader b.events in
-    let grown = documents_grow start g.0 in
+    let more = documents_of (with_events (cleared start) g.0) in
     let before : documents_of start ≡ trees = read_documents start trees (subst (λ r. HasRead r start) b.trees_are (so_read b.events b.documents b.begins.nested)) in
-    (grown.0, sym (read_documents (with_events start g.0) all g.1) ∙ grown.1 ∙ ap (λ ts. ts ++ grown.0) before)
+    (more, sym (read_documents (with_events start g.0) all g.1) ∙ documents_grow start g.0 ∙ ap (λ ts. ts ++ more) before)
 
 pub only_memory_is_wanted : TextsThatLoadAreNotStopped
 only_memory_is_wanted keep_tags text trees all f (first.of_parser why) x = memory_is_wanted keep_tags text all f x why
@@ -127,6 +118,5 @@ only_memory_is_wanted keep_tags text trees all f (first.repeated_key es ds b key
     absurd (by g.0 (with_events new_loader es) has g.1)
   where
     by : (more : List (Ev × Position)) (l : Loader) → HasNoted l key f.position → HasRead (Ok all) (with_events l more) → ⊥
-    by more (at_work u) h r = absurd h
     by more (noted d k p) h r = subst (HasRead (Ok all)) (noted_stays d k p more) r
-    by more (refused d p) h r = absurd h
+    by more l h r = absurd h

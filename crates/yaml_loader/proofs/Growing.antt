@@ -15,22 +15,19 @@ module _ (table more : List Mark) where
 
     pub grown_parts : (ms : List Mark) (ps : Parts) → PartsStand table ms ps → PartsStand (table ++ more) ms ps
     grown_parts [] no_parts h = tt
-    grown_parts [] (part s ps) h = absurd h
-    grown_parts (m ∷ ms) no_parts h = absurd h
     grown_parts (m ∷ ms) (part s ps) h = (grown m s h.0, grown_parts ms ps h.1)
+    grown_parts ms ps h = absurd h
 
   pub grown_perhaps : (m : Option Mark) (s : Option Marks) → PerhapsStands table m s → PerhapsStands (table ++ more) m s
   grown_perhaps None None h = tt
-  grown_perhaps None (Some s) h = absurd h
-  grown_perhaps (Some m) None h = absurd h
   grown_perhaps (Some m) (Some s) h = grown m s h
+  grown_perhaps m s h = absurd h
 
   pub grown_open : (bs : List Begun) (waiting : List Mark) (os : List OpenMarks) → AllOpenStand table bs waiting os → AllOpenStand (table ++ more) bs waiting os
   grown_open [] waiting [] h = h
-  grown_open [] waiting (o ∷ os) h = absurd h
-  grown_open (b ∷ bs) waiting [] h = absurd h
   grown_open (b ∷ bs) waiting (o ∷ os) (outer, (r, h)) =
       (outer, (record { mine = r.mine; waits = r.waits; before = r.before; anchor = r.anchor; start = r.start; stand = grown_parts r.mine (parts_of o.parts) r.stand }, grown_open bs outer os h))
+  grown_open bs waiting os h = absurd h
 
   pub grown_anchors : (entries : List (ℕ × Mark)) (anchors : MarkedAnchors) → AnchorsStand table entries anchors → AnchorsStand (table ++ more) entries anchors
   grown_anchors entries anchors h n p = grown (alias_mark p (mark_under n entries)) (aliased_marks n p anchors) (h n p)

@@ -1,7 +1,6 @@
 -- What a guard hands on, from what its parser did with it.
+use Rattle.yaml_loader.proofs.Common.{no_event, one_event, Receives, refused}
 use Rattle.yaml_loader.proofs.LimitedCommon.{[], AnswersText, Backlog, BeginsEvents, by_limits, by_parser, by_receiver, Counts, error_by, error_of, ErrorReport, Ev, Excess, false, faulted, Guard, Guards, Hands, HoldsBack, IfSome, inl, inr, IsExcess, IsNew, IsNotHanded, IsOver, IsWithin, Limits, List, Made, made, made_by, made_from, None, nothing_made, Option, outcome_by, Position, refl, Result, Some, subst, sym, too_deep, too_large, too_many, Waits, want_of_memory, wants_memory, whole, ℕ, ◌++◌, ◌∙◌, ◌∷◌, ◌≡◌}
-use Rattle.yaml_parser.specs.Loads.{Receives, no_event, one_event}
-use Rattle.proof_loads.specs.TextEvents.{refused}
 use Rattle.yaml_loader.specs.declared.count.Excess.TheVariants as excess
 use Rattle.yaml_loader.specs.declared.limits_error.LimitsError.TheVariants as error
 

@@ -1,7 +1,6 @@
 -- What came from a text in memory is that text.
 use Rattle.std.specs.Iterator.{Yields}
-use Rattle.std.specs.Str.{chars, IsUtf8}
-use Rattle.yaml_loader.proofs.Common.{[], ap, BeginsText, Bool, CameFrom, chars_steps, false, first_position, has_no_nul, List, None, Option, refl, Scanned, Some, subst, true, up_to_nul, ℕ, ◌∷◌, ◌≡◌}
+use Rattle.yaml_loader.proofs.Common.{[], ap, BeginsText, Bool, CameFrom, chars, chars_steps, false, first_position, has_no_nul, IsUtf8, List, None, Option, Scanned, true, up_to_nul, ℕ, ◌∷◌, ◌≡◌}
 use Rattle.yaml_chars.specs.InMemory.{text_rest}
 use Rattle.yaml_loader.proofs.TextLemmas.{string_may_be}
 use Rattle.yaml_chars.specs.declared.characters.TextInMemory.{TextInMemory}

@@ -1,9 +1,9 @@
 -- What a load answers of a JSON text that was read at once.
 use Rattle.std.proofs.lemmas.List.Elements.{All-nil, All-cons}
-use Rattle.yaml_loader.proofs.Common.{[], All, ap, Bool, element, Elements, empty_array, empty_object, Err, ErrorReport, false, false_word, fits_i64, Global, HasNoAlias, IfErr, IfOk, if◌then◌else◌, IsJsonText, items, items_view, Json, json_texts_are_read, json_texts_have_no_nul, last_element, last_member, List, LoadsText, Means, member, Members, NoneHasAlias, NoPairHasAlias, null_word, number, object, of_parser, Ok, pair_list, pairs_of, refl, Result, spell_text, subst, sym, Tree, tree_of, true, true_word, up_to_nul, Vec, wants_memory, WantsMemory, Yaml, ℕ, ◌∙◌, ◌∷◌, ◌≡◌}
-use Rattle.defs_layout.specs.Json.{string, array}
+use Rattle.yaml_loader.proofs.Common.{[], All, ap, Bool, element, Elements, Err, ErrorReport, false, fits_i64, Global, HasNoAlias, IfErr, IfOk, if◌then◌else◌, IsJsonText, items, items_view, Json, json_texts_are_read, json_texts_have_no_nul, last_element, last_member, List, LoadsText, Means, member, Members, NoneHasAlias, NoPairHasAlias, number, object, of_parser, Ok, pair_list, pairs_of, Result, subst, sym, Tree, tree_of, true, up_to_nul, Vec, wants_memory, WantsMemory, Yaml, ℕ, ◌∙◌, ◌∷◌, ◌≡◌}
+use Rattle.defs_layout.specs.Json.{array}
 use Rattle.defs_layout.specs.JsonNumber as json
-use Rattle.defs_layout.specs.JsonNumber.{Number, no_fraction, fraction, no_exponent, exponent, number_tree, integer_value}
+use Rattle.defs_layout.specs.JsonNumber.{Number, no_fraction, no_exponent, number_tree, integer_value}
 
 -- ---- no alias stands in its tree
 
@@ -13,20 +13,14 @@ either P false t u h r = r
 
 number_no_alias : (n : Number) → HasNoAlias (number_tree n)
 number_no_alias (json.number b w no_fraction no_exponent) = either HasNoAlias (fits_i64 (integer_value b w)) _ _ tt tt
-number_no_alias (json.number b w no_fraction (exponent c s d)) = tt
-number_no_alias (json.number b w (fraction d) e) = tt
+number_no_alias (json.number b w f e) = tt
 
 mutual
   value_no_alias : (v : Json) → HasNoAlias (tree_of v)
-  value_no_alias false_word = tt
-  value_no_alias null_word = tt
-  value_no_alias true_word = tt
   value_no_alias (number n) = number_no_alias n
-  value_no_alias (string ps) = tt
-  value_no_alias (empty_array g) = tt
   value_no_alias (array g es) = elements_no_alias es
-  value_no_alias (empty_object g) = tt
   value_no_alias (object g ms) = members_no_alias ms
+  value_no_alias v = tt
 
   elements_no_alias : (es : Elements) → NoneHasAlias (items es)
   elements_no_alias (last_element v a) = (value_no_alias v, tt)
@@ -39,23 +33,11 @@ mutual
 -- ---- what a load answers
 
 -- the one tree, or out of memory
-one_read : (text : List ℕ) (tree : Tree) (documents : List Tree) → IsJsonText tree text → documents ≡ tree ∷ [] → Means false (up_to_nul text) documents
-one_read text tree documents (w, is, e, same) shown =
-    subst (Means false (up_to_nul text)) (ap (λ t. t ∷ []) same ∙ sym shown)
-    (subst (λ a. Means false a (tree_of w.value ∷ [])) (sym (json_texts_have_no_nul w is) ∙ ap up_to_nul e) (json_texts_are_read false w is))
-
-pub json_reads : (text : List ℕ) (tree : Tree) (result : Result (Vec Yaml Global) ErrorReport) → IsJsonText tree text → IfOk result (λ documents. items_view documents.items ≡ tree ∷ []) → IfErr result (λ f. WantsMemory f)
-    → LoadsText false (up_to_nul text) result
-json_reads text tree (Ok documents) is ok err = one_read text tree (items_view documents.items) is ok
-json_reads text tree (Err f) is ok err = of_parser (wants_memory err)
-
-one_no_alias : (text : List ℕ) (tree : Tree) (documents : List Tree) → IsJsonText tree text → documents ≡ tree ∷ [] → All HasNoAlias documents
-one_no_alias text tree documents (w, is, e, same) shown = subst (λ ts. All HasNoAlias ts) (sym shown) (All-cons HasNoAlias tree [] (subst HasNoAlias same (value_no_alias w.value)) (All-nil HasNoAlias))
-
-pub json_no_alias : (text : List ℕ) (tree : Tree) (result : Result (Vec Yaml Global) ErrorReport) → IsJsonText tree text → IfOk result (λ documents. items_view documents.items ≡ tree ∷ [])
-    → IfOk result (λ documents. All HasNoAlias (items_view documents.items))
-json_no_alias text tree (Ok documents) is ok = one_no_alias text tree (items_view documents.items) is ok
-json_no_alias text tree (Err f) is ok = tt
-
-pub memory_reads : (text : List ℕ) (f : ErrorReport) → WantsMemory f → LoadsText false text (Err f)
-memory_reads text f wants = of_parser (wants_memory wants)
+pub json_given : (text : List ℕ) (tree : Tree) (result : Result (Vec Yaml Global) ErrorReport) → IsJsonText tree text → IfOk result (λ documents. items_view documents.items ≡ tree ∷ []) → IfErr result (λ f. WantsMemory f)
+    → LoadsText false (up_to_nul text) result × IfOk result (λ documents. All HasNoAlias (items_view documents.items))
+json_given text tree (Ok documents) (w, is, e, same) ok err =
+    let reads = subst (λ a. Means false a (tree_of w.value ∷ [])) (sym (json_texts_have_no_nul w is) ∙ ap up_to_nul e) (json_texts_are_read false w is) in (
+      subst (Means false (up_to_nul text)) (ap (λ t. t ∷ []) same ∙ sym ok) reads,
+      subst (λ ts. All HasNoAlias ts) (sym ok) (All-cons HasNoAlias tree [] (subst HasNoAlias same (value_no_alias w.value)) (All-nil HasNoAlias)),
+    )
+json_given text tree (Err f) is ok err = (of_parser (wants_memory err), tt)

@@ -1,17 +1,10 @@
 -- The words of other crates and of specs/ that the proofs here use, passed on from one place. Declares nothing.
-pub use Rattle.std.proofs.Common.{[], ap, append_assoc, arith, Bool, cond, Err, false, inl, inr, length, List, nat_eq, Ok, refl, subst, suc, sym, true, zero, ℕ, ◌++◌, ◌+◌, ◌-◌, ◌<◌, ◌^◌, ◌∙◌, ◌∷◌, ◌≡◌, ◌≤◌}
-pub use Rattle.std.proofs.Math.Nat.{le-max_left, le-max_right, max-le}
-pub use Rattle.std.proofs.lemmas.Result.{err_from_is_err_and}
+pub use Rattle.yaml_loader.proofs.Common.{AnswersText, at_work, BeginsEvents, by_name, documents_of, err_from_is_err_and, ErrorReport, Ev, faulted, HasDocuments, items_view, kept_fault, Loader, loader_after, loader_of, new_loader, opened_mapping, opened_sequence, out_of_nesting, Position, reads, repeats, scalar_tree, Step, Tag, Takes, Unfinished, up_to_nul, view, want_of_memory, wants_memory, whole, with_document_end, with_event, with_event_at, with_events, with_mapping_end, with_root, with_sequence_end, with_tree, Yaml, YamlLoader}
+pub use Rattle.std.proofs.Common.{[], ap, append_assoc, arith, Bool, cond, Err, false, inl, inr, length, List, nat_eq, Ok, refl, subst, suc, sym, true, zero, ℕ, ◌++◌, ◌+◌, ◌<◌, ◌^◌, ◌∙◌, ◌∷◌, ◌≡◌, ◌≤◌}
 pub use Rattle.std.specs.Prelude.{bytes_eq, chars, codes, IfErr, IfSome, if◌then◌else◌, IsSome, max, None, OnOk, Option, option_map, option_to_list, Result, Some, String, string_bytes, unwrap_or, Vec, ℤ, ◌||◌}
-pub use Rattle.defs_event.specs.Event.{Ev, Tag}
-pub use Rattle.defs_event.specs.Scalar.{by_name, scalar_tree}
-pub use Rattle.defs_event.specs.Unfinished.{at_work, documents_of, Loader, loader_after, new_loader, noted, opened_mapping, opened_sequence, out_of_nesting, reads, refused, repeats, Step, Unfinished, with_document_end, with_event, with_event_at, with_events, with_mapping_end, with_root, with_sequence_end, with_tree}
-pub use Rattle.defs_text.specs.Position.{Position}
-pub use Rattle.defs_text.specs.Text.{up_to_nul}
 unfoldable pub use Rattle.defs_text.specs.Text.{string_chars}
 pub use Rattle.defs_tree.specs.Pairs.{has_key, insert, without}
-pub use Rattle.defs_tree.specs.Tree.{alias, array, bad_value, boolean, hash, integer, items_of, null, pairs_of, real, string, Tree}
-pub use Rattle.proof_loads.specs.TextEvents.{AnswersText, BeginsEvents, faulted, wants_memory, whole}
+pub use Rattle.defs_tree.specs.Tree.{alias, array, bad_value, hash, integer, items_of, null, pairs_of, real, string, Tree}
 pub use Rattle.yaml_loader.proofs.DocumentReading.{all_of, is_read, none_more, read_so, refused_by_memory, stops_by_key, stops_by_parser}
 pub use Rattle.yaml_loader.specs.OneDocument.{by_memory, Faults, is_end, IsBetween, IsRead, IsReady, ReadsOne, Refuses, TakesAll}
 pub use Rattle.yaml_loader.specs.Counting.{AreAbove, Counted, Counts, FitsIn, Guards, IsExcess, IsNew, opened_size}
@@ -27,13 +20,7 @@ pub use Rattle.yaml_loader.specs.declared.extent.Extent.{Extent}
 pub use Rattle.yaml_loader.specs.declared.guard.Guard.{Guard}
 pub use Rattle.yaml_loader.specs.declared.limits.Limits.{Limits}
 pub use Rattle.yaml_loader.proofs.InMemory.{of_memory}
-pub use Rattle.yaml_loader.specs.Loading.{kept_fault, loader_of, Takes, want_of_memory}
-pub use Rattle.yaml_loader.specs.Loads.{HasDocuments}
-pub use Rattle.yaml_loader.specs.declared.loader.YamlLoader.{YamlLoader}
 pub use Rattle.yaml_loader.specs.Receiving.{HasTaken, IsEmpty, TakesMarked}
 pub use Rattle.yaml_parser.specs.Parsed.{Parse, Parsed, parsed}
 pub use Rattle.yaml_scanner.specs.Waits.{Waits}
 pub use Rattle.yaml_scanner.specs.declared.fetcher.Backlog.{Backlog}
-pub use Rattle.yaml_tokens.specs.ErrorReport.{ErrorReport}
-pub use Rattle.yaml_tree.specs.View.{items_view, view}
-pub use Rattle.yaml_tree.specs.declared.yaml.Yaml.{Yaml}

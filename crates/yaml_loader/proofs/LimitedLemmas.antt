@@ -1,9 +1,7 @@
 -- What a load within limits gives, from what its receiver was handed.
-use Rattle.std.specs.declared.alloc.Global.{Global}
+use Rattle.yaml_loader.proofs.Common.{Global, MarkedLoader, of_parser}
 use Rattle.yaml_loader.proofs.LimitedCommon.{AreWithin, arith, by_limits, by_parser, by_receiver, Err, Ev, false, HasDocuments, HasTaken, IsEmpty, IsHanded, IsNotHanded, IsWithin, items_view, kept_fault, Limits, LimitsError, List, loader_of, made, new_loader, None, Ok, Position, Result, Takes, TakesMarked, Tree, Vec, wants_memory, with_events, Yaml, YamlLoader, ℕ, ◌≡◌}
 use Rattle.yaml_loader.specs.Laws.{TakenTextsAreLoaded, TakenEventsAreRead, RefusedTextsWantMemory}
-use Rattle.yaml_loader.specs.Unread.{of_parser}
-use Rattle.yaml_loader.specs.declared.marked_receiver.MarkedLoader.{MarkedLoader}
 use Rattle.yaml_loader.proofs.MarkedTexts.{inside, only_memory}
 use Rattle.yaml_loader.specs.Limited.{IsNotLoaded, unread, over, Answers, GivesAll}
 use Rattle.yaml_loader.specs.declared.limits_error.LimitsError.TheVariants as error
@@ -30,8 +28,7 @@ module _ (taken : TakenTextsAreLoaded) (read : TakenEventsAreRead) (limits : Lim
     fault = tt;
   }
   loaded r s (Err (error.Scan f)) empty clear h gives = not_loaded limits text (error.Scan f) (unread f (taken false text h.events r s (Err f) empty clear h.has h.received gives))
-  loaded r s (Err (error.Levels p)) empty clear h gives = absurd gives
-  loaded r s (Err (error.Size p)) empty clear h gives = absurd gives
+  loaded r s result empty clear h gives = absurd gives
 
   -- one that takes positions too
   pub loaded_marked : (r s : MarkedLoader) (result : Result (Vec Yaml Global) LimitsError) → IsEmpty r → IsHanded TakesMarked limits text r s → GivesAll s.loader result → Answers limits text result

@@ -1,5 +1,5 @@
 -- What a load answers, from what its parser did with the loader.
-use Rattle.yaml_loader.proofs.Common.{[], All, ap, AreLoaded, at_work, documents_of, EndsSo, Err, ErrorReport, Ev, false, Gives, Global, HasDocuments, HasNoAlias, HasNoted, IfErr, IfOk, inl, inr, IsGivenFault, IsLoadFault, IsNewFault, items_view, kept_fault, length, List, LoadedTreesHaveNoAlias, Loader, loader_by, loader_of, Loads, new_loader, no_event, None, noted, Notes, Ok, one_event, OnOk, owned_at, Parsed, Position, PullsAll, Pushes, Receives, refl, refused_at, repeated_key, Result, StandAlike, String, string_bytes, subst, sym, Takes, TellsBy, TellsKey, TellsNotedKey, Tree, true, Unfinished, unfinished_of, Vec, with_event_at, with_events, Yaml, YamlLoader, ◌++◌, ◌∙◌, ◌∷◌, ◌≡◌}
+use Rattle.yaml_loader.proofs.Common.{[], All, ap, AreLoaded, at_work, documents_of, EndsSo, Err, ErrorReport, Ev, Gives, Global, HasDocuments, HasNoAlias, HasNoted, IfErr, IfOk, inl, inr, IsGivenFault, IsLoadFault, IsNewFault, items_view, kept_fault, length, List, LoadedTreesHaveNoAlias, Loader, loader_by, loader_of, Loads, new_loader, no_event, None, Notes, Ok, one_event, OnOk, owned_at, Parsed, Position, PullsAll, Pushes, Receives, refl, repeated_key, Result, StandAlike, String, string_bytes, subst, sym, Takes, TellsBy, TellsKey, TellsNotedKey, Tree, true, unfinished_of, Vec, with_event_at, with_events, Yaml, YamlLoader, ◌++◌, ◌∙◌, ◌∷◌, ◌≡◌}
 use Rattle.defs_event.specs.PulledList.{Answer}
 use Rattle.defs_event.specs.Push.{load}
 use Rattle.defs_event.specs.Unfinished as unfinished
@@ -8,7 +8,8 @@ use Rattle.yaml_loader.specs.declared.loader.LoaderState.{LoaderState}
 use Rattle.yaml_loader.specs.declared.loader.LoaderState.TheVariants as state
 use Rattle.yaml_loader.specs.Gives as given
 use Rattle.yaml_loader.specs.Loads as ends
-use Rattle.yaml_loader.proofs.GoOnAlike.{event_at_alike, alike_trans, show_the_same}
+use Rattle.yaml_loader.proofs.Beside.{beside_has, beside_noted}
+use Rattle.yaml_loader.proofs.GoOnAlike.{alike_beside, event_at_alike, read_as_defined, reaches, show_the_same}
 
 pub with_last : (l : Loader) (es : List (Ev × Position)) (e : Ev) (p : Position) → with_events l (es ++ (e, p) ∷ []) ≡ with_event_at (with_events l es) e p
 with_last l [] e p = refl
@@ -22,10 +23,8 @@ pub record StandsAfter (es : List (Ev × Position)) (l : YamlLoader) : Type 0 wh
 
 -- a loader that is at work has noted no key
 nothing_noted : (l : YamlLoader) → (d : LoaderState) → loader_by d (unfinished_of l.reading) ≡ new_loader → TellsBy d (unfinished_of l.reading).opened
-nothing_noted l state.Reading e = tt
 nothing_noted l (state.RepeatedKey position text) e = cc
-nothing_noted l (state.OutOfNesting position) e = tt
-nothing_noted l (state.OutOfMemory position) e = tt
+nothing_noted l d e = tt
 
 -- what stands after a load that went well
 abbrev pub Went : Parsed → Parsed → YamlLoader → Type 0
@@ -42,16 +41,15 @@ pushes {old} {after} {new} {answers} pulled taken ends = record { answers = answ
 
 module _ (l : YamlLoader) (empty : loader_of l ≡ new_loader) (clear : kept_fault l ≡ None) where
   pub stands : {n : YamlLoader} {es : List (Ev × Position)} → Receives Takes l es n → StandsAfter es n
-  stands no_event = record { alike = subst (λ x. StandAlike new_loader x) (sym empty) (record { documents = refl; opened = refl; root = refl; aliases = λ n. refl }); clear = clear; tells = nothing_noted l l.state empty }
-  stands (one_event {r} {s} {t} {es} e p h takes) =
-      let before = stands h in
-      record {
-        alike = subst (λ x. StandAlike x (loader_of t)) (sym (with_last new_loader es e p))
-            (alike_trans (with_event_at (with_events new_loader es) e p) (with_event_at (loader_of s) e p) (loader_of t)
-            (event_at_alike (with_events new_loader es) (loader_of s) e p before.alike) takes.reads);
-        clear = takes.goes_on;
-        tells = takes.tells before.tells;
-      }
+  stands {n} {es} received = record { alike = read_as_defined l n es empty (reaches received); clear = keeps received; tells = tells received }
+    where
+      keeps : {n : YamlLoader} {es : List (Ev × Position)} → Receives Takes l es n → kept_fault n ≡ None
+      keeps no_event = clear
+      keeps (one_event e p h takes) = takes.goes_on
+
+      tells : {n : YamlLoader} {es : List (Ev × Position)} → Receives Takes l es n → TellsNotedKey n
+      tells no_event = nothing_noted l l.state empty
+      tells (one_event e p h takes) = takes.tells (tells h)
 
   pub new_fault : {s t : YamlLoader} {es : List (Ev × Position)} {f : ErrorReport} (e : Ev) (p : Position) → Receives Takes l es s → Takes s e p (Err f) t → IsNewFault f p (with_event_at (with_events new_loader es) e p)
   new_fault {s} {t} {es} {f} e p h takes =
@@ -96,49 +94,29 @@ note_given l p text f e is =
 
 -- loaders that stand alike have the same documents, or have noted the same key
 pub has_documents : (x y : Loader) (documents : List Tree) → StandAlike x y → HasDocuments y documents → HasDocuments x documents
-has_documents (at_work u) (at_work v) documents alike has = alike.documents ∙ has
-has_documents (at_work u) (noted d k p) documents alike has = absurd alike
-has_documents (at_work u) (unfinished.refused d p) documents alike has = absurd alike
-has_documents (noted d k p) y documents alike has = absurd (subst (λ y. HasDocuments y documents) (sym alike) has)
-has_documents (unfinished.refused d p) y documents alike has = absurd (subst (λ y. HasDocuments y documents) (sym alike) has)
+has_documents x y documents alike has = beside_has documents (alike_beside alike) has
 
 pub has_noted : (x y : Loader) (key : Tree) (p : Position) → StandAlike x y → HasNoted y key p → HasNoted x key p
-has_noted (at_work u) (at_work v) key p alike has = absurd has
-has_noted (at_work u) (noted d k q) key p alike has = absurd alike
-has_noted (at_work u) (unfinished.refused d q) key p alike has = absurd alike
-has_noted (noted d k q) y key p alike has = subst (λ y. HasNoted y key p) (sym alike) has
-has_noted (unfinished.refused d q) y key p alike has = absurd (subst (λ y. HasNoted y key p) (sym alike) has)
-
-were_loaded : {old new : Parsed} (l : YamlLoader) (documents : List Tree) → Went old new l → HasDocuments (loader_of l) documents → AreLoaded old documents new
-were_loaded l documents (es, all, clear, after) has = (es, all, has_documents (with_events new_loader es) (loader_of l) documents after.alike has)
+has_noted x y key p alike has = beside_noted key p (alike_beside alike) has
 
 had_noted : {old new : Parsed} {f : ErrorReport} (l : YamlLoader) → Went old new l → IsGivenFault l f → IsLoadFault old f new
 had_noted l (es, all, clear, after) (given.kept is) = let both = sym after.clear ∙ is in cc
 had_noted {f = f} l (es, all, clear, after) (given.repeated_key key has tells owned) =
     ends.repeated_key es key all clear (has_noted (with_events new_loader es) (loader_of l) key f.position after.alike has) (tells after.tells) owned
 
-pub documents_given : {old new : Parsed} (l : YamlLoader) (result : Result (Vec Yaml Global) ErrorReport) → Went old new l → Gives l result
-    → IfOk result (λ documents. AreLoaded old (items_view documents.items) new)
-documents_given l (Ok documents) went gives = were_loaded l (items_view documents.items) went gives
-documents_given l (Err f) went gives = tt
-
-pub fault_given : {old new : Parsed} (l : YamlLoader) (result : Result (Vec Yaml Global) ErrorReport) → Went old new l → Gives l result → IfErr result (λ f. IsLoadFault old f new)
-fault_given l (Ok documents) went gives = tt
-fault_given l (Err f) went gives = had_noted l went gives
-
-pub no_fault : {old new : Parsed} (l : YamlLoader) (result : Result (Vec Yaml Global) ErrorReport) → Went old new l → OnOk result (new.fault ≡ None)
-no_fault l (Ok documents) (es, all, clear, after) = clear
-no_fault l (Err f) went = tt
-
 no_alias : {old new : Parsed} (documents : List Tree) → LoadedTreesHaveNoAlias → AreLoaded old documents new → All HasNoAlias documents
 no_alias documents law (es, all, read) = by (with_events new_loader es) (law es) read
   where
     by : (x : Loader) → All HasNoAlias (documents_of x) → HasDocuments x documents → All HasNoAlias documents
     by (at_work u) h e = subst (λ ts. All HasNoAlias ts) e h
-    by (noted d k p) h e = absurd e
-    by (unfinished.refused d p) h e = absurd e
+    by x h e = absurd e
 
-pub no_alias_given : {old new : Parsed} (l : YamlLoader) (result : Result (Vec Yaml Global) ErrorReport) → LoadedTreesHaveNoAlias → Went old new l → Gives l result
-    → IfOk result (λ documents. All HasNoAlias (items_view documents.items))
-no_alias_given l (Ok documents) law went gives = no_alias (items_view documents.items) law (were_loaded l (items_view documents.items) went gives)
-no_alias_given l (Err f) law went gives = tt
+-- what a load gives that went well so far
+pub load_given : {old new : Parsed} (l : YamlLoader) (result : Result (Vec Yaml Global) ErrorReport) → LoadedTreesHaveNoAlias → Went old new l → Gives l result
+    → IfOk result (λ documents. AreLoaded old (items_view documents.items) new) × IfOk result (λ documents. All HasNoAlias (items_view documents.items))
+    × OnOk result (new.fault ≡ None) × IfErr result (λ f. IsLoadFault old f new)
+load_given {old} {new} l (Ok documents) law went gives =
+    let loaded : AreLoaded old (items_view documents.items) new =
+    (went.0, went.1, has_documents (with_events new_loader went.0) (loader_of l) (items_view documents.items) went.3.alike gives) in
+    (loaded, no_alias (items_view documents.items) law loaded, went.2, tt)
+load_given l (Err f) law went gives = (tt, tt, tt, had_noted l went gives)

@@ -1,11 +1,9 @@
 -- What the marks so far stand for, after each kind of step.
-use Rattle.std.specs.BTreeMap.{is_at}
-use Rattle.std.specs.Map.{lookup}
-use Rattle.std.specs.Ordering.{nat_cmp}
-use Rattle.yaml_loader.proofs.MarkedCommon.{[], alias_mark, alias_of, aliased_marks, AllOpenStand, AnchorsStand, ap, arith, Begun, Bool, cond, drop, Err, Ev, false, finished_marks, Goes, GoesWith, HasStanding, Holds, if◌then◌else◌, IsUnder, leaf, leaf_mark, length, length-drop, List, Mark, mark_under, MarkedAnchors, Marking, Marks, marks, nat_eq, nat_tests, None, Ok, OnOk, OpenMarks, Option, parts_of, PerhapsStands, Position, refl, Result, reverse, reverse-append, reverse-reverse, Some, Stands, subst, suc, sym, take, take-length, true, unwrap_or, zero, ℕ, ◌++◌, ◌-◌, ◌<◌, ◌∙◌, ◌∷◌, ◌≡◌, ◌≤◌}
+use Rattle.yaml_loader.proofs.MarkedCommon.{[], alias_mark, alias_of, aliased_marks, AllOpenStand, AnchorsStand, ap, arith, Begun, Bool, drop, Err, Ev, false, finished_marks, Goes, GoesWith, HasStanding, Holds, if◌then◌else◌, IsUnder, leaf, leaf_mark, length, length-drop, List, Mark, mark_under, MarkedAnchors, Marking, Marks, marks, nat_eq, None, Ok, OnOk, OpenMarks, Option, parts_of, PerhapsStands, Position, refl, Result, reverse, reverse-append, reverse-reverse, Some, Stands, subst, suc, sym, take, take-length, true, unwrap_or, Vec, zero, ℕ, ◌++◌, ◌-◌, ◌<◌, ◌∙◌, ◌∷◌, ◌≡◌, ◌≤◌}
+use Rattle.std.specs.declared.alloc.Global.{Global}
 use Rattle.defs_event.specs.Marking as defs
 use Rattle.yaml_loader.proofs.Growing.{grown_parts, grown_perhaps, grown_open, grown_anchors}
-use Rattle.yaml_loader.proofs.Open.{row_and, open_and, open_more, closed, last_in_table}
+use Rattle.yaml_loader.proofs.Open.{row_and, open_and, closed, last_in_table}
 
 -- ---- lists from their end
 
@@ -60,9 +58,8 @@ module _ {table documents : List Mark} {opened : List Begun} {waiting : List Mar
     where
       by : (m : Option Mark) (s : Option Marks) → PerhapsStands table m s → Stands table (unwrap_or m (leaf_mark p)) (unwrap_or s (leaf p))
       by None None r = leaf_stands table p
-      by None (Some s) r = absurd r
-      by (Some m) None r = absurd r
       by (Some m) (Some s) r = r
+      by m s r = absurd r
 
   -- an anchor is finished
   pub anchor_holds : (a : ℕ) (m : Mark) (s : Marks) (new : List (ℕ × Mark)) → Stands table m s → IsUnder (suc a) m entries new → Holds table documents opened waiting root entries x
@@ -82,45 +79,9 @@ module _ {table documents : List Mark} {opened : List Begun} {waiting : List Mar
       by [] r = h
       by (o ∷ os) r = absurd r
 
--- the innermost collection ends: its node, and what is left
-pub record Ended (table documents : List Mark) (opened : List Begun) (waiting : List Mark) (root : Option Mark) (entries : List (ℕ × Mark)) (x : defs.Marking) (b : Begun) : Type 0 where
-  pub within : b.before ≤ length waiting
-  pub node : Marks
-  pub left : defs.Marking
-  pub closes : defs.with_close x x.opened ≡ defs.with_anchored b.anchor node left left.opened
-  pub stands : (m : Mark) → m.own ≡ b.start → m.tree ≡ b.start → m.first ≡ length table → m.count ≡ length (drop b.before waiting) → Stands (table ++ drop b.before waiting) m node
-  pub holds : Holds (table ++ drop b.before waiting) documents opened (take b.before waiting) root entries left
-
 outer_part : (s : Marks) (x : defs.Marking) (os : List OpenMarks) → defs.with_part s x os ≡ defs.with_part s (record x { opened = os }) os
 outer_part s x [] = refl
 outer_part s x (o ∷ os) = refl
-
-pub ended : {table documents : List Mark} {opened : List Begun} {waiting : List Mark} {root : Option Mark} {entries : List (ℕ × Mark)} (x : defs.Marking) (b : Begun)
-    → Holds table documents (opened ++ b ∷ []) waiting root entries x → Ended table documents opened waiting root entries x b
-ended {table} {documents} {opened} {waiting} {root} {entries} x b h = by x.opened refl (subst (λ bs. AllOpenStand table bs waiting x.opened) (last_first opened b) h.of_opened)
-  where
-    by : (os : List OpenMarks) → x.opened ≡ os → AllOpenStand table (b ∷ reverse opened) waiting os → Ended table documents opened waiting root entries x b
-    by [] e r = absurd r
-    by (o ∷ os) e r =
-        let c = closed table b (reverse opened) waiting o os r in
-        let more = drop b.before waiting in
-        let node = marks o.start o.start (parts_of o.parts) in
-        let left : defs.Marking = record x { opened = os } in
-        record {
-          within = c.within;
-          node = node;
-          left = left;
-          closes = ap (defs.with_close x) e ∙ outer_part node (record x { anchors = finished_marks o.anchor node x.anchors }) os ∙ ap (λ n. defs.with_anchored n node left os) (sym c.anchor);
-          stands = λ m own tree first count.
-              let s = last_in_table table more m (parts_of o.parts) first count c.parts in
-              (own ∙ c.start, tree ∙ c.start, s.2, s.3);
-          holds = record {
-            of_documents = grown_parts table more documents (parts_of x.documents) h.of_documents;
-            of_opened = grown_open table more (reverse opened) (take b.before waiting) os c.outer;
-            of_root = grown_perhaps table more root x.root h.of_root;
-            of_anchors = grown_anchors table more entries x.anchors h.of_anchors;
-          };
-        }
 
 -- ---- the steps of the code
 
@@ -138,25 +99,37 @@ anchored (suc a) m old mid new some same under goes = λ s x stands h.
 pub not_anchored : (a : ℕ) (m : Mark) (old new : Marking) → a ≡ 0 → GoesWith m old (λ s x. defs.with_part s x x.opened) new → GoesWith m old (λ s x. defs.with_anchored a s x x.opened) new
 not_anchored a m old new none goes = subst (λ n. GoesWith m old (λ s x. defs.with_anchored n s x x.opened) new) (sym none) goes
 
-pub closes : (b : Begun) (n : ℕ) (m : Mark) (old mid new : Marking) → old.opened.items ≡ mid.opened.items ++ b ∷ [] → (b.before ≤ length old.waiting.items → n ≡ b.before)
-    → mid.table.items ≡ old.table.items ++ drop n old.waiting.items → mid.waiting.items ≡ take n old.waiting.items → mid.documents ≡ old.documents → mid.root ≡ old.root → mid.anchors ≡ old.anchors
+-- The innermost collection ends: its parts go into the table, and its node to those around it.
+pub closes : (b : Begun) (n : ℕ) (m : Mark) (old new : Marking) (t w : Vec Mark Global) (cs : Vec Begun Global) → old.opened.items ≡ cs.items ++ b ∷ []
+    → (b.before ≤ length old.waiting.items → n ≡ b.before) → t.items ≡ old.table.items ++ drop n old.waiting.items → w.items ≡ take n old.waiting.items
     → m.own ≡ b.start → m.tree ≡ b.start → m.first ≡ length old.table.items → m.count ≡ length old.waiting.items - n
-    → GoesWith m mid (λ s x. defs.with_anchored b.anchor s x x.opened) new → Goes old (λ x. defs.with_close x x.opened) new
-closes b n m old mid new opened before table waiting documents root anchors own tree first count goes = λ x h.
-    let e = ended {opened = mid.opened.items} x b (subst (λ bs. Holds old.table.items old.documents.items bs old.waiting.items old.root old.anchors.entries x) opened h) in
-    let same = before e.within in
-    let t : mid.table.items ≡ old.table.items ++ drop b.before old.waiting.items = table ∙ ap (λ k. old.table.items ++ drop k old.waiting.items) same in
-    let w : mid.waiting.items ≡ take b.before old.waiting.items = waiting ∙ ap (λ k. take k old.waiting.items) same in
-    let stands : Stands mid.table.items m e.node = subst (λ z. Stands z m e.node) (sym t) (e.stands m own tree first (omega (arith, count, same, length-drop b.before old.waiting.items))) in
-    let more = old.table.items ++ drop b.before old.waiting.items in
-    let left = take b.before old.waiting.items in
-    let holds : HasStanding mid e.left =
-    subst (λ z. Holds z mid.documents.items mid.opened.items mid.waiting.items mid.root mid.anchors.entries e.left) (sym t)
-    (subst (λ z. Holds more z.items mid.opened.items mid.waiting.items mid.root mid.anchors.entries e.left) (sym documents)
-    (subst (λ z. Holds more old.documents.items mid.opened.items z mid.root mid.anchors.entries e.left) (sym w)
-    (subst (λ z. Holds more old.documents.items mid.opened.items left z mid.anchors.entries e.left) (sym root)
-    (subst (λ z. Holds more old.documents.items mid.opened.items left old.root z.entries e.left) (sym anchors) e.holds)))) in
-    subst (HasStanding new) (sym e.closes) (goes e.node e.left stands holds)
+    → GoesWith m (record old { table = t; waiting = w; opened = cs }) (λ s x. defs.with_anchored b.anchor s x x.opened) new → Goes old (λ x. defs.with_close x x.opened) new
+closes b n m old new t w cs opened before table waiting own tree first count goes x h =
+    by x.opened refl (subst (λ bs. AllOpenStand old.table.items bs old.waiting.items x.opened) (ap reverse opened ∙ last_first cs.items b) h.of_opened)
+  where
+    by : (os : List OpenMarks) → x.opened ≡ os → AllOpenStand old.table.items (b ∷ reverse cs.items) old.waiting.items os → HasStanding new (defs.with_close x x.opened)
+    by [] e r = absurd r
+    by (o ∷ os) e r =
+        let c = closed old.table.items b (reverse cs.items) old.waiting.items o os r in
+        let same = before c.within in
+        let more = drop b.before old.waiting.items in
+        let longer : t.items ≡ old.table.items ++ more = table ∙ ap (λ k. old.table.items ++ drop k old.waiting.items) same in
+        let left : w.items ≡ take b.before old.waiting.items = waiting ∙ ap (λ k. take k old.waiting.items) same in
+        let node = marks o.start o.start (parts_of o.parts) in
+        let y : defs.Marking = record x { opened = os } in
+        let s = last_in_table old.table.items more m (parts_of o.parts) first (omega (arith, count, same, length-drop b.before old.waiting.items)) c.parts in
+        let stands : Stands t.items m node = subst (λ z. Stands z m node) (sym longer) (own ∙ c.start, tree ∙ c.start, s.2, s.3) in
+        let grown : Holds (old.table.items ++ more) old.documents.items cs.items (take b.before old.waiting.items) old.root old.anchors.entries y = record {
+          of_documents = grown_parts old.table.items more old.documents.items (parts_of x.documents) h.of_documents;
+          of_opened = grown_open old.table.items more (reverse cs.items) (take b.before old.waiting.items) os c.outer;
+          of_root = grown_perhaps old.table.items more old.root x.root h.of_root;
+          of_anchors = grown_anchors old.table.items more old.anchors.entries x.anchors h.of_anchors;
+        } in
+        let holds : HasStanding (record old { table = t; waiting = w; opened = cs }) y =
+        subst (λ z. Holds z old.documents.items cs.items w.items old.root old.anchors.entries y) (sym longer)
+        (subst (λ z. Holds (old.table.items ++ more) old.documents.items cs.items z old.root old.anchors.entries y) (sym left) grown) in
+        let is = ap (defs.with_close x) e ∙ outer_part node (record x { anchors = finished_marks o.anchor node x.anchors }) os ∙ ap (λ n. defs.with_anchored n node y os) (sym c.anchor) in
+        subst (HasStanding new) (sym is) (goes node y stands holds)
 
 pub all_dropped : {A : Type 0} (xs : List A) (n : ℕ) → take (length xs - n) (drop n xs) ≡ drop n xs
 all_dropped xs n = ap (λ k. take k (drop n xs)) (sym (length-drop n xs)) ∙ take-length (drop n xs)

@@ -1,24 +1,14 @@
 -- What a load with positions answers of a text.
-use Rattle.std.specs.declared.alloc.Global.{Global}
-use Rattle.yaml_loader.proofs.MarkedCommon.{[], all_shown, AllFit, AllHaveMarks, ap, AreMarksOf, Bool, Err, Ev, false, HasStanding, inl, inr, items_view, List, marked_documents, nothing_marked, Ok, Position, refl, Result, subst, sym, Tree, Vec, with_event_marked, with_events_marked, Yaml, ℕ, ◌++◌, ◌∙◌, ◌∷◌, ◌≡◌}
-use Rattle.defs_event.specs.Unfinished.{Loader, at_work, noted, refused as stopped, Unfinished, new_loader, with_events}
+use Rattle.yaml_loader.proofs.Common.{AnswersText, at_work, BeginsEvents, ErrorReport, faulted, Gives, Global, HasDocuments, IsFaultOf, Loader, loader_of, LoadsText, MarkedLoader, new_loader, no_event, one_event, Receives, refused, Takes, Unfinished, wants_memory, WantsMemory, whole, with_events}
+use Rattle.yaml_loader.proofs.MarkedCommon.{[], all_shown, AllFit, AllHaveMarks, AreMarksOf, Bool, Err, Ev, false, HasStanding, inl, inr, items_view, List, marked_documents, nothing_marked, Ok, Position, refl, Result, subst, sym, Tree, Vec, with_event_marked, with_events_marked, Yaml, ℕ, ◌++◌, ◌∷◌, ◌≡◌}
 use Rattle.defs_event.specs.Marking as defs
-use Rattle.yaml_tokens.specs.ErrorReport.{ErrorReport}
-use Rattle.yaml_parser.specs.Blames.{WantsMemory}
-use Rattle.yaml_parser.specs.Loads.{Receives, no_event, one_event}
-use Rattle.proof_loads.specs.TextEvents.{BeginsEvents, IsFaultOf, wants_memory, AnswersText, whole, faulted, refused}
-use Rattle.yaml_loader.specs.Alike.{StandAlike}
-use Rattle.yaml_loader.specs.Gives.{Gives}
 use Rattle.yaml_loader.specs.Laws.{EventsAreReadAsDefined, RefusedTextsWantMemory, TakenTextsAreLoaded}
-use Rattle.yaml_loader.specs.Loading.{loader_of, Takes, want_of_memory}
-use Rattle.yaml_loader.specs.Loads.{HasDocuments}
-use Rattle.yaml_loader.specs.Reached.{Reaches, here, after}
-use Rattle.yaml_loader.specs.TextLoads.{LoadsText}
-use Rattle.yaml_loader.specs.declared.loader.YamlLoader.{YamlLoader}
 use Rattle.defs_event.specs.MarkLaws.{MarksFitTheirTrees}
 use Rattle.yaml_loader.specs.Receiving.{TakesMarked, IsEmpty, HasTaken}
+use Rattle.yaml_loader.proofs.AnyText.{wants}
+use Rattle.yaml_loader.proofs.GoOnAlike.{reaches}
+use Rattle.yaml_loader.proofs.LoadLemmas.{has_documents}
 use Rattle.yaml_loader.proofs.Seen.{all_seen}
-use Rattle.yaml_loader.specs.declared.marked_receiver.MarkedLoader.{MarkedLoader}
 
 -- the loader inside takes the same events
 pub inside : {r s : MarkedLoader} {es : List (Ev × Position)} → Receives TakesMarked r es s → Receives Takes r.loader es s.loader
@@ -33,9 +23,6 @@ with_last x (f ∷ es) e p = with_last (with_event_marked x f.0 f.1) es e p
 marked : {r s : MarkedLoader} {es : List (Ev × Position)} (x : defs.Marking) → Receives TakesMarked r es s → HasStanding r.marking x → HasStanding s.marking (with_events_marked x es)
 marked x no_event h = h
 marked x (one_event {s = s} {t} {es} e p before last) h = subst (HasStanding t.marking) (sym (with_last x es e p)) (last.marks (with_events_marked x es) (marked x before h))
-
-wants : {f : ErrorReport} {p : Position} → f ≡ want_of_memory p → WantsMemory f
-wants e = record { memory = ap (λ g. g.memory) e; text = ap (λ g. g.text) e }
 
 -- how a load leaves the receiver
 abbrev pub Leaves : List ℕ → Result (Unit {0}) ErrorReport → MarkedLoader → Type 0
@@ -59,21 +46,10 @@ leaves {text} {r} {s} {result} law empty keep answered = left_by law empty (subs
 
 -- ---- the trees and their marks
 
-reaches_and : {l m n : YamlLoader} {es : List (Ev × Position)} {e : Ev} {p : Position} → Reaches l es m → Takes m e p (Ok tt) n → Reaches l (es ++ (e, p) ∷ []) n
-reaches_and {n = n} (here l) last = after last (here n)
-reaches_and (after first rest) last = after first (reaches_and rest last)
-
-reaches : {l n : YamlLoader} {es : List (Ev × Position)} → Receives Takes l es n → Reaches l es n
-reaches {l} no_event = here l
-reaches (one_event e p before last) = reaches_and (reaches before) last
-
--- a loader that is alike one with these documents
-at_work_alike : (x y : Loader) (documents : List Tree) → StandAlike x y → HasDocuments y documents → (u : Unfinished) × ((x ≡ at_work u) × (u.documents ≡ documents))
-at_work_alike (at_work u) (at_work v) documents alike h = (u, (refl, alike.documents ∙ h))
-at_work_alike (noted d k p) (at_work v) documents alike h = cc
-at_work_alike (stopped d p) (at_work v) documents alike h = cc
-at_work_alike x (noted d k p) documents alike h = absurd h
-at_work_alike x (stopped d p) documents alike h = absurd h
+-- a loader with these documents
+at_work_with : (x : Loader) (documents : List Tree) → HasDocuments x documents → (u : Unfinished) × ((x ≡ at_work u) × (u.documents ≡ documents))
+at_work_with (at_work u) documents h = (u, (refl, h))
+at_work_with x documents h = absurd h
 
 -- The trees that the loader gives have their marks, and these are those of the text.
 pub gives_marks : {text : List ℕ} {s : MarkedLoader} (documents : Vec Yaml Global) → EventsAreReadAsDefined → MarksFitTheirTrees → HasTaken text s → Gives s.loader (Ok documents)
@@ -81,7 +57,8 @@ pub gives_marks : {text : List ℕ} {s : MarkedLoader} (documents : Vec Yaml Glo
     × AreMarksOf false text (all_shown s.marking.table.items (items_view documents.items) s.marking.documents.items)
 gives_marks {text} {s} documents law fit left gives =
     let es = left.events in
-    let w = at_work_alike (with_events new_loader es) (loader_of s.loader) (items_view documents.items) (law left.before.loader s.loader es left.is_empty.loader (reaches (inside left.took))) gives in
+    let alike = law left.before.loader s.loader es left.is_empty.loader (reaches (inside left.took)) in
+    let w = at_work_with (with_events new_loader es) (items_view documents.items) (has_documents (with_events new_loader es) (loader_of s.loader) (items_view documents.items) alike gives) in
     let fits : AllFit (items_view documents.items) (marked_documents es) = subst (λ ts. AllFit ts (marked_documents es)) w.1.1 (fit es w.0 w.1.0) in
     let stands = marked nothing_marked left.took left.is_empty.marks in
     let seen = all_seen s.marking.table.items (items_view documents.items) s.marking.documents.items (marked_documents es) stands.of_documents fits in

@@ -1,6 +1,6 @@
 -- The open collections as a list, the innermost first.
 use Rattle.std.proofs.Math.Numerals.{sub-one}
-use Rattle.yaml_loader.proofs.Common.{[], all_opened, ap, arith, false, Inserts, is_some, IsNoInsert, IsRefusedBy, length, List, None, Open, Opened, opened_of, Option, option_map, out_of_nesting, pred, reads, refl, Refusal, repeated_key, repeats, slice_index_or, slice_set, Some, sym, Tree, true≢false, Unfinished, view, with_document_end, with_start, with_tree, Yaml, ℕ, ◌++◌, ◌-◌, ◌<◌, ◌∙◌, ◌∷◌, ◌≡◌}
+use Rattle.yaml_loader.proofs.Common.{[], all_opened, ap, arith, Err, false, IfErr, Inserts, is_some, IsNoInsert, IsRefusedBy, length, List, None, Ok, OnOk, Open, Opened, opened_of, Option, option_map, out_of_nesting, pred, reads, refl, Refusal, repeated_key, repeats, Result, slice_index_or, slice_set, Some, sym, Tree, true≢false, Unfinished, view, with_document_end, with_start, with_tree, Yaml, ℕ, ◌++◌, ◌-◌, ◌<◌, ◌∙◌, ◌∷◌, ◌≡◌}
 use Rattle.yaml_loader.specs.declared.reading.Refusal.TheVariants as refusal
 
 -- one put at the end is the innermost
@@ -21,27 +21,35 @@ innermost (x ∷ y ∷ os) outer h =
     let rest = innermost (y ∷ os) (opened_of x ∷ outer) (omega arith) in
     record { around = rest.around; before = λ d. rest.before d; after = λ o. rest.after o }
 
-pub last_position : (n : ℕ) (os : List Open) → n ≡ length os → n - 1 ≡ pred (length os)
-last_position n os len = sub-one n ∙ ap pred len
+-- the last of the list is the innermost
+pub record IsLast (os : List Open) (n : ℕ) (old : Open) : Type 0 where
+  pub around : List Opened
+  pub before : all_opened os [] ≡ opened_of old ∷ around
+  pub after : (new : Open) → all_opened (slice_set os (n - 1) new) [] ≡ opened_of new ∷ around
+
+pub last_is : (os : List Open) (n : ℕ) (old : Open) → n ≡ length os → 0 < n → old ≡ slice_index_or os (n - 1) old → IsLast os n old
+last_is os n old len some at =
+    let i = innermost os [] (omega arith) in
+    let last : n - 1 ≡ pred (length os) = sub-one n ∙ ap pred len in
+    record {
+      around = i.around;
+      before = i.before old ∙ ap (λ m. opened_of (slice_index_or os m old) ∷ i.around) (sym last) ∙ ap (λ o. opened_of o ∷ i.around) (sym at);
+      after = λ new. ap (λ m. all_opened (slice_set os m new) []) last ∙ i.after new;
+    }
 
 -- a tree that goes into the innermost collection, seen from the last of the list
-pub inserts_at : (t : Tree) (u : Unfinished) (os : List Open) (n : ℕ) (old new : Open) → n ≡ length os → 0 < n → old ≡ slice_index_or os (n - 1) old
-    → Inserts (opened_of old) t (opened_of new) → with_tree t u (all_opened os []) ≡ reads (record u { opened = all_opened (slice_set os (n - 1) new) [] })
-inserts_at t u os n old new len some at h =
-    let i = innermost os [] (omega arith) in
-    let was : all_opened os [] ≡ opened_of old ∷ i.around = i.before old ∙ ap (λ m. opened_of (slice_index_or os m old) ∷ i.around) (sym (last_position n os len)) ∙ ap (λ o. opened_of o ∷ i.around) (sym at) in
-    let is : all_opened (slice_set os (n - 1) new) [] ≡ opened_of new ∷ i.around = ap (λ m. all_opened (slice_set os m new) []) (last_position n os len) ∙ i.after new in
-    ap (with_tree t u) was ∙ h u i.around ∙ ap (λ x. reads (record u { opened = x })) (sym is)
-
-pub no_insert_at : (r : Refusal) (t : Tree) (u : Unfinished) (os : List Open) (n : ℕ) (old new : Open) → n ≡ length os → 0 < n → old ≡ slice_index_or os (n - 1) old
-    → IsNoInsert r (opened_of old) t (opened_of new) → IsRefusedBy r (with_tree t u (all_opened os [])) (all_opened (slice_set os (n - 1) new) [])
-no_insert_at refusal.OutOfMemory t u os n old new len some at h = tt
-no_insert_at refusal.OutOfNesting t u os n old new len some at h = absurd h
-no_insert_at refusal.RepeatedKey t u os n old new len some at h =
-    let i = innermost os [] (omega arith) in
-    let was : all_opened os [] ≡ opened_of old ∷ i.around = i.before old ∙ ap (λ m. opened_of (slice_index_or os m old) ∷ i.around) (sym (last_position n os len)) ∙ ap (λ o. opened_of o ∷ i.around) (sym at) in
-    let is : all_opened (slice_set os (n - 1) new) [] ≡ opened_of new ∷ i.around = ap (λ m. all_opened (slice_set os m new) []) (last_position n os len) ∙ i.after new in
-    ap (with_tree t u) was ∙ h u i.around ∙ ap (λ x. repeats (repeated_key x)) (sym is)
+pub inserted_at : (r : Result (Unit {0}) Refusal) (t : Tree) (u : Unfinished) (os : List Open) (n : ℕ) (old new : Open) → n ≡ length os → 0 < n → old ≡ slice_index_or os (n - 1) old
+    → OnOk r (Inserts (opened_of old) t (opened_of new)) → IfErr r (λ x. IsNoInsert x (opened_of old) t (opened_of new))
+    → OnOk r (with_tree t u (all_opened os []) ≡ reads (record u { opened = all_opened (slice_set os (n - 1) new) [] }))
+    × IfErr r (λ x. IsRefusedBy x (with_tree t u (all_opened os [])) (all_opened (slice_set os (n - 1) new) []))
+inserted_at (Ok x) t u os n old new len some at ok err =
+    let i = last_is os n old len some at in
+    (ap (with_tree t u) i.before ∙ ok u i.around ∙ ap (λ x. reads (record u { opened = x })) (sym (i.after new)), tt)
+inserted_at (Err refusal.OutOfMemory) t u os n old new len some at ok err = (tt, tt)
+inserted_at (Err refusal.OutOfNesting) t u os n old new len some at ok err = absurd err
+inserted_at (Err refusal.RepeatedKey) t u os n old new len some at ok err =
+    let i = last_is os n old len some at in
+    (tt, ap (with_tree t u) i.before ∙ err u i.around ∙ ap (λ x. repeats (repeated_key x)) (sym (i.after new)))
 
 -- a collection begins where one is open, or no root is complete
 pub start_reads : (c : Opened) (u : Unfinished) (os : List Opened) (root : Option Tree) → (os ≡ [] → root ≡ None) → with_start c u os root ≡ reads (record u { opened = c ∷ os })
@@ -49,23 +57,19 @@ start_reads c u [] None h = refl
 start_reads c u [] (Some r) h = let e : Some r ≡ None = h refl in cc
 start_reads c u (o ∷ os) root h = refl
 
-first : (os : List Open) → 0 < length os → Open
-first [] h = absurd (omega arith)
-first (o ∷ os) h = o
+some_open : (os : List Open) → 0 < length os → (o : Opened) × (outer : List Opened) × (all_opened os [] ≡ o ∷ outer)
+some_open [] h = absurd (omega arith)
+some_open (o ∷ os) h = let i = innermost (o ∷ os) [] h in (opened_of (slice_index_or (o ∷ os) (length os) o), i.around, i.before o)
 
 pub document_end_refused : (u : Unfinished) (os : List Open) → 0 < length os → with_document_end u (all_opened os []) ≡ out_of_nesting
-document_end_refused u os h = ap (with_document_end u) ((innermost os [] h).before (first os h))
+document_end_refused u os h = ap (with_document_end u) (some_open os h).2
 
 pub some_opened : (os : List Open) → 0 < length os → all_opened os [] ≡ [] → ⊥
-some_opened os h e = let f = (innermost os [] h).before (first os h) in cc
+some_opened os h e = let f = (some_open os h).2 in cc
 
 -- the end of a collection: what stood before it, and what the innermost was
-pub popped : (os rest : List Open) (o : Open) → os ≡ rest ++ o ∷ [] → all_opened os [] ≡ opened_of o ∷ all_opened rest []
-popped os rest o e = ap (λ x. all_opened x []) e ∙ all_opened_push rest o []
-
--- the same, where it is known what that collection is
 pub popped_as : (os rest : List Open) (o : Open) (x : Opened) → os ≡ rest ++ o ∷ [] → opened_of o ≡ x → all_opened os [] ≡ x ∷ all_opened rest []
-popped_as os rest o x e same = popped os rest o e ∙ ap (λ y. y ∷ all_opened rest []) same
+popped_as os rest o x e same = ap (λ x. all_opened x []) e ∙ all_opened_push rest o [] ∙ ap (λ y. y ∷ all_opened rest []) same
 
 pub no_root : (o : Option Yaml) → is_some o ≡ false → option_map view o ≡ None
 no_root None h = refl

@@ -1,9 +1,9 @@
 -- What the tag `float` reads, by the bytes of the text.
-use Rattle.yaml_loader.proofs.Common.{[], and_parts, ap, arith, Bool, bytes_eq, bytes_eq-Decides, chars, false, false≢true, inl, inr, is_among, is_decimal, is_real_text, IsUtf8, List, list_all, nat_lt, nat_tests, or_cases, or_left, or_right, refl, special_words, sym, true, typing, ℕ, ◌||◌, ◌∙◌, ◌∷◌, ◌≡◌, ◌⊎◌}
+use Rattle.yaml_loader.proofs.Common.{[], and_parts, ap, arith, Bool, bytes_eq, bytes_eq-Decides, chars, false, false≢true, inl, inr, is_among, is_decimal, is_real_text, IsUtf8, List, list_all, nat_lt, nat_tests, or_cases, refl, special_words, sym, true, typing, ℕ, ◌||◌, ◌∙◌, ◌∷◌, ◌≡◌, ◌⊎◌}
 use Rattle.defs_tree.proofs.RealTexts.{is_real_character, decimal-characters}
 use Rattle.defs_tree.proofs.GrammarLaws.{list_all-more}
 use Rattle.defs_tree.proofs.TypingLaws.{real_text-cases}
-use Rattle.yaml_loader.proofs.Words.{IsWord, AreWords, ascii_word, ascii_words, among_chars, chars_of_word, bytes_of_word}
+use Rattle.yaml_loader.proofs.Words.{IsWord, ascii_word, ascii_words, among_chars, chars_of_word, bytes_of_word}
 
 low : (c : ℕ) → is_real_character c ≡ true → nat_lt c 128 ≡ true
 low c h = grind (arith, nat_tests)
@@ -13,10 +13,6 @@ word_of t h = ascii_word t (list_all-more is_real_character (λ c. nat_lt c 128)
 
 decimal_word : (t : List ℕ) → is_decimal t ≡ true → IsWord t
 decimal_word t h = word_of t (decimal-characters t h)
-
-or_from : (a b : Bool) → (a ≡ true) ⊎ (b ≡ true) → (a || b) ≡ true
-or_from a b (inl h) = or_left a b h
-or_from a b (inr h) = or_right a b h
 
 same_test : (a b : Bool) → (a ≡ true → b ≡ true) → (b ≡ true → a ≡ true) → a ≡ b
 same_test true b f g = sym (f refl)
@@ -41,30 +37,17 @@ specials_are_real : list_all is_real_text special_words ≡ true
 unfolding typing
 specials_are_real = refl
 
-special_real : (t : List ℕ) → is_among special_words t ≡ true → is_real_text t ≡ true
-special_real t h = among_all is_real_text special_words t specials_are_real h
-
 real_or_decimal : (t : List ℕ) → (is_real_text t || is_decimal t) ≡ (is_among special_words t || is_decimal t)
-real_or_decimal t = same_test (is_real_text t || is_decimal t) (is_among special_words t || is_decimal t) there back
+real_or_decimal t =
+    by (is_real_text t) (is_among special_words t) (is_decimal t) (real_text-cases t) (among_all is_real_text special_words t specials_are_real)
   where
-    by : (is_real_text t ≡ true) ⊎ (is_decimal t ≡ true) → (is_among special_words t || is_decimal t) ≡ true
-    by (inl h) = or_from (is_among special_words t) (is_decimal t) (real_text-cases t h)
-    by (inr h) = or_right (is_among special_words t) (is_decimal t) h
-
-    there : (is_real_text t || is_decimal t) ≡ true → (is_among special_words t || is_decimal t) ≡ true
-    there h = by (or_cases (is_real_text t) (is_decimal t) h)
-
-    back_by : (is_among special_words t ≡ true) ⊎ (is_decimal t ≡ true) → (is_real_text t || is_decimal t) ≡ true
-    back_by (inl h) = or_left (is_real_text t) (is_decimal t) (special_real t h)
-    back_by (inr h) = or_right (is_real_text t) (is_decimal t) h
-
-    back : (is_among special_words t || is_decimal t) ≡ true → (is_real_text t || is_decimal t) ≡ true
-    back h = back_by (or_cases (is_among special_words t) (is_decimal t) h)
-
-specials : AreWords special_words
-specials = ascii_words special_words refl
+    by : (a s d : Bool) → (a ≡ true → (s ≡ true) ⊎ (d ≡ true)) → (s ≡ true → a ≡ true) → (a || d) ≡ (s || d)
+    by a true d f g = ap (λ x. x || d) (g refl)
+    by false false d f g = refl
+    by true false true f g = refl
+    by true false false f g = elim (f refl) [ inl e ↦ cc | inr e ↦ cc ]
 
 -- by the bytes of the text
 pub real_by_bytes : (bs : List ℕ) → IsUtf8 bs → (is_among special_words bs || is_decimal bs) ≡ (is_real_text (chars bs) || is_decimal (chars bs))
 real_by_bytes bs utf8 =
-    sym (real_or_decimal (chars bs) ∙ (λ i. among_chars special_words bs specials utf8 i || decimal-chars bs utf8 i))
+    sym (real_or_decimal (chars bs) ∙ (λ i. among_chars special_words bs (ascii_words special_words refl) utf8 i || decimal-chars bs utf8 i))

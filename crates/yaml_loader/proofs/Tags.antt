@@ -1,5 +1,5 @@
 -- Plain scalars with a tag: what the bytes of text, handle and suffix say.
-use Rattle.yaml_loader.proofs.Common.{[], ap, as_boolean, as_integer, as_null, as_real, bad_value, boolean, by_name, bytes_eq, chars, codes, core_prefix, false, false_words, if◌then◌else◌, is_among, IsUtf8, List, null, refl, string, sym, Tag, tagged_tree, true, true_words, ℕ, ◌∙◌, ◌∷◌, ◌≡◌}
+use Rattle.yaml_loader.proofs.Common.{[], ap, arith, as_boolean, as_integer, as_null, as_real, bad_value, Bool, boolean, by_name, bytes_eq, chars, codes, core_prefix, false, false_words, if◌then◌else◌, is_among, IsUtf8, List, not, null, refl, string, sym, Tag, tagged_tree, true, true_words, ℕ, ◌∙◌, ◌∷◌, ◌≡◌}
 use Rattle.yaml_loader.proofs.Words.{IsNoneOf, ascii_word, ascii_words, among_chars, not_among, chars_word, word_other}
 
 pub boolean-chars : (bs : List ℕ) → IsUtf8 bs → as_boolean (chars bs) ≡ as_boolean bs
@@ -43,18 +43,22 @@ other_name t text other =
     else (if word_other (codes "null") t other.1.1.1.0 i then as_null text
     else string text))))
 
-core_chars : (bs : List ℕ) → IsUtf8 bs → bytes_eq (chars bs) core_prefix ≡ bytes_eq bs core_prefix
-core_chars bs utf8 = chars_word core_prefix bs (ascii_word core_prefix refl) utf8
+-- the code's test whether a handle is not that of the core schema
+core_test : (t : Tag) (handle : List ℕ) (other : Bool) → t.handle ≡ chars handle → IsUtf8 handle → other ≡ not (bytes_eq handle core_prefix) → bytes_eq t.handle core_prefix ≡ not other
+core_test t handle other e utf8 is = ap (λ h. bytes_eq h core_prefix) e ∙ chars_word core_prefix handle (ascii_word core_prefix refl) utf8 ∙ by (bytes_eq handle core_prefix) other is
+  where
+    by : (b d : Bool) → d ≡ not b → b ≡ not d
+    by b d e = grind arith
 
 -- a handle that is not that of the core schema
-pub other_tag : (t : Tag) (handle text : List ℕ) → t.handle ≡ chars handle → IsUtf8 handle → bytes_eq handle core_prefix ≡ false → string text ≡ tagged_tree t text
-other_tag t handle text e utf8 other =
-    let b = ap (λ h. bytes_eq h core_prefix) e ∙ core_chars handle utf8 ∙ other in
+pub other_tag : (t : Tag) (handle text : List ℕ) (other : Bool) → t.handle ≡ chars handle → IsUtf8 handle → other ≡ not (bytes_eq handle core_prefix) → other ≡ true → string text ≡ tagged_tree t text
+other_tag t handle text other e utf8 is so =
+    let b = core_test t handle other e utf8 is ∙ ap not so in
     sym (λ i. if b i then by_name t.suffix text else string text)
 
 -- the handle of the core schema
-pub core_tag : (t : Tag) (handle suffix text : List ℕ) → t.handle ≡ chars handle → IsUtf8 handle → bytes_eq handle core_prefix ≡ true
+pub core_tag : (t : Tag) (handle suffix text : List ℕ) (other : Bool) → t.handle ≡ chars handle → IsUtf8 handle → other ≡ not (bytes_eq handle core_prefix) → other ≡ false
     → t.suffix ≡ chars suffix → IsUtf8 suffix → tagged_tree t text ≡ by_name suffix text
-core_tag t handle suffix text e utf8 core s suffix_utf8 =
-    let b = ap (λ h. bytes_eq h core_prefix) e ∙ core_chars handle utf8 ∙ core in
+core_tag t handle suffix text other e utf8 is so s suffix_utf8 =
+    let b = core_test t handle other e utf8 is ∙ ap not so in
     (λ i. if b i then by_name t.suffix text else string text) ∙ ap (λ n. by_name n text) s ∙ name-chars suffix text suffix_utf8

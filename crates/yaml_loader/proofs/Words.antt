@@ -1,6 +1,6 @@
 -- Texts as bytes and as characters, against words that are both.
 use Rattle.std.specs.Bool.{Decides}
-use Rattle.yaml_loader.proofs.Common.{[], and_from, and_parts, ap, arith, Bool, bytes_eq, bytes_eq-Decides, chars, chars-encodes, encode_ascii, encodes-chars, false, is_among, IsUtf8, List, list_all, nat_lt, nat_tests, refl, same_from_decides, sym, true, ℕ, ◌++◌, ◌<◌, ◌||◌, ◌∙◌, ◌∷◌, ◌≡◌}
+use Rattle.yaml_loader.proofs.Common.{[], and_from, and_parts, ap, arith, Bool, bytes_eq, bytes_eq-Decides, chars, chars-encodes, encode_ascii, encodes-chars, false, false_from_ne_true, is_among, IsUtf8, List, list_all, nat_lt, nat_tests, refl, same_from_decides, sym, true, ℕ, ◌++◌, ◌<◌, ◌||◌, ◌∙◌, ◌∷◌, ◌≡◌}
 use lib.Utf8.{scalar, scalars, encodes}
 
 -- a word whose bytes are its characters
@@ -63,12 +63,8 @@ abbrev pub IsNoneOf : List (List ℕ) → List ℕ → Type 0
 IsNoneOf [] t = Unit {0}
 IsNoneOf (w ∷ ws) t = (t ≡ w → ⊥) × IsNoneOf ws t
 
-pub other_word : (w t : List ℕ) → (t ≡ w → ⊥) → bytes_eq w t ≡ false
-other_word w t other = by (bytes_eq w t) (λ e. other (sym ((bytes_eq-Decides w t).0 e)))
-  where
-    by : (b : Bool) → (b ≡ true → ⊥) → b ≡ false
-    by true h = absurd (h refl)
-    by false h = refl
+other_word : (w t : List ℕ) → (t ≡ w → ⊥) → bytes_eq w t ≡ false
+other_word w t other = false_from_ne_true (bytes_eq w t) (λ e. other (sym ((bytes_eq-Decides w t).0 e)))
 
 pub not_among : (ws : List (List ℕ)) (t : List ℕ) → IsNoneOf ws t → is_among ws t ≡ false
 not_among [] t h = refl
@@ -76,8 +72,4 @@ not_among (w ∷ ws) t h = λ i. other_word w t h.0 i || not_among ws t h.1 i
 
 -- the other way round
 pub word_other : (w t : List ℕ) → (t ≡ w → ⊥) → bytes_eq t w ≡ false
-word_other w t other = by (bytes_eq t w) (λ e. other ((bytes_eq-Decides t w).0 e))
-  where
-    by : (b : Bool) → (b ≡ true → ⊥) → b ≡ false
-    by true h = absurd (h refl)
-    by false h = refl
+word_other w t other = false_from_ne_true (bytes_eq t w) (λ e. other ((bytes_eq-Decides t w).0 e))

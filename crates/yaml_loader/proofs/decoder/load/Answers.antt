@@ -1,7 +1,5 @@
-use Rattle.std.proofs.Common.{subst, false}
-use Rattle.std.specs.Str.{chars}
+use Rattle.yaml_loader.proofs.Common.{chars, false, IsUnread, subst}
 use Rattle.defs_text.specs.Text.{string_chars, up_to_nul}
-use Rattle.yaml_loader.specs.Unread.{IsUnread}
 use Rattle.yaml_loader.proofs.decoder.load.Goals as goal
 
 -- the fault is the load's

@@ -1,5 +1,5 @@
-use Rattle.yaml_loader.proofs.LimitedCommon.{ap, arith, Err, err_from_is_err_and, error_by, HoldsBack, kept_fault, loader_of, Ok, parsed, ReadsWithin, subst, ◌∙◌}
-use Rattle.yaml_loader.proofs.LimitedReading.{read_within, stops_within, refuses_within, faults_within, holds_within}
+use Rattle.yaml_loader.proofs.LimitedCommon.{arith, err_from_is_err_and, HoldsBack, subst}
+use Rattle.yaml_loader.proofs.LimitedReading.{fresh, read_within, stops_within, refuses_within, faults_within, holds_within}
 use Rattle.yaml_loader.proofs.limited_document.read_document.Goals as goal
 
 pub returns-in-Some-clause-reads : goal.returns-in-Some-clause-reads
@@ -16,27 +16,21 @@ returns-in-Err-Parser-clause-reads g c = λ h.
 pub returns-in-Err-Receiver-clause-reads : goal.returns-in-Err-Receiver-clause-reads
 returns-in-Err-Receiver-clause-reads g c = λ h.
     let guard = c.new-guard.ensures in
-    let empty = ap loader_of guard.receiver ∙ c.default-loader.ensures.empty in
-    let clear = ap kept_fault guard.receiver ∙ c.default-loader.ensures.no_fault in
+    let new = fresh c.default-loader.ensures.empty c.default-loader.ensures.no_fault guard.receiver guard.counts guard.limits guard.goes_on in
     let takes = c.in-Err-Receiver.ensures.takes h.going in
-    let refused = refuses_within h (record { counts = guard.counts; goes_on = guard.goes_on }) empty clear c.in-Err-Receiver.fault (rw c.in-Err-Receiver.field-0-is at takes) in
-    rw c.error.ensures
-    (subst (λ l. ReadsWithin l (parsed c.args.parser.now) (Err (error_by c.take_document.new.receiver.stopped c.in-Err-Receiver.fault)) (parsed c.take_document.new.parser)) guard.limits refused)
+    rw c.error.ensures (refuses_within h new c.in-Err-Receiver.fault (rw c.in-Err-Receiver.field-0-is at takes))
 
 pub returns-in_err-documents-clause-reads : goal.returns-in_err-documents-clause-reads
 returns-in_err-documents-clause-reads g c = λ h.
     let p = err_from_is_err_and c.from_residual.result c.from_residual.ensures.1 in
     let guard = c.new-guard.ensures in
-    let empty = ap loader_of guard.receiver ∙ c.default-loader.ensures.empty in
-    let clear = ap kept_fault guard.receiver ∙ c.default-loader.ensures.no_fault in
-    let stops = stops_within h (record { counts = guard.counts; goes_on = guard.goes_on }) empty clear c.in_err-documents.field-0.0 (c.in-Ok.ensures.takes h.going) (c.in_err-documents.ensures {u = tt}) in
+    let new = fresh c.default-loader.ensures.empty c.default-loader.ensures.no_fault guard.receiver guard.counts guard.limits guard.goes_on in
+    let stops = stops_within h new c.in_err-documents.field-0.0 (c.in-Ok.ensures.takes h.going) (c.in_err-documents.ensures {u = tt}) in
     rw (p.1, p.2) stops
 
 pub returns-clause-reads : goal.returns-clause-reads
 returns-clause-reads g c = λ h.
     let guard = c.new-guard.ensures in
-    let empty = ap loader_of guard.receiver ∙ c.default-loader.ensures.empty in
-    let clear = ap kept_fault guard.receiver ∙ c.default-loader.ensures.no_fault in
-    let reads = read_within h (record { counts = guard.counts; goes_on = guard.goes_on }) empty clear c.in_ok-documents.documents.items c.pop.new.self.items c.pop.result
-    (c.in-Ok.ensures.takes h.going) (c.in_ok-documents.ensures {u = tt}) c.pop.ensures.items (λ l. c.pop.ensures.variant.1 (omega (arith, l, c.in_ok-documents.documents.ok))) in
-    subst (λ l. ReadsWithin l (parsed c.args.parser.now) (Ok c.pop.result) (parsed c.take_document.new.parser)) guard.limits reads
+    let new = fresh c.default-loader.ensures.empty c.default-loader.ensures.no_fault guard.receiver guard.counts guard.limits guard.goes_on in
+    read_within h new c.in_ok-documents.documents.items c.pop.new.self.items c.pop.result
+    (c.in-Ok.ensures.takes h.going) (c.in_ok-documents.ensures {u = tt}) c.pop.ensures.items (λ l. c.pop.ensures.variant.1 (omega (arith, l, c.in_ok-documents.documents.ok)))

@@ -19,17 +19,13 @@ documents_of-requires c =
     let hands = of_memory c.new-source.result c.args.text.now c.utf8.text c.new-source.ensures (c.in_ok-read.ensures {u = tt}) (record { counts = guard.counts; goes_on = guard.goes_on }) in
     (up_to_nul (chars c.args.text.now), taken_all empty hands)
 
-pub returns-clause-loads : goal.returns-clause-loads
-returns-clause-loads c =
+pub returns : goal.returns
+returns c =
     let guard = c.new-guard.ensures in
     let text = up_to_nul (chars c.args.text.now) in
     let empty = subst IsEmpty (sym guard.receiver) c.new-loader.ensures in
     let hands = of_memory c.new-source.result c.args.text.now c.utf8.text c.new-source.ensures (c.in_ok-read.ensures {u = tt}) (record { counts = guard.counts; goes_on = guard.goes_on }) in
-    loaded_marked c.taken_texts_are_loaded.ensures c.taken_events_are_read.ensures c.args.limits text c.new-guard.result.receiver c.read.new.self.receiver (without_positions c.documents_of.result) empty (rw guard.limits at hands) c.documents_of.ensures.gives
-
-pub returns-clause-marks : goal.returns-clause-marks
-returns-clause-marks c =
-    let guard = c.new-guard.ensures in
-    let empty = subst IsEmpty (sym guard.receiver) c.new-loader.ensures in
-    let hands = of_memory c.new-source.result c.args.text.now c.utf8.text c.new-source.ensures (c.in_ok-read.ensures {u = tt}) (record { counts = guard.counts; goes_on = guard.goes_on }) in
-    c.documents_of.ensures.marks (up_to_nul (chars c.args.text.now)) (taken_all empty hands)
+    record {
+      loads = loaded_marked c.taken_texts_are_loaded.ensures c.taken_events_are_read.ensures c.args.limits text c.new-guard.result.receiver c.read.new.self.receiver (without_positions c.documents_of.result) empty (rw guard.limits at hands) c.documents_of.ensures.gives;
+      marks = c.documents_of.ensures.marks text (taken_all empty hands);
+    }

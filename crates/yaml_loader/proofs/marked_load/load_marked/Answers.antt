@@ -11,8 +11,8 @@ returns-in_err-loader-clause-reads c =
 pub into_documents-requires : goal.into_documents-requires
 into_documents-requires c = (_, c.in_ok-loader.ensures {u = tt})
 
-pub returns-clause-reads : goal.returns-clause-reads
-returns-clause-reads c = gives_documents (plain c.into_documents.result) c.taken_texts_are_loaded.ensures (c.in_ok-loader.ensures {u = tt}) c.into_documents.ensures.gives
-
-pub returns-clause-marks : goal.returns-clause-marks
-returns-clause-marks c = c.into_documents.ensures.marks _ (c.in_ok-loader.ensures {u = tt})
+pub returns : goal.returns
+returns c = record {
+  reads = gives_documents (plain c.into_documents.result) c.taken_texts_are_loaded.ensures (c.in_ok-loader.ensures {u = tt}) c.into_documents.ensures.gives;
+  marks = c.into_documents.ensures.marks _ (c.in_ok-loader.ensures {u = tt});
+}

@@ -1,5 +1,4 @@
-use Rattle.std.specs.Option.{option_copied}
-use Rattle.yaml_loader.proofs.Common.{aliased, anchors_of, ap, bad_value, IfOk-weaker, option_map, sym, unwrap_or, view, ◌∙◌, ◌≡◌}
+use Rattle.yaml_loader.proofs.Common.{aliased, anchors_of, ap, bad_value, IfOk-weaker, option_copied, option_map, sym, unwrap_or, view, ◌∙◌, ◌≡◌}
 use Rattle.yaml_loader.proofs.AliasLemmas.{aliased_is}
 use Rattle.yaml_loader.proofs.reading.TreeBuilder.aliased.Goals as goal
 
