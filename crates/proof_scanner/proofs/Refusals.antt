@@ -16,5 +16,4 @@ pub mod QuotedReasons
 pub mod Quotes
 pub mod Refusals
 pub mod Rows
-pub mod Shortens
 pub mod TextsRefused

@@ -13,7 +13,7 @@ use Rattle.proof_scanner.proofs.Refusals.Fetches.{here_told}
 use Rattle.proof_scanner.proofs.Refusals.Passing.{HasNear, fetch_near, passing_told}
 use Rattle.proof_scanner.proofs.Refusals.KeysThatWait.{stale_rowless}
 use Rattle.proof_scanner.proofs.Refusals.Indicators.{unrolled_stays}
-use Rattle.proof_scanner.proofs.Refusals.Shortens.{stale_arrives}
+use Rattle.proof_scanner.proofs.Sound.Arriving.{stale_arrives}
 use Rattle.proof_scanner.proofs.Cut.Faults.Shown.{line_neither, tag_neither}
 use Rattle.model_scanner.proofs.Holds as holds
 use Rattle.proof_scanner.proofs.Refusals.Places as faults
@@ -73,7 +73,7 @@ end_cleared t = holds.tried {P = λ h. has_required h.keys ≡ false} t _ (holds
 
 here_stands : (text : List ℕ) (t : ScannerState) → Arrives text t → Holds (StandsOrEnds text) (fetch_here t)
 unfolding fetch_here
-here_stands text t a = holds.either (peek t.rest == 0) (λ _. holds.weakened (λ u x. inr x) (end_cleared t)) (λ e. holds.weakened (λ u x. inl x) (content_kept text t a (goes_on_here t.rest e)))
+here_stands text t a = holds.either (peek t.rest == 0) (λ _. holds.weakened (λ u x. inr x) (end_cleared t)) (λ e. holds.weakened (λ u x. inl x.stands) (content_kept text t a (goes_on_here t.rest e)))
 
 left_told : (text : List ℕ) → has_no_nul text ≡ true → (t : ScannerState) → StandsOrEnds text t → Faults (Said text) (stale t.held)
 unfolding stale drop_stale
@@ -89,7 +89,7 @@ next_told text nul t s near =
     let a = held_of u (passed_stands text t s) e in
     in_turn (tried u (stale_told text nul u a.0)) (λ v f.
     let here : ScannerState = on_held (λ h. unroll_indent (h.position.col + 1) h) v in
-    let b : Arrives text here = held_of v (stale_arrives text u a.0 a.1) f in
+    let b : Arrives text here = (held_of v (stale_arrives text u a.0 a.1) f).0 in
     in_turn (here_told text here b) (λ w i.
     tried w (left_told text nul w (held_of w (here_stands text here b) i)))))
 

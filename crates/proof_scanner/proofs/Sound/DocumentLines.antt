@@ -1,6 +1,6 @@
 -- Document markers and directives: what holds where they begin holds between two fetches after them.
-use Rattle.proof_scanner.proofs.Common.{[], act_of, and_false, and_parts, ap, append-nil, append_assoc, AreLevels, arith, Arrives, At, awaits_past, before_by, begin_line, begins_free_line, begins_line, begins_with, begun_by, begun_inside, blanks_and_comment, Bool, chained, check_document_end, closed_key, columns, Directive, directive_of, directives_end, either, entries_past, Entry, eqb-true, Err, false, fetch_directive, fetch_document_end, fetch_document_marker, first_break, FlowLevel, further_lines_stand, gives_marker, has_break, has_no_break, has_no_nul, has_open_level, HasNoTabs, Held, Holds, if◌then◌else◌, in_flow, inr, is_at_gap, is_break, is_breakz, is_closed, is_empty, is_in_column, is_indented_by_spaces, is_renewed, is_required, is_separation, IsDirectiveRead, IsLeading, IsPiece, IsReadOn, Key, least_for, length, Levels, line_is_done, List, may_precede, no_nul_after, None, Ok, on_held, Option, or_true, other, pair_position, past, past_blanks_and_comment, past_line_rest, peek, Position, position_after, position_append, previous_by, push, put, read, read_as, refl, refused, remove_implicit_key, replicate-append-replicate, ScannerState, seen, settled, shown_position, Site, site_in, skip_indicator, Some, Stands, subst, sym, taken, takes_pair, Tok, Token, token_of, top_key, tried, true, unroll_indent, went, whole_directive, with_top, ℕ, ◌++◌, ◌∙◌, ◌∷◌, ◌≡◌, ◌≤◌}
-use Rattle.proof_scanner.proofs.Sound.Steps.{adjacent_kept, all_levels, by_sides, ArrivesBy, at_end_of, begins_key, ends_of, goes_inside, is_done, key_gone, line_rest_cut, line_rest_fills, line_rest_in_line, none_indents, past_rest, read_outside, Reads, rest_skipped, same_in_line, shorter, some_rest, three_past, tokens_before, tokens_then, unrolled_in_flow, with_entries, same_has_break}
+use Rattle.proof_scanner.proofs.Common.{[], act_of, and_false, and_parts, ap, append-nil, append_assoc, AreLevels, arith, Arrives, At, awaits_past, before_by, begin_line, begins_free_line, begins_line, begins_with, begun_by, begun_inside, blanks_and_comment, Bool, chained, check_document_end, closed_key, columns, Directive, directive_of, directives_end, either, entries_past, Entry, eqb-true, Err, false, fetch_directive, fetch_document_end, fetch_document_marker, first_break, FlowLevel, further_lines_stand, gives_marker, has_break, has_no_break, has_no_nul, has_open_level, HasNoTabs, Held, Holds, if◌then◌else◌, in_flow, inr, is_at_gap, is_break, is_breakz, is_closed, is_empty, is_in_column, is_indented_by_spaces, is_renewed, is_required, is_separation, IsDirectiveRead, IsLeading, IsPiece, IsReadOn, Key, least_for, length, Levels, line_is_done, List, may_precede, no_nul_after, None, Ok, on_held, Option, or_true, other, pair_position, past, past_blanks_and_comment, past_line_rest, peek, Position, position_after, position_append, previous_by, push, put, read, read_as, refl, refused, remove_implicit_key, replicate-append-replicate, ScannerState, seen, settled, shown_position, Site, site_in, skip_indicator, Some, subst, sym, taken, takes_pair, Tok, Token, token_of, top_key, tried, true, unroll_indent, went, whole_directive, with_top, ℕ, ◌++◌, ◌∙◌, ◌∷◌, ◌≡◌, ◌≤◌}
+use Rattle.proof_scanner.proofs.Sound.Steps.{Onward, adjacent_kept, all_levels, by_sides, ArrivesBy, at_end_of, begins_key, ends_of, goes_inside, is_done, key_gone, line_rest_cut, line_rest_fills, line_rest_in_line, none_indents, past_rest, read_outside, Reads, rest_skipped, same_in_line, shorter, some_rest, three_past, tokens_before, tokens_then, unrolled_in_flow, with_entries, same_has_break}
 use Rattle.defs_token.specs.Account.{Account as PieceAccount}
 use Rattle.defs_token.specs.Key.{line_past as line_of_piece}
 use Rattle.model_scanner.specs.Directive.{directive}
@@ -82,7 +82,7 @@ unrolled_outside s e a = rw e (ap (λ (u : Levels). record s { indent = u.indent
 
 -- ---- outside flow
 
-line_stands : (text : List ℕ) (t : ScannerState) (d : Read) (a : ArrivesBy text t [] (None ∷ []) []) → IsRead t d → t.held.flow ≡ [] → with_top None t.held.keys ≡ None ∷ [] → Stands text (line_past t (begun_from (all_ended t.held)) d)
+line_stands : (text : List ℕ) (t : ScannerState) (d : Read) (a : ArrivesBy text t [] (None ∷ []) []) → IsRead t d → t.held.flow ≡ [] → with_top None t.held.keys ≡ None ∷ [] → Onward text t.rest (line_past t (begun_from (all_ended t.held)) d)
 line_stands text t d a r flow keys =
     read_outside text t (line_past t (begun_from (all_ended t.held)) d) a d.piece (next_of d) d.gap d.tok (record { line = taken; blocks = [] }) x (ap (λ k. site_in false k t.held.position a.site) r.token.act)
     (line_reads t d (begun_from (all_ended t.held)) _ r refl refl refl (r.token.awaits_outside x.blocks x.awaits (next_of d)) refl a.was_adjacent (refl, refl, refl)) (record { line_is = (inr refl, sym r.not_free, tt); no_key = refl; flow_is = flow; keys_are = keys }) (record {
@@ -109,7 +109,7 @@ line_stands text t d a r flow keys =
 -- ---- in flow
 
 line_goes : (text : List ℕ) (t : ScannerState) (d : Read) (f : FlowLevel) (fs : List FlowLevel) (k : Option Key) (ks : List (Option Key)) (e : Entry) (es : List Entry) (a : ArrivesBy text t (f ∷ fs) (k ∷ ks) (e ∷ es)) → IsRead t d → t.held.flow ≡ f ∷ fs → with_top None t.held.keys ≡ None ∷ ks →
-    Stands text (line_past t (begun_from t.held) d)
+    Onward text t.rest (line_past t (begun_from t.held) d)
 line_goes text t d f fs k ks e es a r flow keys =
     goes_inside text t (line_past t (begun_from t.held) d) f f fs k ks e (record { kind = e.kind; pair = e.pair; had = settled }) es a d.piece (next_of d) d.tok d.gap
     (line_reads t d (begun_from t.held) _ r refl refl a.blocks_are (r.token.awaits_inside a.site.blocks a.site.awaits (next_of d) ∙ a.awaits_is) a.are_levels a.was_adjacent (refl, refl, refl)) (record {
@@ -138,7 +138,7 @@ pub record Begins (text : List ℕ) (t : ScannerState) : Type 0 where
   pub held : Held
   pub rolled : unroll_indent 0 t.held ≡ held
   pub same_position : held.position ≡ t.held.position
-  pub stands : (d : Read) → IsRead t d → is_required (top_key held.keys) ≡ false → Stands text (line_past t (begun_from held) d)
+  pub stands : (d : Read) → IsRead t d → is_required (top_key held.keys) ≡ false → Onward text t.rest (line_past t (begun_from held) d)
 
 pub begins : (text : List ℕ) (t : ScannerState) → is_empty t.rest ≡ false → Arrives text t → Begins text t
 begins text t some a =
@@ -165,13 +165,13 @@ abbrev pub start_read : (more : List ℕ) → Position → Read
 start_read more p = record { tok = Tok.document_start; piece = 45 ∷ 45 ∷ 45 ∷ []; gap = []; rest = more; end = past (past (past p)); leading = false }
 
 -- `---`
-pub document_start_keeps : (text more : List ℕ) (t : ScannerState) → Arrives text t → t.rest ≡ 45 ∷ 45 ∷ 45 ∷ more → is_at_gap more ≡ true → t.held.position.col ≡ 0 → Holds (Stands text) (fetch_document_marker Tok.document_start t)
+pub document_start_keeps : (text more : List ℕ) (t : ScannerState) → Arrives text t → t.rest ≡ 45 ∷ 45 ∷ 45 ∷ more → is_at_gap more ≡ true → t.held.position.col ≡ 0 → Holds (Onward text t.rest) (fetch_document_marker Tok.document_start t)
 unfolding fetch_document_marker is_break
 document_start_keeps text more t a e gap col =
     let b : Begins text t = begins text t (ap is_empty e) a in
     chained {P = λ u. (is_required (top_key b.held.keys) ≡ false) × (u ≡ record t { held = begun_from b.held })} (tried t (begin_line t.held) (line_begun t.held b.held b.rolled) (λ h d. (d.0, ap (λ y. record t { held = y }) d.1))) (λ u d.
-    went (subst (λ y. Stands text (on_held (push t.held.position Tok.document_start) (skip_indicator (skip_indicator (skip_indicator y))))) (sym d.1)
-    (subst (λ r. Stands text (on_held (push t.held.position Tok.document_start) (skip_indicator (skip_indicator (skip_indicator (record { rest = r; held = begun_from b.held })))))) (sym e)
+    went (subst (λ y. Onward text t.rest (on_held (push t.held.position Tok.document_start) (skip_indicator (skip_indicator (skip_indicator y))))) (sym d.1)
+    (subst (λ r. Onward text t.rest (on_held (push t.held.position Tok.document_start) (skip_indicator (skip_indicator (skip_indicator (record { rest = r; held = begun_from b.held })))))) (sym e)
     (b.stands (start_read more b.held.position) (assumption (start_token, e, gap, col, ap (λ q. past (past (past q))) b.same_position ∙ three_past t.held.position 45 more refl)) d.0))))
 
 -- ---- `...`
@@ -191,7 +191,7 @@ abbrev pub marked : ScannerState → Held → (rest : List ℕ) → ScannerState
 marked t h r = on_held (push t.held.position Tok.document_end) (skip_indicator (skip_indicator (skip_indicator (record { rest = r; held = begun_from h }))))
 
 -- `...`, after which the line holds no more
-pub document_end_keeps : (text more : List ℕ) (t : ScannerState) → Arrives text t → t.rest ≡ 46 ∷ 46 ∷ 46 ∷ more → is_at_gap more ≡ true → t.held.position.col ≡ 0 → Holds (Stands text) (fetch_document_end t)
+pub document_end_keeps : (text more : List ℕ) (t : ScannerState) → Arrives text t → t.rest ≡ 46 ∷ 46 ∷ 46 ∷ more → is_at_gap more ≡ true → t.held.position.col ≡ 0 → Holds (Onward text t.rest) (fetch_document_end t)
 unfolding fetch_document_end fetch_document_marker check_document_end
 document_end_keeps text more t a e gap col =
     let b : Begins text t = begins text t (ap is_empty e) a in
@@ -203,7 +203,7 @@ document_end_keeps text more t a e gap col =
     let is : v ≡ past_rest (marked t b.held (46 ∷ 46 ∷ 46 ∷ more)) = s.0 ∙ ap past_rest d.1 in
     let ends : is_breakz (peek (past_blanks_and_comment more)) ≡ true = ap (λ y. is_breakz (peek y.rest)) (sym is) ∙ yes in
     let hash : begins_with 35 more ≡ false = ap (λ y. begins_with 35 y.rest) (sym d.1) ∙ s.1 in
-    subst (Stands text) (sym is) (b.stands (end_read more b.held.position) (end_is_read t more b.held.position b.same_position e gap col (grind (arith, blanks_and_comment, is_done, line_rest_fills, same_has_break, line_rest_in_line, at_end_of, no_nul_after, line_rest_cut, begins_with, eqb-true))) d.0)
+    subst (Onward text t.rest) (sym is) (b.stands (end_read more b.held.position) (end_is_read t more b.held.position b.same_position e gap col (grind (arith, blanks_and_comment, is_done, line_rest_fills, same_has_break, line_rest_in_line, at_end_of, no_nul_after, line_rest_cut, begins_with, eqb-true))) d.0)
     )) (λ no. refused)))
 
 -- ---- directives
@@ -220,15 +220,15 @@ abbrev pub after_it : ScannerState → machine.Read Tok → Held → ScannerStat
 after_it t x h = record { rest = x.rest; held = record h { position = x.position; leading = true; tokens = (push t.held.position x.value h).tokens } }
 
 -- `%`
-pub directive_keeps : (text more : List ℕ) (t : ScannerState) → Arrives text t → t.rest ≡ 37 ∷ more → t.held.position.col ≡ 0 → Holds (Stands text) (fetch_directive t)
+pub directive_keeps : (text more : List ℕ) (t : ScannerState) → Arrives text t → t.rest ≡ 37 ∷ more → t.held.position.col ≡ 0 → Holds (Onward text t.rest) (fetch_directive t)
 unfolding fetch_directive
 directive_keeps text more t a e col =
     let b : Begins text t = begins text t (ap is_empty e) a in
     chained {P = λ u. (is_required (top_key b.held.keys) ≡ false) × (u ≡ record t { held = begun_from b.held })} (tried t (begin_line t.held) (line_begun t.held b.held b.rolled) (λ h d. (d.0, ap (λ y. record t { held = y }) d.1))) (λ u d.
     read u.held (directive u.rest u.held.position) _ (λ x is. went (
     let at_place : directive (37 ∷ more) t.held.position ≡ Ok x = ap (λ p. directive (37 ∷ more) p) (sym b.same_position) ∙ (ap (λ r. directive r b.held.position) (sym e) ∙ (ap (λ y. directive y.rest y.held.position) (sym d.1) ∙ is)) in
-    subst (λ y. Stands text (after_it t x y.held)) (sym d.1) (by b d.0 x (read_as at_place (directives_end more t.held.position))))))
+    subst (λ y. Onward text t.rest (after_it t x y.held)) (sym d.1) (by b d.0 x (read_as at_place (directives_end more t.held.position))))))
   where
-    by : (b : Begins text t) → is_required (top_key b.held.keys) ≡ false → (x : machine.Read Tok) → IsDirectiveRead t.held.position more x → Stands text (after_it t x (begun_from b.held))
+    by : (b : Begins text t) → is_required (top_key b.held.keys) ≡ false → (x : machine.Read Tok) → IsDirectiveRead t.held.position more x → Onward text t.rest (after_it t x (begun_from b.held))
     by b none x (whole_directive line next d cut no_break ends is) =
         b.stands (directive_read line next d t.held.position) (directive_is_read t line next d (e ∙ ap (λ l. 37 ∷ l) cut) no_break ends is col) none

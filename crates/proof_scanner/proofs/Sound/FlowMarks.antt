@@ -1,7 +1,7 @@
 -- Commas and closing brackets: what holds where they begin holds between two fetches after them. Outside flow they close nothing.
-use Rattle.proof_scanner.proofs.Common.{[], Act, act_of, adjacent_in_flow, another, ap, append_assoc, AreAround, AreEntries, AreLevels, AreNumbered, arith, Arrives, before_by, before_past, begin_flow, begins_free_line, begins_with, begun_by, begun_outside, blanks_and_comment, Bool, chained, Collection, columns, end_entry, end_flow, ends_at, ends_spaces, entries_by, Entry, eqb-true, false, fetch_flow_collection_end, fetch_flow_collection_start, fetch_flow_entry, first_entry, flow_collection, flow_end, flow_level, flow_start, FlowLevel, free, gives_closing, gives_comma, gives_node, has_no_break, has_no_nul, has_open_level, Held, Holds, if◌then◌else◌, in_block, in_flow, increase_flow_level, Indent, is_blank, is_deeper, is_empty, is_in_column, is_renewed, is_required, is_separation, IsAdjacent, IsEntryOf, IsLine, IsPairOf, IsPiece, Key, least_for, length, level_of, Line, line_past, List, map, Mapping, nat_le, nat_lt, no_nul_after, no_pair, None, not, on_held, Option, other, outside_key, pair_end, past, past_blanks_and_comment, past_line_rest, pop, Position, position_after, position_in_line, Previous, previous_by, push, put, refl, refused, remove_implicit_key, roll_one_col_indent, ScannerState, seen, Site, site_here, site_in, Some, Stands, Step, subst, suc, sym, taken, Tok, Token, top_key, tried, true, went, with_keys, with_top, Yes, ℕ, ◌&&◌, ◌++◌, ◌∙◌, ◌∷◌, ◌≡◌, ◌⊎◌}
+use Rattle.proof_scanner.proofs.Common.{[], Act, act_of, adjacent_in_flow, another, ap, append_assoc, AreAround, AreEntries, AreLevels, AreNumbered, arith, Arrives, before_by, before_past, begin_flow, begins_free_line, begins_with, begun_by, begun_outside, blanks_and_comment, Bool, chained, Collection, columns, end_entry, end_flow, ends_at, ends_spaces, entries_by, Entry, eqb-true, false, fetch_flow_collection_end, fetch_flow_collection_start, fetch_flow_entry, first_entry, flow_collection, flow_end, flow_level, flow_start, FlowLevel, free, gives_closing, gives_comma, gives_node, has_no_break, has_no_nul, has_open_level, Held, Holds, if◌then◌else◌, in_block, in_flow, increase_flow_level, Indent, is_blank, is_deeper, is_empty, is_in_column, is_renewed, is_required, is_separation, IsAdjacent, IsEntryOf, IsLine, IsPairOf, IsPiece, Key, least_for, length, level_of, Line, line_past, List, map, Mapping, nat_le, nat_lt, no_nul_after, no_pair, None, not, on_held, Option, other, outside_key, pair_end, past, past_blanks_and_comment, past_line_rest, pop, Position, position_after, position_in_line, Previous, previous_by, push, put, refl, refused, remove_implicit_key, roll_one_col_indent, ScannerState, seen, Site, site_here, site_in, Some, Step, subst, suc, sym, taken, Tok, Token, top_key, tried, true, went, with_keys, with_top, Yes, ℕ, ◌&&◌, ◌++◌, ◌∙◌, ◌∷◌, ◌≡◌, ◌⊎◌}
 use Rattle.proof_scanner.proofs.Cut.FlowEnds.{adjacent_collection, closed_tokens, ended_is, ended_now, ends_by_comma, ends_mapping, ends_sequence, entered, entry_is, entry_now, IsEndOf}
-use Rattle.proof_scanner.proofs.Sound.Steps.{adjacent_kept, ArrivesBy, begins_key, by_sides, deep_for, had_as_it_was, indicator_end, indicator_passed, is_clear, IsDeep, IsRead, IsToken, key_gone, keyless, keyless_tokens, keys_along, line_rest_cut, line_rest_fills, line_rest_in_line, line_taken, low_enough, many_around, next_of, node_read, numbered_then, past_it, past_rest_is_clear, past_step, quiet_before, Read, read_outside, reads_before_none, reads_in_line, same_has_break, saved_is, saved_keys, site_of, site_then, started_tokens, state_after, steps_in_flow, tokens_before, with_entries}
+use Rattle.proof_scanner.proofs.Sound.Steps.{Onward, adjacent_kept, ArrivesBy, begins_key, by_sides, deep_for, had_as_it_was, indicator_end, indicator_passed, is_clear, IsDeep, IsRead, IsToken, key_gone, keyless, keyless_tokens, keys_along, line_rest_cut, line_rest_fills, line_rest_in_line, line_taken, low_enough, many_around, next_of, node_read, numbered_then, past_it, past_rest_is_clear, past_step, quiet_before, Read, read_outside, reads_before_none, reads_in_line, same_has_break, saved_is, saved_keys, site_of, site_then, started_tokens, state_after, steps_in_flow, tokens_before, with_entries}
 use Rattle.model_scanner.specs.State.{after}
 use Rattle.model_scanner.specs.declared.level.FlowLevel.TheVariants.{Entry as InEntry}
 use Rattle.proof_scanner.proofs.Cut.Flows.{IsOpeningOf, opening_mapping, opening_sequence}
@@ -48,7 +48,7 @@ stray_past closes t tok more = record {
 }
 
 pub stray_at : (text more : List ℕ) (closes : Bool) (tok : Tok) (c : ℕ) → IsCloser closes tok c → (t : ScannerState) (a : ArrivesBy text t [] (None ∷ []) []) → with_top None t.held.keys ≡ None ∷ [] → t.rest ≡ c ∷ more → begins_with 35 more ≡ false →
-    Stands text (stray_past closes t tok more)
+    Onward text t.rest (stray_past closes t tok more)
 stray_at text more closes tok c k t a keys e hash =
     read_outside text t (stray_past closes t tok more) a (c ∷ []) more (blanks_and_comment more) tok (record { line = line_then closes; blocks = at.blocks }) at (ap (λ x. site_in false x t.held.position a.site) k.act ∙ (grind arith))
     (reads_in_line t (stray_past closes t tok more) _ (c ∷ []) more (blanks_and_comment more) refl e (line_rest_cut more) (line_rest_fills more) (line_rest_in_line more) (indicator_end t.held.position c more k.is_end.in_line) refl (is_previous closes k.previous)
@@ -169,7 +169,7 @@ module _ (text more : List ℕ) (closes : Bool) (tok : Tok) (c : ℕ) (i : IsClo
   numbered b = grind (arith, numbered_then a.tokens past_closer.held.tokens k ks own_tokens (sym tokens_are) a.are_numbered)
 
   -- What holds between two fetches holds after it.
-  pub closer_stands : Stands text past_closer
+  pub closer_stands : Onward text t.rest past_closer
   closer_stands =
       let q = quiet_before (previous_by tok) end gap left (is_previous closes i.previous) (line_rest_in_line more) in
       let far = adjacent_kept t (record past_closer { held = record past_closer.held { adjacent_value_at = t.held.adjacent_value_at } }) other (c ∷ []) more gap refl (indicator_end t.held.position c more i.is_end.in_line) a.was_adjacent refl refl in
@@ -212,30 +212,30 @@ entry_over s = grind (arith, refused, went, entry_is s s.flow)
 -- ---- a comma
 
 -- `,`
-pub comma_keeps : (text more : List ℕ) (t : ScannerState) → t.rest ≡ 44 ∷ more → IsDeep t.held → Arrives text t → Holds (Stands text) (fetch_flow_entry t)
+pub comma_keeps : (text more : List ℕ) (t : ScannerState) → t.rest ≡ 44 ∷ more → IsDeep t.held → Arrives text t → Holds (Onward text t.rest) (fetch_flow_entry t)
 unfolding fetch_flow_entry
 comma_keeps text more t e deep a =
     chained {P = λ u. (is_required (top_key t.held.keys) ≡ false) × (u ≡ record t { held = entry_now t.held.flow t.held })} (tried t (end_entry t.held) (entry_over t.held) (λ h d. (d.0, ap (λ y. record t { held = y }) d.1))) (λ u d.
     chained (indicator_passed u more (ap (λ y. after y.rest) d.1 ∙ ap after e)) (λ v w.
-    went (subst (λ y. Stands text (on_held (push t.held.position Tok.flow_entry) y)) (sym (w.0 ∙ ap (λ y. past_it y more) d.1))
-    (by_sides text t (λ u. is_required (top_key u.held.keys) ≡ false → Stands text (on_held (push u.held.position Tok.flow_entry) (past_it (record u { held = entry_now u.held.flow u.held }) more))) a
+    went (subst (λ y. Onward text t.rest (on_held (push t.held.position Tok.flow_entry) y)) (sym (w.0 ∙ ap (λ y. past_it y more) d.1))
+    (by_sides text t (λ u. is_required (top_key u.held.keys) ≡ false → Onward text u.rest (on_held (push u.held.position Tok.flow_entry) (past_it (record u { held = entry_now u.held.flow u.held }) more))) a
     (λ k x n optional. stray_at text more false Tok.flow_entry 44 comma _ (key_gone text _ k x (ap is_empty e) (grind arith)) refl e w.1)
     (λ f fs k ks y es x optional. closer_stands text more false Tok.flow_entry 44 comma _ f fs k ks y es x deep e w.1) d.0))))
 
 -- ---- a closing bracket
 
 -- `]` or `}`
-pub closing_keeps : (text more : List ℕ) (kind : Collection) (c : ℕ) → IsCloser true (flow_end kind) c → (t : ScannerState) → t.rest ≡ c ∷ more → IsDeep t.held → Arrives text t → Holds (Stands text) (fetch_flow_collection_end kind t)
+pub closing_keeps : (text more : List ℕ) (kind : Collection) (c : ℕ) → IsCloser true (flow_end kind) c → (t : ScannerState) → t.rest ≡ c ∷ more → IsDeep t.held → Arrives text t → Holds (Onward text t.rest) (fetch_flow_collection_end kind t)
 unfolding fetch_flow_collection_end adjacent_in_flow
 closing_keeps text more kind c k t e deep a =
     chained {P = λ u. (is_required (top_key t.held.keys) ≡ false) × (u ≡ record t { held = ended_now t.held.flow t.held })} (tried t (end_flow t.held) (flow_over t.held) (λ h d. (d.0, ap (λ y. record t { held = y }) d.1))) (λ u d.
     chained (indicator_passed u more (ap (λ y. after y.rest) d.1 ∙ ap after e)) (λ v w.
-    went (subst (λ y. Stands text (on_held (λ s. push t.held.position (flow_end kind) (adjacent_in_flow s)) y)) (sym (w.0 ∙ ap (λ y. past_it y more) d.1))
-    (by_sides text t (λ u. is_required (top_key u.held.keys) ≡ false → Stands text (on_held (λ s. push u.held.position (flow_end kind) (adjacent_in_flow s)) (past_it (record u { held = ended_now u.held.flow u.held }) more))) a
+    went (subst (λ y. Onward text t.rest (on_held (λ s. push t.held.position (flow_end kind) (adjacent_in_flow s)) y)) (sym (w.0 ∙ ap (λ y. past_it y more) d.1))
+    (by_sides text t (λ u. is_required (top_key u.held.keys) ≡ false → Onward text u.rest (on_held (λ s. push u.held.position (flow_end kind) (adjacent_in_flow s)) (past_it (record u { held = ended_now u.held.flow u.held }) more))) a
     (λ o x n optional. stray_at text more true (flow_end kind) c k _ (key_gone text _ o x (ap is_empty e) (grind arith)) refl e w.1)
     (λ f fs o ks y es x optional.
     let now : ScannerState = past_it (record t { held = ended_now (f ∷ fs) (record t.held { flow = f ∷ fs; keys = o ∷ ks }) }) more in
-    subst (λ h. Stands text (record now { held = push t.held.position (flow_end kind) h })) (sym (grind arith)) (closer_stands text more true (flow_end kind) c k _ f fs o ks y es x deep e w.1)) d.0))))
+    subst (λ h. Onward text t.rest (record now { held = push t.held.position (flow_end kind) h })) (sym (grind arith)) (closer_stands text more true (flow_end kind) c k _ f fs o ks y es x deep e w.1)) d.0))))
 
 -- ---- opening brackets: what holds where they begin holds between two fetches after them
 
@@ -328,12 +328,12 @@ unfolding begin_flow increase_flow_level
 flow_begun kind s ds i rolled = grind (arith, saved_is, refused, went)
 
 -- `[` or `{`
-pub opening_keeps : (text more : List ℕ) (kind : Collection) (c : ℕ) → IsOpener (flow_level kind) (flow_start kind) c → (t : ScannerState) → t.rest ≡ c ∷ more → IsDeep t.held → Arrives text t → Holds (Stands text) (fetch_flow_collection_start kind t)
+pub opening_keeps : (text more : List ℕ) (kind : Collection) (c : ℕ) → IsOpener (flow_level kind) (flow_start kind) c → (t : ScannerState) → t.rest ≡ c ∷ more → IsDeep t.held → Arrives text t → Holds (Onward text t.rest) (fetch_flow_collection_start kind t)
 unfolding fetch_flow_collection_start
 opening_keeps text more kind c o t e deep a =
     let r : OpensLevel (with_key t.held) (roll_one_col_indent (with_key t.held)) = opens_level (with_key t.held) a.are_levels in
     chained {P = λ u. (nat_le 255 (length t.held.flow) ≡ false) × (u ≡ record t { held = begun_now (flow_level kind) t.held r.indents r.indent })}
     (tried t (begin_flow kind t.held) (flow_begun kind t.held r.indents r.indent r.is_held) (λ h d. (d.0, ap (λ y. record t { held = y }) d.1))) (λ u d.
     chained (indicator_passed u more (ap (λ y. after y.rest) d.1 ∙ ap after e)) (λ v w.
-    went (subst (λ y. Stands text (on_held (push t.held.position (flow_start kind)) y)) (sym (w.0 ∙ ap (λ y. past_it y more) d.1))
+    went (subst (λ y. Onward text t.rest (on_held (push t.held.position (flow_start kind)) y)) (sym (w.0 ∙ ap (λ y. past_it y more) d.1))
     (node_read text t (Some (flow_level kind)) (opener_read t (flow_start kind) c more r.indents r.indent) deep a (opener_is_read text more (flow_level kind) (flow_start kind) c o t _ r e deep w.1 d.0)))))

@@ -1,8 +1,8 @@
 -- A piece in flow was read: if the definition and the scanner agree on its entries and tokens, what holds where it begins holds between two fetches after it.
-use Rattle.proof_scanner.proofs.Common.{[], Account, account_past, act_of, ap, AreEntries, AreNumbered, arith, begins_free_line, BeginsButForKey, begun_by, begun_inside, Bool, chosen, Colon, colon_of, columns, entries_by, entries_past, Entry, entry_by, false, FlowLevel, had_by, has_break, HasHadHere, is_empty, is_renewed, is_separation, is_waiting, IsEntryOf, IsLine, IsOpenOutside, IsPiece, Key, key_end, KnowsKey, least_column, length, length-append, Line, line_by, line_past_separation, List, may_stand, MayChoose, nat_le, None, not, NotBefore, Option, outside_key, pair_position, pop, Position, position_after, previous_by, put, refl, ScannerState, seen, shown_position, Site, site_here, site_past, SoFar, Some, spelled, Stands, Step, subst, suc, sym, takes_pair, Tok, Token, tokens_at, tokens_of_step, tokens_up_to, true, with_had, with_keys, ℕ, ◌&&◌, ◌++◌, ◌∙◌, ◌∷◌, ◌≡◌, ◌≤◌}
+use Rattle.proof_scanner.proofs.Common.{[], Account, account_past, act_of, ap, AreEntries, AreNumbered, arith, begins_free_line, BeginsButForKey, begun_by, begun_inside, Bool, chosen, Colon, colon_of, columns, entries_by, entries_past, Entry, entry_by, false, FlowLevel, had_by, has_break, HasHadHere, is_empty, is_renewed, is_separation, is_waiting, IsEntryOf, IsLine, IsOpenOutside, IsPiece, Key, key_end, KnowsKey, least_column, length, length-append, Line, line_by, line_past_separation, List, may_stand, MayChoose, nat_le, None, not, NotBefore, Option, outside_key, pair_position, pop, Position, position_after, previous_by, put, refl, ScannerState, seen, shown_position, Site, site_here, site_past, SoFar, Some, spelled, Step, subst, suc, sym, takes_pair, Tok, Token, tokens_at, tokens_of_step, tokens_up_to, true, with_had, with_keys, ℕ, ◌&&◌, ◌++◌, ◌∙◌, ◌∷◌, ◌≡◌, ◌≤◌}
 use Rattle.proof_scanner.proofs.Sound.Common.{among, ArrivesBy, but_for_key_past, completes_at, first_among, goes_past, had_as_it_was, IsDeep, keys_along, keys_first, line_taken, may_around, not_before_after, not_before_then, numbered_around, numbered_more, one_around, open_around, past_step, same_levels, some_rest, unbroken, unbroken_around, with_entries}
 use Rattle.proof_scanner.proofs.Known.Steps.{keyless, knows_inside}
-use Rattle.proof_scanner.proofs.Sound.Reads.{Reads, stands_so}
+use Rattle.proof_scanner.proofs.Sound.Reads.{Onward, Reads, stands_so}
 
 module _ (text : List ℕ) (t u : ScannerState) (f : FlowLevel) (fs : List FlowLevel) (k : Option Key) (ks : List (Option Key)) (e : Entry) (es : List Entry) (a : ArrivesBy text t (f ∷ fs) (k ∷ ks) (e ∷ es)) (piece next : List ℕ) (tok : Tok) (ls : List (Option Key)) (es2 : List Entry) where
   -- the sites at the piece and after it, and the account after it in which no open key is one
@@ -46,7 +46,7 @@ module _ (text : List ℕ) (t u : ScannerState) (f : FlowLevel) (fs : List FlowL
   abbrev piece_here : Position
   piece_here = position_after a.site.position a.separation (piece ++ next)
 
-  steps_there : (gs : List FlowLevel) (gap : List ℕ) → Reads t u (flow_past t.held.position) piece next gap → Enters gs gap → Steps piece_here → t.held.position ≡ piece_here → Stands text u
+  steps_there : (gs : List FlowLevel) (gap : List ℕ) → Reads t u (flow_past t.held.position) piece next gap → Enters gs gap → Steps piece_here → t.held.position ≡ piece_here → Onward text t.rest u
   steps_there gs gap r g n place = stands_so text t u piece next gap gs ls (account_then t.held.position) a.is_clean a.started a.going r (record {
     flow_is = g.flow_is;
     keys_are = g.keys_are;
@@ -93,7 +93,7 @@ module _ (text : List ℕ) (t u : ScannerState) (f : FlowLevel) (fs : List FlowL
       tokens c cs ws last h = grind arith
 
   -- What holds where the piece begins holds between two fetches after it.
-  pub steps_in_flow : (gs : List FlowLevel) (gap : List ℕ) → Reads t u (flow_past t.held.position) piece next gap → Enters gs gap → Steps t.held.position → Stands text u
+  pub steps_in_flow : (gs : List FlowLevel) (gap : List ℕ) → Reads t u (flow_past t.held.position) piece next gap → Enters gs gap → Steps t.held.position → Onward text t.rest u
   steps_in_flow gs gap r g n = grind (arith, steps_there)
 
 -- ---- a piece in flow with which its entry goes on, and before and after which no key of the entry waits: `?`, a colon without a key, and a line for the document. What holds where it begins holds between two fetches after it
@@ -157,7 +157,7 @@ module _ (text : List ℕ) (t u : ScannerState) (f g : FlowLevel) (fs : List Flo
     pub colons : (n : ℕ) (p : Position) (ws : List Step) (last : List ℕ) → let w : Step = keyless a.separation piece tok in colon_of (suc n) p (w ∷ ws) last ≡ colon_of (suc n) (past_step p w ws last) ws last
     pub tokens_are : u.held.tokens ≡ a.tokens ++ tokens_inside at_piece piece tok next e
 
-  pub goes_inside : (gap : List ℕ) → Reads t u (flow_past text t u f fs k ks e es a piece next tok (None ∷ ks) (e2 ∷ es) t.held.position) piece next gap → GoesInside gap → Stands text u
+  pub goes_inside : (gap : List ℕ) → Reads t u (flow_past text t u f fs k ks e es a piece next tok (None ∷ ks) (e2 ∷ es) t.held.position) piece next gap → GoesInside gap → Onward text t.rest u
   goes_inside gap r n =
       steps_in_flow text t u f fs k ks e es a piece next tok (None ∷ ks) (e2 ∷ es) (g ∷ fs) gap r (assumption (n, a, line_taken text t f fs k ks e es a, numbered_then a.tokens u.held.tokens k ks (tokens_inside at_piece piece tok next e) n.tokens_are a.are_numbered)) (record {
         is_piece = n.is_piece;

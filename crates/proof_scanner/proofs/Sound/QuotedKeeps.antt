@@ -1,11 +1,11 @@
 -- Quoted scalars: what holds between two fetches holds after them.
-use Rattle.proof_scanner.proofs.Common.{list_all, is_some, Arrives, Bool, Context, Entry, FlowLevel, HasNoTabs, Held, Holds, IsPiece, IsQuotedRead, Key, List, None, Ok, Option, Position, Quotes, ScannerState, Site, Some, Stands, Tok, [], adjacent_here, allow_key, and_parts, ap, append_assoc, append_cancel_right, are_single, arith, begins_with, between, both_hold, chained, check_after_quoted, columns, context, element_of, ends_before, false, fetch_flow_scalar, gives_node, go_on, has_break, has_no_nul, has_open_level, in_flow, inr, is_break, is_empty, is_nul, is_separation, least_column, lexed, no_nul_after, not, not-true, on_held, position_after, position_append, push, quote_of, quoted, quoted_lines_fit, quoted_may_end, quoted_scalar, quoted_style, read, read_as, refl, skip_to_next_token, subst, sym, true, unled, value_of, went, ℕ, ◌&&◌, ◌++◌, ◌-◌, ◌>>=◌, ◌||◌, ◌∙◌, ◌∷◌, ◌≡◌, ◌≤◌, eqb-true, nat_tests}
+use Rattle.proof_scanner.proofs.Common.{list_all, is_some, Arrives, Bool, Context, Entry, FlowLevel, HasNoTabs, Held, Holds, IsPiece, IsQuotedRead, Key, List, None, Ok, Option, Position, Quotes, ScannerState, Site, Some, Tok, [], adjacent_here, allow_key, and_parts, ap, append_assoc, append_cancel_right, are_single, arith, begins_with, between, both_hold, chained, check_after_quoted, columns, context, element_of, ends_before, false, fetch_flow_scalar, gives_node, go_on, has_break, has_no_nul, has_open_level, in_flow, inr, is_break, is_empty, is_nul, is_separation, least_column, lexed, no_nul_after, not, not-true, on_held, position_after, position_append, push, quote_of, quoted, quoted_lines_fit, quoted_may_end, quoted_scalar, quoted_style, read, read_as, refl, skip_to_next_token, subst, sym, true, unled, value_of, went, ℕ, ◌&&◌, ◌++◌, ◌-◌, ◌>>=◌, ◌||◌, ◌∙◌, ◌∷◌, ◌≡◌, ◌≤◌, eqb-true, nat_tests}
 use Rattle.defs_token.specs.Account.{Account as PieceAccount}
 use Rattle.model_scanner.specs.Machine as machine
 use Rattle.proof_lexers.specs.PlainEnds as plains
 use Rattle.proof_lexers.proofs.Quoted.ScanEnds.{scans_end}
 use Rattle.proof_scanner.proofs.Cut.Pieces.Quoted.{some_chars}
-use Rattle.proof_scanner.proofs.Sound.Steps.{IsToken, ArrivesBy, break_append, Checked, deep_for, ends_in_line, Exact, exact, IsDeep, IsRead, least_is, next_of, node_read, not_before_after, on_one_line, quoted_checked, Read, same_has_break, saved_is, saved_keys, separation_append, site_of, site_then, some_levels, unbroken}
+use Rattle.proof_scanner.proofs.Sound.Steps.{Onward, IsToken, ArrivesBy, break_append, Checked, deep_for, ends_in_line, Exact, exact, IsDeep, IsRead, least_is, next_of, node_read, not_before_after, on_one_line, quoted_checked, Read, same_has_break, saved_is, saved_keys, separation_append, site_of, site_then, some_levels, unbroken}
 use Rattle.proof_scanner.proofs.Cut.Scalars.{adjacent_quoted}
 use Rattle.proof_lexers.proofs.Bridges.{or_false}
 use Rattle.proof_scanner.proofs.Sound.Skips.{IsAt, IsLeast, Cleared, skip_clears}
@@ -163,15 +163,15 @@ module _ (text : List ℕ) (quotes : Quotes) (t : ScannerState) (a : Arrives tex
           one_line_of,
         )
 
-      node : Stands text (on_held (λ s. push t.held.position tok (adjacent_here s)) w)
-      node = subst (λ h. Stands text (on_held (λ s. push t.held.position tok (adjacent_here s)) (record { rest = w.rest; held = h }))) (sym held_is)
+      node : Onward text t.rest (on_held (λ s. push t.held.position tok (adjacent_here s)) w)
+      node = subst (λ h. Onward text t.rest (on_held (λ s. push t.held.position tok (adjacent_here s)) (record { rest = w.rest; held = h }))) (sym held_is)
           (node_read text t None d deep a is_read)
 
 -- `'` or `"`
-pub quoted_keeps : (text : List ℕ) (quotes : Quotes) (t : ScannerState) (more : List ℕ) → t.rest ≡ quote_of (are_single quotes) ∷ more → IsDeep t.held → Arrives text t → Holds (Stands text) (fetch_flow_scalar quotes t)
+pub quoted_keeps : (text : List ℕ) (quotes : Quotes) (t : ScannerState) (more : List ℕ) → t.rest ≡ quote_of (are_single quotes) ∷ more → IsDeep t.held → Arrives text t → Holds (Onward text t.rest) (fetch_flow_scalar quotes t)
 unfolding fetch_flow_scalar
 quoted_keeps text quotes t more e deep a =
-    subst (λ h. Holds (Stands text) (lexed (quoted (are_single quotes) (context (allow_key false h)) t.rest t.held.position) (allow_key false h) (λ x u.
+    subst (λ h. Holds (Onward text t.rest) (lexed (quoted (are_single quotes) (context (allow_key false h)) t.rest t.held.position) (allow_key false h) (λ x u.
     check_after_quoted t.held.position.line (on_held unled u) >>= λ v.
     skip_to_next_token v >>= λ w.
     Ok (on_held (λ s. push t.held.position (Tok.scalar (quoted_style quotes) x) (adjacent_here s)) w)))) (sym (saved_is t.held))

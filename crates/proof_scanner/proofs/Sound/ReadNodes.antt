@@ -1,10 +1,10 @@
 -- A part of a node was read where a piece begins, be it an opening bracket or no collection: what holds between two fetches holds after it.
-use Rattle.proof_scanner.proofs.Common.{Account, AreEntries, Arrives, Bool, Entry, FlowLevel, Indent, IsCarriedOn, IsLine, IsNear, IsOpenOutside, IsPairOf, IsPiece, Key, KnowsKey, Line, List, MayChoose, None, NotBefore, Option, Outside, Position, Previous, ScannerState, Site, SoFar, Some, Stands, Step, Tok, Token, [], act_of, ap, arith, begins_free_line, begun_by, chosen, ends_at, entries_by, entry_by, false, first_choice, first_entry, further_lines_stand, gives_node, has_break, inl, is_deep_enough, is_empty, is_in_column, is_renewed, is_separation, least_for, length, line_by, line_past, may_precede, may_stand, no_pair, not, outside_key, pop, position_after, previous_by, put, refl, seen, shown_position, site_at, site_here, site_in, site_past, spelled, subst, sym, taken, tokens_of_step, tokens_up_to, true, with_keys, ℕ, ◌&&◌, ◌++◌, ◌∙◌, ◌∷◌, ◌≡◌, ◌≤◌, must_be_key}
+use Rattle.proof_scanner.proofs.Common.{Account, AreEntries, Arrives, Bool, Entry, FlowLevel, Indent, IsCarriedOn, IsLine, IsNear, IsOpenOutside, IsPairOf, IsPiece, Key, KnowsKey, Line, List, MayChoose, None, NotBefore, Option, Outside, Position, Previous, ScannerState, Site, SoFar, Some, Step, Tok, Token, [], act_of, ap, arith, begins_free_line, begun_by, chosen, ends_at, entries_by, entry_by, false, first_choice, first_entry, further_lines_stand, gives_node, has_break, inl, is_deep_enough, is_empty, is_in_column, is_renewed, is_separation, least_for, length, line_by, line_past, may_precede, may_stand, no_pair, not, outside_key, pop, position_after, previous_by, put, refl, seen, shown_position, site_at, site_here, site_in, site_past, spelled, subst, sym, taken, tokens_of_step, tokens_up_to, true, with_keys, ℕ, ◌&&◌, ◌++◌, ◌∙◌, ◌∷◌, ◌≡◌, ◌≤◌, must_be_key}
 use Rattle.proof_scanner.proofs.Sound.Common.{after_piece, among, AreSame, by_sides, ArrivesBy, begun_numbered, bit_of, choice_before, choices_around, completes_at, entry_past_node, Goes, IsDeep, levels_by, line_after_node, line_taken, node_in_entry, node_outer_tokens, node_tokens, not_before_after, not_before_then, Outer, outer_completes, past_step, saved, saved_keys, some_rest, tokens_before, with_begun, with_entries, with_no_key}
 use Rattle.proof_scanner.proofs.Known.Steps.{knows_saved, is_of_node}
 use Rattle.proof_scanner.proofs.Sound.Outsides.{new_key, keys_saved, numbered_inside, must_be_here, numbered_past, unbroken_node, one_node, taken_node, may_node, line_node, same_node, open_node}
 use Rattle.proof_scanner.proofs.Sound.InFlow.{steps_in_flow}
-use Rattle.proof_scanner.proofs.Sound.Reads.{Reads, stands_so}
+use Rattle.proof_scanner.proofs.Sound.Reads.{Onward, Reads, stands_so}
 use Rattle.proof_scanner.specs.StandsInRow.{kind_of}
 
 -- What was read of a node: its token and piece, the separation after it, the text and the position after both, and what the scanner holds then: levels of indentation, its two flags, and where a colon may stand next.
@@ -193,7 +193,7 @@ module _ (text : List ℕ) (t : ScannerState) (level : Option FlowLevel) (k : Op
       key_line true e = let same : new_key t ≡ x = cc e in subst (λ z. t.held.position.line ≤ z.position.line) same (omega arith)
       key_line false e = (subst (λ o. IsNear o t.held.position) e (a.is_near refl)).0
 
-  node_outside : t.held.keys ≡ k ∷ [] → KnowsKey text (a.separation ++ t.rest) t.held.position k → Stands text (state_after t level d)
+  node_outside : t.held.keys ≡ k ∷ [] → KnowsKey text (a.separation ++ t.rest) t.held.position k → Onward text t.rest (state_after t level d)
   node_outside keys known =
       let same : outside_key (with_begun level []) keys_then ≡ key_then = (grind arith) in
       stands_so text t (state_after t level d) d.piece (next_of d) d.gap (levels_by level []) keys_then base_then a.is_clean a.started a.going r.reads (record {
@@ -234,7 +234,7 @@ module _ (text : List ℕ) (t : ScannerState) (level : Option FlowLevel) (f : Fl
   entries_then None i h = ((grind arith), grind arith, a.are_entries.2)
   entries_then (Some lv) i h = (record { kind_is = refl; pair_is = i.0; key_is = tt }, (inl refl, h), ((grind arith), grind arith, a.are_entries.2))
 
-  node_inside : t.held.keys ≡ k ∷ ks → Stands text (state_after t level d)
+  node_inside : t.held.keys ≡ k ∷ ks → Onward text t.rest (state_after t level d)
   node_inside keys =
       let n : Entry = entry_past_node t.held.key_allowed e in
       let place = here_is text t level (f ∷ fs) (k ∷ ks) (e ∷ es) a d r in
@@ -272,8 +272,8 @@ module _ (text : List ℕ) (t : ScannerState) (level : Option FlowLevel) (f : Fl
 
 -- Where a piece begins, a part of a node was read: what holds between two fetches holds after it.
 pub node_read : (text : List ℕ) (t : ScannerState) (level : Option FlowLevel) (d : Read) → IsDeep t.held → Arrives text t →
-    ((fs : List FlowLevel) (ks : List (Option Key)) (es : List Entry) → t.held.flow ≡ fs → (a : ArrivesBy text t fs ks es) → IsRead t level fs a.site a.line es a.separation d) → Stands text (state_after t level d)
+    ((fs : List FlowLevel) (ks : List (Option Key)) (es : List Entry) → t.held.flow ≡ fs → (a : ArrivesBy text t fs ks es) → IsRead t level fs a.site a.line es a.separation d) → Onward text t.rest (state_after t level d)
 node_read text t level d deep arrives known =
-    by_sides text t (λ u. ((fs : List FlowLevel) (ks : List (Option Key)) (es : List Entry) → u.held.flow ≡ fs → (a : ArrivesBy text u fs ks es) → IsRead u level fs a.site a.line es a.separation d) → Stands text (state_after u level d)) arrives
+    by_sides text t (λ u. ((fs : List FlowLevel) (ks : List (Option Key)) (es : List Entry) → u.held.flow ≡ fs → (a : ArrivesBy text u fs ks es) → IsRead u level fs a.site a.line es a.separation d) → Onward text u.rest (state_after u level d)) arrives
     (λ k a n known. node_outside text _ level k a d refl deep (known [] (k ∷ []) [] refl a) refl n)
     (λ f fs k ks e es a known. node_inside text _ level f fs k ks e es a d refl (known (f ∷ fs) (k ∷ ks) (e ∷ es) refl a) refl) known
