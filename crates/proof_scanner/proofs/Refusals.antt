@@ -1,5 +1,6 @@
 pub mod AfterQuoted
 pub mod Blocks
+pub mod Common
 pub mod Fetches
 pub mod Indicators
 pub mod KeysThatWait

@@ -1,6 +1,5 @@
 -- What is known of keys that wait, after a step: from what was known before it.
-use Rattle.proof_scanner.proofs.Common.{[], Account, Act, act_of, ap, arith, Begins, begins_free_line, Bool, Entry, eqb-true, false, FlowLevel, free, gives_block_scalar, gives_node, is_empty, is_far, is_in_column, is_in_flow, IsLineHere, IsWritten, Key, KnowsKey, LikeLine, Line, line_by, line_past, line_past_separation, List, must_be_key, nat_tests, None, not, not-true, Option, Outside, outside_key, Position, position_after, refl, same_flow, ScannerState, Site, site_here, Some, Step, subst, sym, taken, Tok, true, up_to_nul, waits, ℕ, ◌++◌, ◌+◌, ◌∙◌, ◌∷◌, ◌≡◌, ◌≤◌, first_account}
-use Rattle.proof_scanner.specs.KnownKeys.{IsAt}
+use Rattle.proof_scanner.proofs.Common.{[], Account, Act, act_of, ap, arith, Begins, begins_free_line, Bool, Entry, eqb-true, false, FlowLevel, free, gives_block_scalar, gives_node, is_empty, is_far, is_in_column, is_in_flow, IsLineHere, IsWritten, Key, KnowsKey, LikeLine, Line, line_by, line_past, line_past_separation, List, must_be_key, nat_tests, None, not, not-true, Option, Outside, outside_key, Position, position_after, refl, same_flow, ScannerState, Site, site_here, Some, Step, subst, sym, taken, Tok, true, up_to_nul, waits, ℕ, ◌++◌, ◌+◌, ◌∙◌, ◌∷◌, ◌≡◌, ◌≤◌, first_account, IsAt}
 use Rattle.proof_scanner.proofs.Sound.Common.{ArrivesBy, index_after, IsDeep, not_before_after, not_before_same, saved, some_rest, with_entries, begins_at_start}
 use Rattle.proof_scanner.proofs.Known.Rows.{begins_whole, Came, came_by, goes_past, way_inside, way_outside}
 use Rattle.proof_scanner.proofs.Known.Made.{begun, inside, kept, Made, made, outside, same_of, still_there, waited, Waits, waits_past}

@@ -3,9 +3,7 @@ use Rattle.proof_scanner.proofs.Common.{[], ap, append_assoc, arith, At, begins_
 use Rattle.proof_lexers.specs.Ends as ends
 use Rattle.yaml_chars.specs.Class as model_classes
 use Rattle.proof_lexers.specs.PlainEnds as plains
-use Rattle.proof_scanner.proofs.Cut.Passes.{Spaced, spaces_skipped}
-use Rattle.proof_scanner.proofs.Sound.Passed.{same_has_break}
-use Rattle.proof_scanner.proofs.Sound.QuotedEnds.{same_line, blanks_alone, after_blanks, not_at_end}
+use Rattle.proof_scanner.proofs.Refusals.Common.{Spaced, after_blanks, blanks_alone, not_at_end, same_has_break, same_line, spaces_skipped}
 
 -- a step of the model that is not refused, and what it leaves
 pub record Left (P : ScannerState → Type 0) (r : Result ScannerState Fault) : Type 0 where

@@ -4,20 +4,13 @@ use Rattle.yaml_chars.specs.Class.{is_alpha}
 use Rattle.model_scanner.specs.Directive.{directive}
 use Rattle.model_scanner.specs.State.{after}
 use Rattle.model_scanner.specs.Block.{value_of}
-use Rattle.proof_scanner.proofs.Sound.Stales.{no_entries}
+use Rattle.proof_scanner.proofs.Refusals.Common.{Spaced, begins_here, gap_here, no_entries, no_tab_in, not_at_end, past_white, past_white_space, same_has_break, saved_is, saved_keys, spaced, spaces_skipped, value_is, white_cut, white_exactly, white_first, white_of, white_or_missed}
 use Rattle.proof_scanner.proofs.Sound.DocumentLines.{line_begun}
-use Rattle.proof_scanner.proofs.Cut.Dispatch.{gap_here, value_is}
 use Rattle.proof_scanner.proofs.Cut.Blocks.{key_removed}
-use Rattle.proof_scanner.proofs.Cut.Passes.{Spaced, spaced, spaces_skipped}
-use Rattle.proof_scanner.proofs.Sound.QuotedEnds.{not_at_end}
 use Rattle.proof_scanner.proofs.Sound.Blanks.{same_in_line, line_rest_in_line, line_rest_cut, line_rest_fills, found_in, spaced_parted}
-use Rattle.proof_scanner.proofs.Sound.Passed.{same_has_break}
-use Rattle.proof_scanner.proofs.Cut.Saved.{saved_keys, saved_is}
 use Rattle.proof_scanner.proofs.Refusals.Places.{Faults, fault, goes, read, in_turn, tried, checked, either, kept, IsRowless, Said, IsWhy, LiesDeep, rowless_told, account_by, place, many_levels, IsAllowed, stuck, in_flow_is, looked_at, none_begins, followed_stuck, white_goes, space_told, spaces_told, no_comment, no_comment_left, solid_past}
 use Rattle.proof_scanner.proofs.Refusals.KeysThatWait.{not_required, line_rowless, closing_rowless, none_waits}
-use Rattle.proof_scanner.proofs.Sound.WhiteSpaces.{white_of, past_white, white_cut, past_white_space, white_exactly, white_first, no_tab_in, white_or_missed}
 use Rattle.proof_scanner.proofs.Sound.ColonSpaces.{colon_spaced}
-use Rattle.proof_scanner.proofs.Cut.Fetched.{begins_here}
 use Rattle.proof_scanner.proofs.Sound.FlowMarks.{flow_over, entry_over}
 use Rattle.proof_scanner.proofs.Refusals.PiecesRefused.{among}
 use Rattle.defs_text.specs.Classes as classes

@@ -3,12 +3,8 @@ use Rattle.proof_scanner.proofs.Common.{[], after_plain, allow_key, ap, arith, A
 use Rattle.defs_token.specs.Plain.{inside}
 use Rattle.model_scanner.specs.Plain.{plain}
 use Rattle.proof_lexers.specs.PlainEnds as plains
-use Rattle.proof_scanner.proofs.Cut.Nodes.{IsDeep, less_or}
-use Rattle.proof_scanner.proofs.Cut.Saved.{saved_keys, saved_is}
-use Rattle.proof_scanner.proofs.Sound.WithoutOpen.{AreClosed, without_is}
+use Rattle.proof_scanner.proofs.Refusals.Common.{AreClosed, Faults, IsDeep, IsWhy, LiesDeep, Said, goes, less_or, looked_at, read, saved_is, saved_keys, solid_text, stuck_by, without_is}
 use Rattle.proof_scanner.specs.NoPiece as none
-use Rattle.proof_scanner.proofs.Refusals.Places.{Faults, goes, read, Said, IsWhy, LiesDeep, looked_at, stuck_by}
-use Rattle.proof_scanner.proofs.Sound.PlainKeeps.{solid_text}
 
 -- ---- texts
 

@@ -1,14 +1,8 @@
 -- Where the scanner's model refuses a text with a fault of a kind that is told, the text is stuck.
-use Rattle.proof_scanner.proofs.Common.{OutOfMemory, [], ap, Arrives, At, begins, cleared, drop_stale, false, Fares, Fault, fetch, fetch_here, fetch_next, fetch_stream_end, fetch_stream_start, has_no_nul, has_required, held_of, here, Holds, in_flow, inl, inr, is_empty, is_far, is_overdue, IsRefused, Key, List, list_any, map, next_line, not-false, Ok, on_held, Option, outside_key, over, peek, Position, Reaches, refl, RefusedTextsAreStuck, ScannerState, Some, stale, Stands, start, still, sym, there, top_key, true, unroll_indent, ℕ, ◌+◌, ◌==◌, ◌∙◌, ◌∷◌, ◌≡◌, ◌⊎◌, arith, eqb-true, nat_tests, Account, Bool, Fails, fails, IsStuck, key_waits, AnchorIndentation, KeyExpected, KeyWithoutColon}
+use Rattle.proof_scanner.proofs.Common.{OutOfMemory, [], ap, Arrives, At, begins, cleared, drop_stale, false, Fares, Fault, fetch, fetch_here, fetch_next, fetch_stream_end, fetch_stream_start, has_no_nul, has_required, held_of, here, Holds, in_flow, inl, inr, is_empty, is_far, is_overdue, IsRefused, Key, List, list_any, map, next_line, not-false, Ok, on_held, Option, outside_key, over, peek, Position, Reaches, refl, RefusedTextsAreStuck, ScannerState, Some, stale, Stands, start, still, sym, there, top_key, true, unroll_indent, ℕ, ◌+◌, ◌==◌, ◌∙◌, ◌∷◌, ◌≡◌, ◌⊎◌, arith, eqb-true, nat_tests, Account, Bool, Fails, fails, IsStuck, key_waits, AnchorIndentation, KeyExpected, KeyWithoutColon, goes}
 use Rattle.model_scanner.specs.Keys.{with_keys}
-use Rattle.proof_scanner.proofs.Cut.Fetched.{goes_on_here}
-use Rattle.proof_scanner.specs.StandsInRow.{goes}
-use Rattle.proof_scanner.proofs.Sound.Fetches.{content_kept, fetch_keeps}
-use Rattle.proof_scanner.proofs.Sound.Runs.{reached, first_fetch}
-use Rattle.proof_scanner.proofs.Sound.Stales.{no_entries, one_key}
-use Rattle.proof_scanner.proofs.Sound.ToToken.{passed_stands}
+use Rattle.proof_scanner.proofs.Refusals.Common.{Faults, Said, Told, content_kept, either, fault_is, fetch_keeps, first_fetch, goes_on_here, in_turn, kind, no_entries, one_key, passed_stands, reached, rowless_told, tried}
 use Rattle.proof_scanner.specs.Never.{AnchorIndentationNeverComes}
-use Rattle.proof_scanner.proofs.Refusals.Places.{Faults, fault_is, in_turn, tried, either, Told, Said, kind, rowless_told}
 use Rattle.proof_scanner.proofs.Refusals.Fetches.{here_told}
 use Rattle.proof_scanner.proofs.Refusals.Passing.{HasNear, fetch_near, passing_told}
 use Rattle.proof_scanner.proofs.Refusals.KeysThatWait.{stale_rowless}

@@ -1,11 +1,10 @@
 -- A part of a node was read where a piece begins, be it an opening bracket or no collection: what holds between two fetches holds after it.
-use Rattle.proof_scanner.proofs.Common.{Account, AreEntries, Arrives, Bool, Entry, FlowLevel, Indent, IsCarriedOn, IsLine, IsNear, IsOpenOutside, IsPairOf, IsPiece, Key, KnowsKey, Line, List, MayChoose, None, NotBefore, Option, Outside, Position, Previous, ScannerState, Site, SoFar, Some, Step, Tok, Token, [], act_of, ap, arith, begins_free_line, begun_by, chosen, ends_at, entries_by, entry_by, false, first_choice, first_entry, further_lines_stand, gives_node, has_break, inl, is_deep_enough, is_empty, is_in_column, is_renewed, is_separation, least_for, length, line_by, line_past, may_precede, may_stand, no_pair, not, outside_key, pop, position_after, previous_by, put, refl, seen, shown_position, site_at, site_here, site_in, site_past, spelled, subst, sym, taken, tokens_of_step, tokens_up_to, true, with_keys, ℕ, ◌&&◌, ◌++◌, ◌∙◌, ◌∷◌, ◌≡◌, ◌≤◌, must_be_key}
+use Rattle.proof_scanner.proofs.Common.{Account, AreEntries, Arrives, Bool, Entry, FlowLevel, Indent, IsCarriedOn, IsLine, IsNear, IsOpenOutside, IsPairOf, IsPiece, Key, KnowsKey, Line, List, MayChoose, None, NotBefore, Option, Outside, Position, Previous, ScannerState, Site, SoFar, Some, Step, Tok, Token, [], act_of, ap, arith, begins_free_line, begun_by, chosen, ends_at, entries_by, entry_by, false, first_choice, first_entry, further_lines_stand, gives_node, has_break, inl, is_deep_enough, is_empty, is_in_column, is_renewed, is_separation, least_for, length, line_by, line_past, may_precede, may_stand, no_pair, not, outside_key, pop, position_after, previous_by, put, refl, seen, shown_position, site_at, site_here, site_in, site_past, spelled, subst, sym, taken, tokens_of_step, tokens_up_to, true, with_keys, ℕ, ◌&&◌, ◌++◌, ◌∙◌, ◌∷◌, ◌≡◌, ◌≤◌, must_be_key, kind_of}
 use Rattle.proof_scanner.proofs.Sound.Common.{after_piece, among, AreSame, by_sides, ArrivesBy, begun_numbered, bit_of, choice_before, choices_around, completes_at, entry_past_node, Goes, IsDeep, levels_by, line_after_node, line_taken, node_in_entry, node_outer_tokens, node_tokens, not_before_after, not_before_then, Outer, outer_completes, past_step, saved, saved_keys, some_rest, tokens_before, with_begun, with_entries, with_no_key}
 use Rattle.proof_scanner.proofs.Known.Steps.{knows_saved, is_of_node}
 use Rattle.proof_scanner.proofs.Sound.Outsides.{new_key, keys_saved, numbered_inside, must_be_here, numbered_past, unbroken_node, one_node, taken_node, may_node, line_node, same_node, open_node}
 use Rattle.proof_scanner.proofs.Sound.InFlow.{steps_in_flow}
 use Rattle.proof_scanner.proofs.Sound.Reads.{Onward, Reads, stands_so}
-use Rattle.proof_scanner.specs.StandsInRow.{kind_of}
 
 -- What was read of a node: its token and piece, the separation after it, the text and the position after both, and what the scanner holds then: levels of indentation, its two flags, and where a colon may stand next.
 pub record Read : Type 0 where

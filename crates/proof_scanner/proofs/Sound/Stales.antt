@@ -1,7 +1,6 @@
 -- Keys that are too far back are dropped: what holds between two fetches still holds, without them.
-use Rattle.proof_scanner.proofs.Common.{Account, AreEntries, Bool, Entry, FlowLevel, Held, Holds, IsCarriedOn, IsCutUpTo, IsNear, Key, List, MayChoose, None, Option, ScannerState, SoFar, Some, Stands, Step, Token, [], ap, arith, chosen, drop_stale, either, false, have_no_key, in_flow, is_empty, is_far, is_waiting, length, not-false, refl, refused, stale, subst, suc, tokens_from, tokens_up_to, true, went, ℕ, ◌++◌, ◌∙◌, ◌∷◌, ◌≡◌}
+use Rattle.proof_scanner.proofs.Common.{Account, AreEntries, Bool, Entry, FlowLevel, Held, Holds, IsCarriedOn, IsCutUpTo, IsNear, Key, List, MayChoose, None, Option, ScannerState, SoFar, Some, Stands, Step, Token, [], ap, arith, chosen, drop_stale, either, false, have_no_key, in_flow, is_empty, is_far, is_waiting, length, not-false, refl, refused, stale, subst, suc, tokens_from, tokens_up_to, true, went, ℕ, ◌++◌, ◌∙◌, ◌∷◌, ◌≡◌, StandsWith}
 use Rattle.proof_scanner.proofs.Known.Steps.{known_far}
-use Rattle.proof_scanner.specs.StandsInRow.{StandsWith}
 use Rattle.proof_scanner.proofs.Sound.Common.{with_entries, may_be_no_key, none_chosen, none_put, stands_by}
 
 -- rows are completed alike by tokens that are alike
