@@ -1,10 +1,8 @@
 -- The block collections that end where a piece begins: the levels that go on are those of the row, and each end has its token.
 use Rattle.proof_scanner.proofs.Common.{[], ap, append-nil, append_assoc, AreCollections, AreLevels, arith, Arrives, before_by, before_past, begins_free_line, begins_separation, begins_token, block_end, blocks, Bool, chained, columns, end_level, ends_at, ends_here, false, Fault, free, has_open_level, Held, Holds, if◌then◌else◌, Indent, is_adjacent, is_at_comment_or_end, is_deeper, is_empty, is_indented_by_spaces, IsLine, IsLineHere, IsNear, IsTopLevel, Key, length, Levels, Line, line_past_separation, List, nat_lt, not, not-false, not_ended, on_held, Option, outside_key, Position, put, refl, replicate, Result, ScannerState, site_here, skip_to_next_token, Some, stale, Stands, subst, suc, sym, taken, Token, tried, true, try_held, unroll_indent, unrolled, with_levels, ℕ, ◌&&◌, ◌++◌, ◌+◌, ◌-◌, ◌==◌, ◌>>=◌, ◌∙◌, ◌∷◌, ◌≡◌, ◌≤◌, both_hold, length-append, ArrivesAmong}
-use Rattle.proof_scanner.proofs.Sound.Common.{shorter, unrolled_in_flow, unrolled_outside}
-use Rattle.proof_scanner.proofs.Sound.Stales.{Nearer, stale_stands}
+use Rattle.proof_scanner.proofs.Sound.Steps.{Nearer, exact, shorter, stale_stands, unrolled_in_flow, unrolled_outside}
 use Rattle.proof_scanner.proofs.Sound.ToToken.{passed_stands}
 use Rattle.proof_row.proofs.Inserted.{before_again}
-use Rattle.proof_scanner.proofs.Sound.Passed.{exact}
 
 -- what goes on, of levels whose columns are these, and the tokens with the ends
 pub record Ended (p : Position) (cols : List ℕ) (awaits : Bool) (ts : List Token) (u : Levels) : Type 0 where

@@ -3,11 +3,10 @@ use Rattle.proof_scanner.proofs.Common.{Act, Arrives, Block, BlockStyle, Bool, H
 use Rattle.model_scanner.specs.declared.kind.BlockStyle as kind
 use Rattle.model_scanner.specs.declared.kind.BlockStyle.TheVariants.{Literal, Folded}
 use Rattle.defs_token.specs.Account as pieces
-use Rattle.proof_scanner.proofs.Sound.Steps.{Onward, adjacent_kept, after_piece, AreClosed, by_sides, ArrivesBy, is_of_node, IsDeep, knows_saved, last_whole, no_waiting, not_before_after, not_before_same, not_before_then, outer_completes, outer_then, outer_tokens, Reads, saved, saved_is, saved_keys, some_rest, stands_so, tokens_then, weaker, with_entries, without_is}
+use Rattle.proof_scanner.proofs.Sound.Steps.{AreClosed, ArrivesBy, IsDeep, Onward, Reads, adjacent_kept, after_piece, by_sides, is_of_node, knows_saved, last_whole, no_waiting, none_completes, not_before_after, not_before_same, not_before_then, outer_completes, outer_then, outer_tokens, saved, saved_is, saved_keys, some_rest, stands_so, tokens_then, weaker, with_entries, without_is}
 use Rattle.proof_scanner.proofs.Cut.Pieces.Blocks.{spaces_of, spaces_cut, spaces_fill, spaces_position, some_piece, token_of, IsBelow, below}
 use Rattle.proof_scanner.proofs.Sound.BlockEnds.{IsLeast, BlockAs, block_as, ends_at_margin}
 use Rattle.proof_scanner.proofs.Sound.Outsides.{must_be_here, numbered_past, open_node, new_key, keys_saved}
-use Rattle.proof_scanner.proofs.Sound.Stales.{none_completes}
 use Rattle.proof_scanner.proofs.Sound.PlainKeeps.{same_innermost}
 
 -- ---- spaces

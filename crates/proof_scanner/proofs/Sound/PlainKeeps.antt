@@ -4,10 +4,9 @@ use Rattle.defs_token.specs.Account.{Account as PieceAccount, is_in_flow}
 use Rattle.model_scanner.specs.Machine as machine
 use Rattle.model_scanner.specs.Plain.{plain}
 use Rattle.proof_lexers.specs.PlainEnds as plains
-use Rattle.proof_scanner.proofs.Sound.Steps.{Onward, adjacent_kept, allowed_past, AreClosed, ArrivesBy, ends_in_line, gap_is_separation, IsDeep, IsRead, less_or, next_of, node_read, not_before_after, on_one_line, Read, same_flow, same_has_break, saved_is, saved_keys, site_of, site_then, state_after, white_is_no_hash, with_entries, without_is}
+use Rattle.proof_scanner.proofs.Sound.Steps.{AreClosed, ArrivesBy, IsDeep, IsRead, Onward, Read, adjacent_kept, allowed_past, begins_as_read, ends_in_line, gap_is_separation, less_or, next_of, node_read, not_before_after, on_one_line, same_flow, same_has_break, saved_is, saved_keys, site_of, site_then, state_after, white_is_no_hash, with_entries, without_is}
 use Rattle.proof_scanner.proofs.Cut.Pieces.Inserted.{no_break_on_line}
 use Rattle.proof_scanner.proofs.Sound.PlainLines.{PlainFits, plain_fits}
-use Rattle.proof_scanner.proofs.Cut.Pieces.Plains.{begins_as_read}
 
 -- ---- what was read
 

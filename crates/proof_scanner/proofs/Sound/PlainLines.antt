@@ -4,8 +4,7 @@ use Rattle.defs_text.specs.Classes as classes
 use Rattle.yaml_chars.specs.Class.{is_break, is_blank}
 use Rattle.yaml_chars.specs.Class as model_classes
 use Rattle.model_scanner.specs.Plain.{Mode, inside, between, goes_on, plain}
-use Rattle.proof_scanner.proofs.Sound.Common.{blank_more, last_first, last_whole, none_before, take_none}
-use Rattle.proof_scanner.proofs.Cut.Pieces.Plains.{same_flow_start}
+use Rattle.proof_scanner.proofs.Sound.Steps.{blank_more, last_first, last_whole, none_before, same_flow_start, take_none}
 
 -- ---- what a text says of TABs, character by character
 

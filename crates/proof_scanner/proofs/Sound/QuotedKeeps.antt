@@ -5,10 +5,9 @@ use Rattle.model_scanner.specs.Machine as machine
 use Rattle.proof_lexers.specs.PlainEnds as plains
 use Rattle.proof_lexers.proofs.Quoted.ScanEnds.{scans_end}
 use Rattle.proof_scanner.proofs.Cut.Pieces.Quoted.{some_chars}
-use Rattle.proof_scanner.proofs.Sound.Steps.{Onward, IsToken, ArrivesBy, break_append, Checked, deep_for, ends_in_line, Exact, exact, IsDeep, IsRead, least_is, next_of, node_read, not_before_after, on_one_line, quoted_checked, Read, same_has_break, saved_is, saved_keys, separation_append, site_of, site_then, some_levels, unbroken}
+use Rattle.proof_scanner.proofs.Sound.Steps.{ArrivesBy, Checked, Cleared, Exact, IsAt, IsDeep, IsLeast, IsRead, IsToken, Onward, Read, break_append, deep_for, ends_in_line, exact, least_is, next_of, node_read, not_before_after, on_one_line, quoted_checked, same_has_break, saved_is, saved_keys, separation_append, site_of, site_then, skip_clears, some_levels, unbroken}
 use Rattle.proof_scanner.proofs.Cut.Scalars.{adjacent_quoted}
 use Rattle.proof_lexers.proofs.Bridges.{or_false}
-use Rattle.proof_scanner.proofs.Sound.Skips.{IsAt, IsLeast, Cleared, skip_clears}
 use Rattle.proof_scanner.proofs.Sound.QuotedBreaks.{same_limit}
 use Rattle.proof_scanner.proofs.Refusals.QuotedLines.{body_read}
 
