@@ -73,7 +73,7 @@ line_told text s rowless = kept closed_key (λ e. refl) (λ x. goes) (remove_tol
 -- ---- positions
 
 line_stays : (t : ScannerState) → Holds (λ u. (u.rest ≡ t.rest) × (u.held.position ≡ t.held.position)) (try_held begin_line t)
-line_stays t = holds.tried t (begin_line t.held) (line_begun t.held (unroll_indent 0 t.held) refl) (λ s k. (refl, ap (λ h. h.position) k.1 ∙ (unrolled_stays 0 t.held).0))
+line_stays t = holds.tried t (begin_line t.held) (line_begun t.held (unroll_indent 0 t.held) refl) (λ s k. (refl, ap (λ h. h.position) k.0 ∙ (unrolled_stays 0 t.held).0))
 
 module _ (text : List ℕ) (t : ScannerState) (a : Arrives text t) (some : is_empty t.rest ≡ false) (lies : LiesDeep t) where
   -- ---- lines for the document
@@ -400,8 +400,8 @@ module _ (text : List ℕ) (t : ScannerState) (a : Arrives text t) (some : is_em
   unfolding fetch_flow_collection_end end_flow
   closing_told kind c more e is =
       let closes : (c : ℕ) → (c ≡ 93) ⊎ (c ≡ 125) → (none.is_flow_indicator c ≡ true) × (opens c ≡ false) = λ c a. grind arith in
-      in_turn (tried t (kept ended_flow (λ e. refl) (λ x. goes) (remove_told text t.held (closing_rowless text t a some c more e (inr is))))) (λ u i. in_turn (indicator_passed c more e (closes c is).0 (ap (λ b. b && nat_le 255 (length t.held.flow)) (closes c is).1) u (is_here end_flow u (holds.weakened (λ s k. ap (λ h. h.position) k.1) (flow_over t.held)) i)) (λ v j. goes))
+      in_turn (tried t (kept ended_flow (λ e. refl) (λ x. goes) (remove_told text t.held (closing_rowless text t a some c more e (inr is))))) (λ u i. in_turn (indicator_passed c more e (closes c is).0 (ap (λ b. b && nat_le 255 (length t.held.flow)) (closes c is).1) u (is_here end_flow u (holds.weakened (λ s k. ap (λ h. h.position) k.0) (flow_over t.held)) i)) (λ v j. goes))
 
   pub comma_told : (more : List ℕ) → t.rest ≡ 44 ∷ more → Faults (Said text) (fetch_flow_entry t)
   unfolding fetch_flow_entry end_entry
-  comma_told more e = in_turn (tried t (kept next_entry (λ e. refl) (λ x. goes) (remove_told text t.held (closing_rowless text t a some 44 more e (inl refl))))) (λ u i. in_turn (indicator_passed 44 more e refl refl u (is_here end_entry u (holds.weakened (λ s k. ap (λ h. h.position) k.1) (entry_over t.held)) i)) (λ v j. goes))
+  comma_told more e = in_turn (tried t (kept next_entry (λ e. refl) (λ x. goes) (remove_told text t.held (closing_rowless text t a some 44 more e (inl refl))))) (λ u i. in_turn (indicator_passed 44 more e refl refl u (is_here end_entry u (holds.weakened (λ s k. ap (λ h. h.position) k.0) (entry_over t.held)) i)) (λ v j. goes))

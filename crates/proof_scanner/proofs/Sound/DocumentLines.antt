@@ -1,6 +1,6 @@
 -- Document markers and directives: what holds where they begin holds between two fetches after them.
 use Rattle.proof_scanner.proofs.Common.{[], act_of, and_false, and_parts, ap, append-nil, append_assoc, AreLevels, arith, Arrives, At, awaits_past, before_by, begin_line, begins_free_line, begins_line, begins_with, begun_by, begun_inside, blanks_and_comment, Bool, chained, check_document_end, closed_key, columns, Directive, directive_of, directives_end, either, entries_past, Entry, eqb-true, Err, false, fetch_directive, fetch_document_end, fetch_document_marker, first_break, FlowLevel, further_lines_stand, gives_marker, has_break, has_no_break, has_no_nul, has_open_level, HasNoTabs, Held, Holds, if◌then◌else◌, in_flow, inr, is_at_gap, is_break, is_breakz, is_closed, is_empty, is_in_column, is_indented_by_spaces, is_renewed, is_required, is_separation, IsDirectiveRead, IsLeading, IsPiece, IsReadOn, Key, least_for, length, Levels, line_is_done, List, may_precede, no_nul_after, None, Ok, on_held, Option, or_true, other, pair_position, past, past_blanks_and_comment, past_line_rest, peek, Position, position_after, position_append, previous_by, push, put, read, read_as, refl, refused, remove_implicit_key, replicate-append-replicate, ScannerState, seen, settled, shown_position, Site, site_in, skip_indicator, Some, subst, sym, taken, takes_pair, Tok, Token, token_of, top_key, tried, true, unroll_indent, went, whole_directive, with_top, ℕ, ◌++◌, ◌∙◌, ◌∷◌, ◌≡◌, ◌≤◌}
-use Rattle.proof_scanner.proofs.Sound.Steps.{Onward, adjacent_kept, all_levels, by_sides, ArrivesBy, at_end_of, begins_key, ends_of, goes_inside, is_done, key_gone, line_rest_cut, line_rest_fills, line_rest_in_line, none_indents, past_rest, read_outside, Reads, rest_skipped, same_in_line, shorter, some_rest, three_past, tokens_before, tokens_then, unrolled_in_flow, with_entries, same_has_break}
+use Rattle.proof_scanner.proofs.Sound.Steps.{exactly, held_exactly, Onward, adjacent_kept, all_levels, by_sides, ArrivesBy, at_end_of, begins_key, ends_of, goes_inside, is_done, key_gone, line_rest_cut, line_rest_fills, line_rest_in_line, none_indents, past_rest, read_outside, Reads, rest_skipped, same_in_line, shorter, some_rest, three_past, tokens_before, tokens_then, unrolled_in_flow, with_entries, same_has_break}
 use Rattle.defs_token.specs.Account.{Account as PieceAccount}
 use Rattle.defs_token.specs.Key.{line_past as line_of_piece}
 use Rattle.model_scanner.specs.Directive.{directive}
@@ -68,9 +68,9 @@ line_reads t d h y r here before columns_are awaits levels was same =
 abbrev pub begun_from : Held → Held
 begun_from u = record u { keys = with_top None u.keys; key_allowed = false }
 
-pub line_begun : (s u : Held) → unroll_indent 0 s ≡ u → Holds (λ v. (is_required (top_key u.keys) ≡ false) × (v ≡ begun_from u)) (begin_line s)
+pub line_begun : (s u : Held) → unroll_indent 0 s ≡ u → Holds (λ v. (v ≡ begun_from u) × (is_required (top_key u.keys) ≡ false)) (begin_line s)
 unfolding begin_line remove_implicit_key
-line_begun s u e = subst (λ (h : Held). Holds (λ v. (is_required (top_key u.keys) ≡ false) × (v ≡ begun_from u)) (closed_key (if is_required (top_key h.keys) then Err (At problem.KeyExpected h.position) else Ok (record h { keys = with_top None h.keys })))) (sym e) (grind (arith, refused, went))
+line_begun s u e = subst (λ (h : Held). Holds (λ v. (v ≡ begun_from u) × (is_required (top_key u.keys) ≡ false)) (closed_key (if is_required (top_key h.keys) then Err (At problem.KeyExpected h.position) else Ok (record h { keys = with_top None h.keys })))) (sym e) (grind (arith, refused, went))
 
 -- all levels have ended
 abbrev pub all_ended : Held → Held
@@ -169,10 +169,9 @@ pub document_start_keeps : (text more : List ℕ) (t : ScannerState) → Arrives
 unfolding fetch_document_marker is_break
 document_start_keeps text more t a e gap col =
     let b : Begins text t = begins text t (ap is_empty e) a in
-    chained {P = λ u. (is_required (top_key b.held.keys) ≡ false) × (u ≡ record t { held = begun_from b.held })} (tried t (begin_line t.held) (line_begun t.held b.held b.rolled) (λ h d. (d.0, ap (λ y. record t { held = y }) d.1))) (λ u d.
-    went (subst (λ y. Onward text t.rest (on_held (push t.held.position Tok.document_start) (skip_indicator (skip_indicator (skip_indicator y))))) (sym d.1)
+    exactly _ (held_exactly t (line_begun t.held b.held b.rolled)) (λ optional. went
     (subst (λ r. Onward text t.rest (on_held (push t.held.position Tok.document_start) (skip_indicator (skip_indicator (skip_indicator (record { rest = r; held = begun_from b.held })))))) (sym e)
-    (b.stands (start_read more b.held.position) (assumption (start_token, e, gap, col, ap (λ q. past (past (past q))) b.same_position ∙ three_past t.held.position 45 more refl)) d.0))))
+    (b.stands (start_read more b.held.position) (assumption (start_token, e, gap, col, ap (λ q. past (past (past q))) b.same_position ∙ three_past t.held.position 45 more refl)) optional)))
 
 -- ---- `...`
 
@@ -196,15 +195,9 @@ unfolding fetch_document_end fetch_document_marker check_document_end
 document_end_keeps text more t a e gap col =
     let b : Begins text t = begins text t (ap is_empty e) a in
     let clean : has_no_nul more ≡ true = no_nul_after (46 ∷ 46 ∷ 46 ∷ []) more (subst (λ l. has_no_nul l ≡ true) e a.is_clean) in
-    chained {P = λ u. (is_required (top_key b.held.keys) ≡ false) × (u ≡ marked t b.held (46 ∷ 46 ∷ 46 ∷ more))}
-    (chained {P = λ u. (is_required (top_key b.held.keys) ≡ false) × (u ≡ record t { held = begun_from b.held })} (tried t (begin_line t.held) (line_begun t.held b.held b.rolled) (λ h d. (d.0, ap (λ y. record t { held = y }) d.1))) (λ u d.
-    went (d.0, ap (λ y. on_held (push t.held.position Tok.document_end) (skip_indicator (skip_indicator (skip_indicator y)))) d.1 ∙ ap (marked t b.held) e)))
-    (λ u d. chained (rest_skipped u) (λ v s. either (is_breakz (peek v.rest)) (λ yes. went (
-    let is : v ≡ past_rest (marked t b.held (46 ∷ 46 ∷ 46 ∷ more)) = s.0 ∙ ap past_rest d.1 in
-    let ends : is_breakz (peek (past_blanks_and_comment more)) ≡ true = ap (λ y. is_breakz (peek y.rest)) (sym is) ∙ yes in
-    let hash : begins_with 35 more ≡ false = ap (λ y. begins_with 35 y.rest) (sym d.1) ∙ s.1 in
-    subst (Onward text t.rest) (sym is) (b.stands (end_read more b.held.position) (end_is_read t more b.held.position b.same_position e gap col (grind (arith, blanks_and_comment, is_done, line_rest_fills, same_has_break, line_rest_in_line, at_end_of, no_nul_after, line_rest_cut, begins_with, eqb-true))) d.0)
-    )) (λ no. refused)))
+    exactly {x = marked t b.held (46 ∷ 46 ∷ 46 ∷ more)} _ (exactly _ (held_exactly t (line_begun t.held b.held b.rolled)) (λ optional. went (ap (marked t b.held) e, optional))) (λ optional.
+    exactly _ (rest_skipped _) (λ hash. either (is_breakz (peek (past_blanks_and_comment more))) (λ ends. went
+    (b.stands (end_read more b.held.position) (end_is_read t more b.held.position b.same_position e gap col (grind (arith, blanks_and_comment, is_done, line_rest_fills, same_has_break, line_rest_in_line, at_end_of, no_nul_after, line_rest_cut, begins_with, eqb-true))) optional)) (λ no. refused)))
 
 -- ---- directives
 
@@ -224,10 +217,8 @@ pub directive_keeps : (text more : List ℕ) (t : ScannerState) → Arrives text
 unfolding fetch_directive
 directive_keeps text more t a e col =
     let b : Begins text t = begins text t (ap is_empty e) a in
-    chained {P = λ u. (is_required (top_key b.held.keys) ≡ false) × (u ≡ record t { held = begun_from b.held })} (tried t (begin_line t.held) (line_begun t.held b.held b.rolled) (λ h d. (d.0, ap (λ y. record t { held = y }) d.1))) (λ u d.
-    read u.held (directive u.rest u.held.position) _ (λ x is. went (
-    let at_place : directive (37 ∷ more) t.held.position ≡ Ok x = ap (λ p. directive (37 ∷ more) p) (sym b.same_position) ∙ (ap (λ r. directive r b.held.position) (sym e) ∙ (ap (λ y. directive y.rest y.held.position) (sym d.1) ∙ is)) in
-    subst (λ y. Onward text t.rest (after_it t x y.held)) (sym d.1) (by b d.0 x (read_as at_place (directives_end more t.held.position))))))
+    exactly _ (held_exactly t (line_begun t.held b.held b.rolled)) (λ optional. read (begun_from b.held) (directive t.rest b.held.position) _ (λ x is. went
+    (by b optional x (read_as (ap (λ p. directive (37 ∷ more) p) (sym b.same_position) ∙ (ap (λ r. directive r b.held.position) (sym e) ∙ is)) (directives_end more t.held.position)))))
   where
     by : (b : Begins text t) → is_required (top_key b.held.keys) ≡ false → (x : machine.Read Tok) → IsDirectiveRead t.held.position more x → Onward text t.rest (after_it t x (begun_from b.held))
     by b none x (whole_directive line next d cut no_break ends is) =

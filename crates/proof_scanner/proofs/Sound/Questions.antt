@@ -3,7 +3,7 @@ use Rattle.proof_scanner.proofs.Common.{[], allow_key, another, ap, AreLevels, a
 use Rattle.yaml_chars.specs.Class.{is_break as is_break_here, is_flow as is_flow_here}
 use Rattle.model_scanner.specs.State.{after, after as after_first}
 use Rattle.proof_lexers.proofs.Bridges.{same_flow}
-use Rattle.proof_scanner.proofs.Sound.Steps.{ArrivesBy, IsDeep, Onward, Reads, RollsTo, adjacent_kept, begins_here, begun_after, by_sides, entry_from, first_not_right, found_in, gap_here, goes_inside, indicator_end, key_removed, line_free, line_rest_cut, line_rest_fills, line_rest_in_line, low_enough, none_skipped, opens_one, past_one, past_rest, past_rest_is_clear, read_outside, reads_before_none, rest_read, rolls_to, started_tokens, tokens_before, top_closed, with_sides, with_start}
+use Rattle.proof_scanner.proofs.Sound.Steps.{exactly, held_exactly, ArrivesBy, IsDeep, Onward, Reads, RollsTo, adjacent_kept, begins_here, begun_after, by_sides, entry_from, first_not_right, found_in, gap_here, goes_inside, indicator_end, key_removed, line_free, line_rest_cut, line_rest_fills, line_rest_in_line, low_enough, none_skipped, opens_one, past_one, past_rest, past_rest_is_clear, read_outside, reads_before_none, rest_read, rolls_to, started_tokens, tokens_before, top_closed, with_sides, with_start}
 use Rattle.model_scanner.specs.declared.level.FlowLevel.TheVariants.{Entry as InEntry}
 use Rattle.proof_scanner.proofs.Sound.WhiteSpaces.{no_tab_before, no_tab_in_last, past_white, past_white_space, white_cut, white_exactly, white_first, white_of}
 use Rattle.yaml_tokens.specs.declared.problem.Problem.TheVariants as problem
