@@ -265,7 +265,7 @@ module _ (text : List ℕ) (t : ScannerState) (a : Arrives text t) (some : is_em
       let first : (u.rest ≡ t.rest) × Stays u.held t.held × ((in_flow t.held || t.held.key_allowed) ≡ true) =
       held_of {P = λ v. (v.rest ≡ t.rest) × Stays v.held t.held × ((in_flow t.held || t.held.key_allowed) ≡ true)} u (holds.tried t (begin_key t.held) key_place (λ s k. (refl, k.0, k.1))) i in
       in_turn (tried u (remove_told text u.held (λ must. absurd (cc (must, ap (λ ks. is_required (top_key ks)) first.1.1, not_required text t a some first.2))))) (λ v j.
-      let second : (v.rest ≡ u.rest) × (v.held.position ≡ u.held.position) = held_of {P = λ x. (x.rest ≡ u.rest) × (x.held.position ≡ u.held.position)} v (holds.tried u (remove_implicit_key u.held) (key_removed u.held) (λ s k. (refl, ap (λ h. h.position) k))) j in
+      let second : (v.rest ≡ u.rest) × (v.held.position ≡ u.held.position) = held_of {P = λ x. (x.rest ≡ u.rest) × (x.held.position ≡ u.held.position)} v (holds.tried u (remove_implicit_key u.held) (key_removed u.held) (λ s k. (refl, ap (λ h. h.position) k.0))) j in
       let here : ScannerState = skip_indicator (on_held (λ s. allow_key (not (in_flow s)) s) v) in
       let left : here.rest ≡ more = ap after (second.0 ∙ (first.0 ∙ e)) in
       let place : here.held.position ≡ past t.held.position = ap past (second.1 ∙ first.1.0) in

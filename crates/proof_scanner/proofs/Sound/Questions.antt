@@ -1,5 +1,5 @@
 -- The function of the model that reads a dash: what holds where it begins holds between two fetches after it.
-use Rattle.proof_scanner.proofs.Common.{[], allow_key, another, ap, AreLevels, arith, Arrives, At, before_by, begin_key, begins_line, begins_with_space_or_break, blanks_and_comment, both_hold, chained, check_block_entry, check_dash, check_key_space, checked, columns, dash_may_precede, either, ends_at, Entry, eqb-true, false, Fault, fetch_block_entry, fetch_key, FlowLevel, gap, gives_dash, gives_question, has_break, has_open_level, has_tab_before_piece, HasNoTabs, Held, Holds, if◌then◌else◌, in_flow, Indent, inl, inr, is_at_break_or_flow, is_at_gap, is_blank, is_break, is_deeper, is_empty, is_in_column, is_one_of, is_separation, IsLeading, IsReadOn, Key, Keyed, keyed, leading, lexed, line_past, List, No, None, not, not-false, not_ended, Ok, on_held, opened, Option, or_parts, or_true, pair_past, past, past_blanks_and_comment, past_line_rest, peek, placed, Position, position_after, push, put, refl, remove_implicit_key, Result, roll_entry, roll_indent, same_break, ScannerState, settled, Site, skip_indicator, skip_spaces, skip_yaml_whitespace, Some, space, start_if, subst, suc, sym, take, takes_pair, Tok, Token, token, top_needs_block_end, tried, true, try_held, went, with_top, Yes, ℕ, ◌&&◌, ◌++◌, ◌==◌, ◌>>=◌, ◌||◌, ◌∙◌, ◌∷◌, ◌≡◌, ◌≤◌}
+use Rattle.proof_scanner.proofs.Common.{weakened, [], allow_key, another, ap, AreLevels, arith, Arrives, At, before_by, begin_key, begins_line, begins_with_space_or_break, blanks_and_comment, both_hold, chained, check_block_entry, check_dash, check_key_space, checked, columns, dash_may_precede, either, ends_at, Entry, eqb-true, false, Fault, fetch_block_entry, fetch_key, FlowLevel, gap, gives_dash, gives_question, has_break, has_open_level, has_tab_before_piece, HasNoTabs, Held, Holds, if◌then◌else◌, in_flow, Indent, inl, inr, is_at_break_or_flow, is_at_gap, is_blank, is_break, is_deeper, is_empty, is_in_column, is_one_of, is_separation, IsLeading, IsReadOn, Key, Keyed, keyed, leading, lexed, line_past, List, No, None, not, not-false, not_ended, Ok, on_held, opened, Option, or_parts, or_true, pair_past, past, past_blanks_and_comment, past_line_rest, peek, placed, Position, position_after, push, put, refl, remove_implicit_key, Result, roll_entry, roll_indent, same_break, ScannerState, settled, Site, skip_indicator, skip_spaces, skip_yaml_whitespace, Some, space, start_if, subst, suc, sym, take, takes_pair, Tok, Token, token, top_needs_block_end, tried, true, try_held, went, with_top, Yes, ℕ, ◌&&◌, ◌++◌, ◌==◌, ◌>>=◌, ◌||◌, ◌∙◌, ◌∷◌, ◌≡◌, ◌≤◌}
 use Rattle.yaml_chars.specs.Class.{is_break as is_break_here, is_flow as is_flow_here}
 use Rattle.model_scanner.specs.State.{after, after as after_first}
 use Rattle.proof_lexers.proofs.Bridges.{same_flow}
@@ -12,9 +12,9 @@ use Rattle.proof_lexers.specs.PlainEnds as ends
 -- ---- what the model checks
 
 -- an entry stands outside flow, where a key may begin
-entry_checked : (s : Held) → Holds (λ u. (u ≡ s) × (in_flow s ≡ false) × (s.key_allowed ≡ true)) (check_block_entry s)
+entry_checked : (s : Held) → Holds (λ u. (u ≡ s) × ((in_flow s ≡ false) × (s.key_allowed ≡ true))) (check_block_entry s)
 unfolding check_block_entry
-entry_checked s = checked (in_flow s) (At problem.BlockEntryInFlow s.position) (λ e. checked (not s.key_allowed) (At problem.BlockEntryNotAllowed s.position) (λ f. went (refl, e, not-false s.key_allowed f)))
+entry_checked s = checked (in_flow s) (At problem.BlockEntryInFlow s.position) (λ e. checked (not s.key_allowed) (At problem.BlockEntryNotAllowed s.position) (λ f. went (refl, (e, not-false s.key_allowed f))))
 
 -- no dash stands after a TAB
 dash_checked : (more : List ℕ) (t : ScannerState) → t.rest ≡ past_blanks_and_comment more → Holds (λ u. (u ≡ t) × (dash_may_precede more ≡ true)) (check_dash (found_in (leading is_blank more)) t)
@@ -88,9 +88,8 @@ dash_outside : (text more : List ℕ) (t : ScannerState) (a : ArrivesBy text t [
     Holds (Onward text t.rest) (entry_from t t)
 dash_outside text more t a flow keys e gap allowed deep =
     subst (λ (v : ScannerState). Holds (Onward text t.rest) (lexed (space Yes v.rest v.held.position) v.held check_dash >>= λ w. skip_spaces No w >>= entry_then)) (sym (ap (λ x. record { rest = after_first x; held = roll_indent t.held.position.col None Tok.block_sequence_start t.held.position h }) e ∙ ap (λ x. record { rest = more; held = x }) r.is_held))
-    (chained {P = λ w. (w ≡ past_rest v) × (dash_may_precede more ≡ true)} (rest_read v check_dash _ (λ h. dash_checked more (past_rest v) refl)) (λ w d.
-    subst (λ x. Holds (Onward text t.rest) (skip_spaces No x >>= entry_then)) (sym d.0)
-    (subst (λ r. Holds (Onward text t.rest) (r >>= entry_then)) (sym (none_skipped (past_rest v) (past_rest_is_clear more))) (last d.1))))
+    (exactly _ (rest_read v check_dash _ (λ h. dash_checked more (past_rest v) refl)) (λ apart.
+    subst (λ r. Holds (Onward text t.rest) (r >>= entry_then)) (sym (none_skipped (past_rest v) (past_rest_is_clear more))) (last apart)))
   where
     h : Held
     h = (skip_indicator t).held
@@ -105,18 +104,14 @@ dash_outside text more t a flow keys e gap allowed deep =
     last apart =
         let w : ScannerState = past_rest v in
         let n : Entered w (roll_entry w) = entered w (ap (λ fs. not (is_empty fs)) flow) r.are_levels (r.is_top deep) in
-        chained {P = λ y. y ≡ record (roll_entry w) { held = record (roll_entry w).held { keys = with_top None (roll_entry w).held.keys } }}
-        (tried (roll_entry w) (remove_implicit_key (roll_entry w).held) (key_removed (roll_entry w).held) (λ s d. ap (λ z. record (roll_entry w) { held = z }) d)) (λ y d.
-        went (subst (λ z. Onward text t.rest (on_held (λ s. push s.position Tok.block_entry (allow_key true s)) z)) (sym d)
+        exactly _ (held_exactly (roll_entry w) (key_removed (roll_entry w).held)) (λ _. went
         (subst (λ z. Onward text t.rest (on_held (λ s. push s.position Tok.block_entry (allow_key true s)) (record z { held = record z.held { keys = with_top None z.held.keys } }))) (sym n.is)
-        (dash_stands text more t a flow keys e gap allowed apart n.indent n.indents (n.columns_are ∙ r.columns_are) n.are_levels n.awaits))))
+        (dash_stands text more t a flow keys e gap allowed apart n.indent n.indents (n.columns_are ∙ r.columns_are) n.are_levels n.awaits)))
 
 -- A dash that begins an entry is read as in the row.
 pub dash_keeps : (text more : List ℕ) (t : ScannerState) → Arrives text t → t.rest ≡ 45 ∷ more → is_at_gap more ≡ true → IsDeep t.held → Holds (Onward text t.rest) (fetch_block_entry t)
 unfolding fetch_block_entry
-dash_keeps text more t a e gap deep =
-    chained {P = λ u. (u ≡ t) × (in_flow t.held ≡ false) × (t.held.key_allowed ≡ true)} (tried t (check_block_entry t.held) (entry_checked t.held) (λ h d. (ap (λ y. record t { held = y }) d.0, d.1, d.2)))
-    (λ u d. subst (λ y. Holds (Onward text t.rest) (entry_from t y)) (sym d.0) (by d.1 d.2))
+dash_keeps text more t a e gap deep = exactly _ (held_exactly t (entry_checked t.held)) (λ d. by d.0 d.1)
   where
     by : in_flow t.held ≡ false → t.held.key_allowed ≡ true → Holds (Onward text t.rest) (entry_from t t)
     by = by_sides text t (λ u. in_flow u.held ≡ false → u.held.key_allowed ≡ true → Holds (Onward text t.rest) (entry_from u u)) a (λ k x n out allowed. none k x allowed) (λ f fs k ks y es x out allowed. absurd (cc out))
@@ -217,10 +212,9 @@ question_read : {P : ScannerState → Type 0} (more : List ℕ) (p : Position) (
     (begins_with_space_or_break more ≡ true → has_tab_before_piece false more ≡ false → is_separation false (white_of false more) (past_white false more) ≡ true → P (on_held (push p Tok.key) (past_white_space (record { rest = more; held = h })))) →
     Holds P (skip_yaml_whitespace (record { rest = more; held = h }) >>= λ w. check_key_space w >>= λ x. Ok (on_held (push p Tok.key) x))
 unfolding skip_yaml_whitespace
-question_read {P = P} more p h gap f =
-    chained {P = λ w. ((w ≡ past_white_space (record { rest = more; held = h })) × (is_separation false (white_of false more) (past_white false more) ≡ true)) × (begins_with_space_or_break more ≡ true)} (both_hold (white_exactly (record { rest = more; held = h })) (white_first more h gap)) (λ w d.
-    subst (λ y. Holds P (check_key_space y >>= λ x. Ok (on_held (push p Tok.key) x))) (sym d.0.0)
-    (chained (space_checked more (past_white_space (record { rest = more; held = h })) refl) (λ x b. went (subst (λ y. P (on_held (push p Tok.key) y)) (sym b.0) (f d.1 b.1 d.0.1)))))
+question_read more p h gap f =
+    exactly {C = (is_separation false (white_of false more) (past_white false more) ≡ true) × (begins_with_space_or_break more ≡ true)} _ (weakened (λ w d. (d.0.0, (d.0.1, d.1))) (both_hold (white_exactly (record { rest = more; held = h })) (white_first more h gap))) (λ d.
+    exactly _ (space_checked more (past_white_space (record { rest = more; held = h })) refl) (λ apart. went (f d.1 apart d.0)))
 
 question_outside : (text more : List ℕ) (t : ScannerState) (a : ArrivesBy text t [] (None ∷ []) []) → t.held.flow ≡ [] → t.held.keys ≡ None ∷ [] → t.rest ≡ 63 ∷ more → is_at_gap more ≡ true → t.held.key_allowed ≡ true → IsDeep t.held →
     Holds (Onward text t.rest) (key_from t (record t { held = record (roll_indent t.held.position.col None Tok.block_mapping_start t.held.position t.held) { keys = with_top None (roll_indent t.held.position.col None Tok.block_mapping_start t.held.position t.held).keys } }))
@@ -283,8 +277,8 @@ pub key_keeps : (text more : List ℕ) (t : ScannerState) → Arrives text t →
 unfolding fetch_key
 key_keeps text more t a e gap deep =
     chained {P = λ u. (u ≡ record t { held = u.held }) × Begins t.held u.held} (tried t (begin_key t.held) (key_begun t.held) (λ h d. (refl, d))) (λ u d.
-    chained {P = λ v. v ≡ record u { held = record u.held { keys = with_top None u.held.keys } }} (tried u (remove_implicit_key u.held) (key_removed u.held) (λ h i. ap (λ z. record u { held = z }) i)) (λ v i.
-    subst (λ y. Holds (Onward text t.rest) (key_from t y)) (sym (i ∙ ap {A = ScannerState} {B = ScannerState} (λ z. record z { held = record u.held { keys = with_top None u.held.keys } }) d.0)) (by u.held d.1)))
+    exactly _ (held_exactly u (key_removed u.held)) (λ _.
+    subst (λ (z : ScannerState). Holds (Onward text t.rest) (key_from t (record z { held = record u.held { keys = with_top None u.held.keys } }))) (sym d.0) (by u.held d.1)))
   where
     by : (u : Held) → Begins t.held u → Holds (Onward text t.rest) (key_from t (record t { held = record u { keys = with_top None u.keys } }))
     by u (outside out allowed d) =

@@ -64,10 +64,9 @@ pub keyless_outside : (text more : List ℕ) (t : ScannerState) (a : ArrivesBy t
     Holds (Onward text t.rest) (value_by more t [] (None ∷ []))
 unfolding begin_keyless_value begin_keyless_mapping
 keyless_outside text more t a e apart ind deep =
-    chained {P = λ w. (w ≡ record { rest = past_gap more; held = (record rolled { indents = l.indents; indent = l.indent; key_allowed = true }) }) × (t.held.key_allowed ≡ true)}
-    (tried (record { rest = past_gap more; held = (at_value more t [] (None ∷ [])) }) _ (chained {P = λ u. (u ≡ rolled) × (t.held.key_allowed ≡ true)} (checked (not t.held.key_allowed) (At problem.ValueNotAllowed t.held.position) (λ f. went (m.is_held, not-false t.held.key_allowed f)))
-    (λ u d. subst (λ y. Holds (λ z. (z ≡ (record rolled { indents = l.indents; indent = l.indent; key_allowed = true })) × (t.held.key_allowed ≡ true)) (let v = roll_one_col_indent y in Ok (allow_key (not (in_flow v)) v))) (sym d.0) (went (ap (λ v. allow_key (not (in_flow v)) v) l.is_held, d.1)))) (λ s d. (ap (λ y. record { rest = past_gap more; held = y }) d.0, d.1))) (λ w d.
-    went (subst (λ z. Onward text t.rest (on_held (push t.held.position Tok.value) z)) (sym d.0) (keyless_stands text more t a e d.1 apart ind l.indent l.indents (l.columns_are ∙ m.columns_are) l.are_levels l.awaits)))
+    exactly _ (held_exactly (record { rest = past_gap more; held = at_value more t [] (None ∷ []) })
+    (exactly _ (checked (not t.held.key_allowed) (At problem.ValueNotAllowed t.held.position) (λ f. went (m.is_held, not-false t.held.key_allowed f))) (λ allowed. went (ap (λ v. allow_key (not (in_flow v)) v) l.is_held, allowed)))) (λ allowed. went
+    (keyless_stands text more t a e allowed apart ind l.indent l.indents (l.columns_are ∙ m.columns_are) l.are_levels l.awaits))
   where
     h : Held
     h = at_value more t [] (None ∷ [])
@@ -275,10 +274,7 @@ module _ (text more : List ℕ) (t : ScannerState) (f : FlowLevel) (fs : List Fl
       })
 
   pub keyed_inside : k.position.line ≤ t.held.position.line → Holds (Onward text t.rest) (value_by more t (f ∷ fs) (Some k ∷ ks))
-  keyed_inside early =
-      chained {P = λ w. (w ≡ record { rest = past_gap more; held = held_pair f }) × ((not (opens_pair (f ∷ fs)) || (k.position.line == t.held.position.line)) ≡ true)}
-      (tried (record { rest = past_gap more; held = at_value more t (f ∷ fs) (Some k ∷ ks) }) (insert_key k t.held.position (opens_pair (f ∷ fs)) (at_value more t (f ∷ fs) (Some k ∷ ks))) (pair_begun f early) (λ s i. (ap (λ y. record { rest = past_gap more; held = y }) i.0, i.1))) (λ w i.
-      went (subst (λ z. Onward text t.rest (on_held (push t.held.position Tok.value) z)) (sym i.0) (inner_stands i.1)))
+  keyed_inside early = exactly _ (held_exactly (record { rest = past_gap more; held = at_value more t (f ∷ fs) (Some k ∷ ks) }) (pair_begun f early)) (λ its_line. went (inner_stands its_line))
 
 -- ---- the open key of an entry began on the scanner's line, or before it: so a row says it in which it waits
 
@@ -315,7 +311,7 @@ pub value_keeps : (text more : List ℕ) (t : ScannerState) → Arrives text t �
 unfolding fetch_value
 value_keeps text more t a e ind deep =
     subst (λ l. Holds (Onward text t.rest) (check_value_space (record { rest = after l; held = h }) >>= value_on)) (sym e)
-    (chained (colon_spaced more h) (λ u d. subst (λ y. Holds (Onward text t.rest) (value_on y)) (sym d.0) (by d.1)))
+    (exactly _ (colon_spaced more h) by)
   where
     h : Held
     h = record t.held { flow = paired t.held.flow; position = past t.held.position; leading = false }
