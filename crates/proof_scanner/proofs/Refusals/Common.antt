@@ -13,7 +13,7 @@ pub use Rattle.proof_scanner.proofs.Known.Made.{Made, inside, made, outside, sti
 pub use Rattle.proof_scanner.proofs.Known.Places.{at_end, ends_before, piece_ends, step_here}
 pub use Rattle.proof_scanner.proofs.Known.Rows.{Walked, clean_after, row_walks, walk}
 pub use Rattle.proof_scanner.proofs.Known.Ways.{GivesUp, GoesOn, KeepsOn, LeadsBy, Meet, Same, Way, With, first_on, gives_up_like, like_sym, meet, same_place, second_on, strict_way, strictly, way_but_for_key, way_of}
-pub use Rattle.proof_scanner.proofs.Refusals.Places.{Faults, IsRowless, IsWhy, LiesDeep, Said, Told, account_by, awaits_by, blocks_by, either, fault, fault_is, followed_stuck, goes, in_flow_is, in_turn, kind, least_by, looked_at, mapped, none_begins, none_here, place, read, rowless_told, solid_past, spaces_told, stuck, stuck_by, tried, with_row}
+pub use Rattle.proof_scanner.proofs.Refusals.Places.{knowing, known_turn, Faults, IsRowless, IsWhy, LiesDeep, Said, Told, account_by, awaits_by, blocks_by, either, fault, fault_is, followed_stuck, goes, in_flow_is, in_turn, kind, least_by, looked_at, mapped, none_begins, none_here, place, read, rowless_told, solid_past, spaces_told, stuck, stuck_by, tried, with_row}
 pub use Rattle.proof_scanner.proofs.Sound.Arrivals.{not_none}
 pub use Rattle.proof_scanner.proofs.Sound.Completed.{begins_at_start, begins_past}
 pub use Rattle.proof_scanner.proofs.Sound.CutsSoFar.{cut_position, stands_cut}
@@ -31,3 +31,4 @@ pub use Rattle.proof_scanner.proofs.Sound.StreamEnds.{same_flow}
 pub use Rattle.proof_scanner.proofs.Sound.ToToken.{is_in, passed_stands}
 pub use Rattle.proof_scanner.proofs.Sound.WhiteSpaces.{no_tab_in, past_white, past_white_space, white_cut, white_exactly, white_first, white_of, white_or_missed}
 pub use Rattle.proof_scanner.proofs.Sound.WithoutOpen.{AreClosed, without_is}
+pub use Rattle.proof_scanner.proofs.Sound.Reads.{held_exactly}

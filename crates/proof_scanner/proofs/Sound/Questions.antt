@@ -12,7 +12,7 @@ use Rattle.proof_lexers.specs.PlainEnds as ends
 -- ---- what the model checks
 
 -- an entry stands outside flow, where a key may begin
-entry_checked : (s : Held) → Holds (λ u. (u ≡ s) × ((in_flow s ≡ false) × (s.key_allowed ≡ true))) (check_block_entry s)
+pub entry_checked : (s : Held) → Holds (λ u. (u ≡ s) × ((in_flow s ≡ false) × (s.key_allowed ≡ true))) (check_block_entry s)
 unfolding check_block_entry
 entry_checked s = checked (in_flow s) (At problem.BlockEntryInFlow s.position) (λ e. checked (not s.key_allowed) (At problem.BlockEntryNotAllowed s.position) (λ f. went (refl, (e, not-false s.key_allowed f))))
 
