@@ -1,5 +1,5 @@
 -- Faults of indicators, markers and directives.
-use Rattle.proof_scanner.proofs.Common.{with_top, [], allow_key, and_false, and_parts, ap, append_assoc, AreEntries, arith, Arrives, At, begin_flow, begin_key, begin_keyless_mapping, begin_keyless_value, begin_line, begin_pair, begins_entry, begins_free_line, begins_with, begins_with_alpha, begins_with_space_or_break, blanks_and_comment, Bool, check_after_tab, check_block_entry, check_dash, check_document_end, check_key_space, check_value_space, chosen, closed_key, Collection, colon_may_precede, deepened_flow, directive_of, directives_end, end_entry, end_flow, ended_flow, entries_by, Entry, eqb-true, Err, false, Fault, fetch_block_entry, fetch_directive, fetch_document_end, fetch_document_marker, fetch_flow_collection_end, fetch_flow_collection_start, fetch_flow_entry, fetch_key, fetch_value, flow_level, FlowLevel, followed_first, free, further, go_on, has, has_no_break, HasNoKey, HasSpaces, Held, held_of, Holds, if◌then◌else◌, in_flow, increase_flow_level, inl, inr, insert_key, is_alphanumeric, is_at_gap, is_blank, is_blank_or_breakz, is_breakz, is_empty, is_free, is_full, is_one_of, is_required, is_separation, is_taken, is_taken_line, is_value, is_value_here, IsDirectiveRefusal, IsFollowed, IsLookedAt, IsPlace, Key, leading, length, lexed, line_by, line_past_separation, List, may_ask, may_not_stand, MayChoose, nat_le, nat_lt, nat_tests, next_entry, No, no_key, None, not, not-false, not-true, Ok, on_held, opens, opens_pair, Option, or_true, OutOfMemory, outside_key, paired, pass_indicator, past, past_blanks_and_comment, past_line_rest, peek, Position, position_after, Problem, Read, read_as, refl, refused_as, remove_implicit_key, Result, roll_entry, roll_indent, roll_one_col_indent, same_alpha, ScannerState, skip_indicator, skip_yaml_whitespace, slice_index, Some, space, spaces_are_passed, subst, suc, sym, taken, takes_pair, Tok, top_key, true, try_held, unroll_indent, waits, white, Whitespace, Yes, ℕ, ◌&&◌, ◌++◌, ◌-◌, ◌==◌, ◌||◌, ◌∙◌, ◌∷◌, ◌≡◌, ◌≤◌, ◌⊎◌, append-nil, comment_of, is_break, is_decimal_digit, is_letter, is_on_line, past_comment, deepen, drop_open_level, in_block, Indent, level, ◌+◌, BlockEntryInFlow, BlockEntryNotAllowed, ColonMisplaced, CommentNotSeparated, ContentAfterDocumentEnd, FlowTooDeep, KeyExpected, KeyNotAllowed, TabAfterColon, TabAfterDash, TabAfterKey, ValueNotAllowed, WhitespaceExpected}
+use Rattle.proof_scanner.proofs.Common.{GoesOn, with_top, [], allow_key, and_false, and_parts, ap, append_assoc, AreEntries, arith, Arrives, At, begin_flow, begin_key, begin_keyless_mapping, begin_keyless_value, begin_line, begin_pair, begins_entry, begins_free_line, begins_with, begins_with_alpha, begins_with_space_or_break, blanks_and_comment, Bool, check_after_tab, check_block_entry, check_dash, check_document_end, check_key_space, check_value_space, chosen, closed_key, Collection, colon_may_precede, deepened_flow, directive_of, directives_end, end_entry, end_flow, ended_flow, entries_by, Entry, eqb-true, Err, false, Fault, fetch_block_entry, fetch_directive, fetch_document_end, fetch_document_marker, fetch_flow_collection_end, fetch_flow_collection_start, fetch_flow_entry, fetch_key, fetch_value, flow_level, FlowLevel, followed_first, free, further, go_on, has, has_no_break, HasNoKey, HasSpaces, Held, held_of, Holds, if◌then◌else◌, in_flow, increase_flow_level, inl, inr, insert_key, is_alphanumeric, is_at_gap, is_blank, is_blank_or_breakz, is_breakz, is_empty, is_free, is_full, is_one_of, is_required, is_separation, is_taken, is_taken_line, is_value, is_value_here, IsDirectiveRefusal, IsFollowed, IsLookedAt, IsPlace, Key, leading, length, lexed, line_by, line_past_separation, List, may_ask, may_not_stand, MayChoose, nat_le, nat_lt, nat_tests, next_entry, No, no_key, None, not, not-false, not-true, Ok, on_held, opens, opens_pair, Option, or_true, OutOfMemory, outside_key, paired, pass_indicator, past, past_blanks_and_comment, past_line_rest, peek, Position, position_after, Problem, Read, read_as, refl, refused_as, remove_implicit_key, Result, roll_entry, roll_indent, roll_one_col_indent, same_alpha, ScannerState, skip_indicator, skip_yaml_whitespace, slice_index, Some, space, spaces_are_passed, subst, suc, sym, taken, takes_pair, Tok, top_key, true, try_held, unroll_indent, waits, white, Whitespace, Yes, ℕ, ◌&&◌, ◌++◌, ◌-◌, ◌==◌, ◌||◌, ◌∙◌, ◌∷◌, ◌≡◌, ◌≤◌, ◌⊎◌, append-nil, comment_of, is_break, is_decimal_digit, is_letter, is_on_line, past_comment, deepen, drop_open_level, in_block, Indent, level, ◌+◌, BlockEntryInFlow, BlockEntryNotAllowed, ColonMisplaced, CommentNotSeparated, ContentAfterDocumentEnd, FlowTooDeep, KeyExpected, KeyNotAllowed, TabAfterColon, TabAfterDash, TabAfterKey, ValueNotAllowed, WhitespaceExpected}
 use Rattle.yaml_chars.specs.Class.{is_alpha}
 use Rattle.model_scanner.specs.Directive.{directive}
 use Rattle.model_scanner.specs.State.{after}
@@ -164,33 +164,34 @@ module _ (text : List ℕ) (t : ScannerState) (a : Arrives text t) (some : is_em
       record { fails = may_not_stand (defs.dash_not_free more e gap (in_flow_is text t a some c [] ∙ o) (line_taken c [] may (is_outside o) (not-true t.held.key_allowed n))); is_first = looked_at text t a some lies c [] })) (λ _. goes))
 
   -- a character of a text stands in it with more after it
-  has_more : (b c : List ℕ) → has 9 b ≡ true → has 9 (b ++ c) ≡ true
+  has_more : (b c : List ℕ) → is_one_of b 9 ≡ true → has 9 (b ++ c) ≡ true
   has_more [] c h = absurd (cc h)
   has_more (d ∷ b) c h = grind (arith, has_more b c)
 
-  -- what a check of the line after an indicator sees
-  first_after : (r : List ℕ) (c : ℕ) → (slice_index r 0 == c) ≡ true → (0 == c) ≡ false → (m : List ℕ) × (r ≡ c ∷ m)
-  first_after [] c h n = absurd (cc (h, n))
-  first_after (d ∷ m) c h n = (m, ap (λ x. x ∷ m) (eqb-true d c h))
+  -- what stands on the line after an indicator
+  line_goes_on : (more : List ℕ) → GoesOn more (blanks_and_comment more) (past_blanks_and_comment more)
+  line_goes_on more = record { is_text = line_rest_cut more; is_filled = line_rest_fills more; is_on_line = same_has_break (blanks_and_comment more) ∙ ap not (line_rest_in_line more) }
+
+  line_place : (p : Position) (more : List ℕ) → p ≡ past t.held.position → past_line_rest p more ≡ position_after (further 1 t.held.position) (blanks_and_comment more) (past_blanks_and_comment more)
+  line_place p more place = same_in_line p (blanks_and_comment more) [] (past_blanks_and_comment more) (line_rest_in_line more) ∙ ap (λ q. position_after q (blanks_and_comment more) (past_blanks_and_comment more)) place
+
+  line_read : (more : List ℕ) (p : Position) (x : Read Whitespace) → begins_with 35 more ≡ false → space Yes more p ≡ Ok x → record { rest = past_blanks_and_comment more; position = past_line_rest p more; value = found_in (leading is_blank more) } ≡ x
+  line_read more p x none k = let exact = spaced_parted more p none in cc (exact, k)
+
+  begins_entry_here : (r : List ℕ) → (slice_index r 0 == 45) ≡ true → is_blank_or_breakz (slice_index r 1) ≡ true → begins_entry r ≡ true
+  begins_entry_here [] h i = absurd (cc h)
+  begins_entry_here (c ∷ r) h i = rw (eqb-true c 45 h) (sym (gap_here r) ∙ i)
 
   dash_checked : (more : List ℕ) → t.rest ≡ 45 ∷ more → is_at_gap more ≡ true → in_flow t.held ≡ false → t.held.key_allowed ≡ true → (h : Held) → h.position ≡ past t.held.position → (x : Read Whitespace) → space Yes more h.position ≡ Ok x → Faults (Said text) (check_dash x.value (go_on x h))
   unfolding check_dash
-  dash_checked more e gap outside allowed h place x k = by x (read_as k (spaces_are_passed Yes more h.position))
-    where
-      reason : (blanks comment rest : List ℕ) → more ≡ blanks ++ (comment ++ rest) → is_separation false (blanks ++ comment) rest ≡ true → plain_ends.has_break (blanks ++ comment) ≡ false
-          → (has 9 blanks && (slice_index rest 0 == 45) && is_blank_or_breakz (slice_index rest 1)) ≡ true → Said text (At TabAfterDash (position_after h.position (blanks ++ comment) rest))
-      reason blanks comment rest cut fills line all =
-          let second = and_parts (has 9 blanks && (slice_index rest 0 == 45)) (is_blank_or_breakz (slice_index rest 1)) all in
-          let first = and_parts (has 9 blanks) (slice_index rest 0 == 45) second.0 in
-          let d = first_after rest 45 first.1 refl in
-          let gap2 : is_at_gap d.0 ≡ true = sym (gap_here d.0) ∙ (ap (λ l. is_blank_or_breakz (slice_index l 1)) (sym d.1) ∙ second.1) in
-          followed_at TabAfterDash _ (further 1 t.held.position) (blanks ++ comment) rest (ap (λ q. position_after q (blanks ++ comment) rest) place)
-          (none.tab_after_dash more (blanks ++ comment) rest outside e gap (record { is_text = cut ∙ sym (append_assoc blanks comment rest); is_filled = fills; is_on_line = line })
-          (has_more blanks comment first.0) (ap begins_entry d.1 ∙ gap2)) (λ c may. line_not_taken c [] may (is_outside outside) allowed)
-
-      by : (y : Read Whitespace) → HasSpaces Yes h.position more y → Faults (Said text) (if y.value.found_tabs && (slice_index y.rest 0 == 45) && is_blank_or_breakz (slice_index y.rest 1) then Err (At TabAfterDash y.position) else Ok (go_on y h))
-      by y (separations.spaces blanks comment rest cut are fills line ends) =
-          checked (has 9 blanks && (slice_index rest 0 == 45) && is_blank_or_breakz (slice_index rest 1)) (At TabAfterDash (position_after h.position (blanks ++ comment) rest)) (reason blanks comment rest cut fills line) (λ _. goes)
+  dash_checked more e gap outside allowed h place x k =
+      let rest : List ℕ = past_blanks_and_comment more in
+      subst (λ (z : Read Whitespace). Faults (Said text) (if z.value.found_tabs && (slice_index z.rest 0 == 45) && is_blank_or_breakz (slice_index z.rest 1) then Err (At TabAfterDash z.position) else Ok (go_on z h))) (line_read more h.position x (no_comment more gap) k)
+      (checked (is_one_of (leading is_blank more) 9 && (slice_index rest 0 == 45) && is_blank_or_breakz (slice_index rest 1)) (At TabAfterDash (past_line_rest h.position more)) (λ all.
+      let second = and_parts (is_one_of (leading is_blank more) 9 && (slice_index rest 0 == 45)) (is_blank_or_breakz (slice_index rest 1)) all in
+      let first = and_parts (is_one_of (leading is_blank more) 9) (slice_index rest 0 == 45) second.0 in
+      followed_at TabAfterDash _ (further 1 t.held.position) (blanks_and_comment more) rest (line_place h.position more place)
+      (none.tab_after_dash more (blanks_and_comment more) rest outside e gap (line_goes_on more) (has_more (leading is_blank more) _ first.0) (begins_entry_here rest first.1 second.1)) (λ c may. line_not_taken c [] may (is_outside outside) allowed)) (λ _. goes))
 
   -- no comment stands after what was passed behind a dash
   dash_spaced : (u : ScannerState) → Holds (λ v. (begins_with 35 v.rest ≡ false) × (v.held.keys ≡ u.held.keys)) (lexed (space Yes u.rest u.held.position) u.held check_dash)
@@ -301,18 +302,14 @@ module _ (text : List ℕ) (t : ScannerState) (a : Arrives text t) (some : is_em
   tab_checked : (more : List ℕ) → t.rest ≡ 58 ∷ more → begins_with 9 more ≡ true → (h : Held) → h.position ≡ past t.held.position → (x : Read Whitespace) → space Yes more h.position ≡ Ok x → Faults (Said text) (check_after_tab x.value (go_on x h))
   unfolding check_after_tab is_alpha is_alphanumeric
   tab_checked more e tab h place x k =
-      let exact = spaced_parted more h.position (grind arith) in
-      let exactly : Read Whitespace = record { rest = past_blanks_and_comment more; position = past_line_rest h.position more; value = found_in (leading is_blank more) } in
-      let same : exactly ≡ x = cc (exact, k) in
       let letter : (r : List ℕ) → ((peek r == 45) || is_alpha (peek r)) ≡ true → begins_with_alpha r ≡ true = λ r f. grind (arith, same_alpha) in
-      subst (λ (z : Read Whitespace). Faults (Said text) (if not z.value.has_valid_yaml_ws && ((peek z.rest == 45) || is_alpha (peek z.rest)) then Err (At TabAfterColon z.position) else Ok (go_on z h))) same
+      subst (λ (z : Read Whitespace). Faults (Said text) (if not z.value.has_valid_yaml_ws && ((peek z.rest == 45) || is_alpha (peek z.rest)) then Err (At TabAfterColon z.position) else Ok (go_on z h))) (line_read more h.position x (grind arith) k)
       (checked (not (is_one_of (leading is_blank more) 32) && ((peek (past_blanks_and_comment more) == 45) || is_alpha (peek (past_blanks_and_comment more)))) (At TabAfterColon (past_line_rest h.position more)) (λ all.
       let first = and_parts (not (is_one_of (leading is_blank more) 32)) ((peek (past_blanks_and_comment more) == 45) || is_alpha (peek (past_blanks_and_comment more))) all in
       let alpha : begins_with_alpha (past_blanks_and_comment more) ≡ true = letter (past_blanks_and_comment more) first.1 in
       followed_at TabAfterColon _ (further 1 t.held.position) (blanks_and_comment more) (past_blanks_and_comment more)
-      (same_in_line h.position (blanks_and_comment more) [] (past_blanks_and_comment more) (line_rest_in_line more) ∙ ap (λ q. position_after q (blanks_and_comment more) (past_blanks_and_comment more)) place)
-      (none.tab_after_colon more (blanks_and_comment more) (past_blanks_and_comment more) e tab
-      (record { is_text = line_rest_cut more; is_filled = line_rest_fills more; is_on_line = same_has_break (blanks_and_comment more) ∙ ap not (line_rest_in_line more) })
+      (line_place h.position more place)
+      (none.tab_after_colon more (blanks_and_comment more) (past_blanks_and_comment more) e tab (line_goes_on more)
       (no_space (leading is_blank more) (tags.after is_blank more) (not-true (is_one_of (leading is_blank more) 32) first.0) alpha) alpha) (λ c may. tt)) (λ _. goes))
 
   value_checked : (more : List ℕ) → t.rest ≡ 58 ∷ more → (u : ScannerState) → u.rest ≡ more → u.held.position ≡ past t.held.position → Faults (Said text) (check_value_space u)

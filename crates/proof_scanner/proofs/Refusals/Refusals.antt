@@ -79,13 +79,9 @@ left_told text nul t (inr none) =
 next_told : (text : List ℕ) → has_no_nul text ≡ true → (t : ScannerState) → Stands text t → HasNear t.held → Faults (Said text) (fetch_next t)
 unfolding fetch_next
 next_told text nul t s near =
-    in_turn (passing_told text t s near) (λ u e.
-    let a = held_of u (passed_stands text t s) e in
-    in_turn (tried u (stale_told text nul u a.0)) (λ v f.
-    let here : ScannerState = on_held (λ h. unroll_indent (h.position.col + 1) h) v in
-    let b : Arrives text here = (held_of v (stale_arrives text u a.0 a.1) f).0 in
-    in_turn (here_told text here b) (λ w i.
-    tried w (left_told text nul w (held_of w (here_stands text here b) i)))))
+    faults.knowing (passed_stands text t s) (passing_told text t s near) (λ u a.
+    faults.knowing (stale_arrives text u a.0 a.1) (tried u (stale_told text nul u a.0)) (λ v b.
+    faults.knowing (here_stands text (on_held (λ h. unroll_indent (h.position.col + 1) h) v) b.0) (here_told text (on_held (λ h. unroll_indent (h.position.col + 1) h) v) b.0) (λ w s. tried w (left_told text nul w s))))
 
 fetch_told : (text : List ℕ) → has_no_nul text ≡ true → (t : ScannerState) → Stands text t → HasNear t.held → Faults (Said text) (fetch t)
 unfolding fetch
