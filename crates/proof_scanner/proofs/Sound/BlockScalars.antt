@@ -207,8 +207,7 @@ module _ (text : List ℕ) (t : ScannerState) (k : Option Key) (a : ArrivesBy te
 pub block_keeps : (text : List ℕ) (style : kind.BlockStyle) (t : ScannerState) (more : List ℕ) → t.rest ≡ (if is_literal style then 124 else 62) ∷ more → is_empty t.held.flow ≡ true → IsDeep t.held → Arrives text t → Holds (Onward text t.rest) (fetch_block_scalar style t)
 unfolding fetch_block_scalar unroll_non_block_indents
 block_keeps text style t more e out deep arrives =
-    subst (λ h. Holds (Onward text t.rest) (lexed (block (is_literal style) (unroll_non_block_indents (allow_key true h)).indent t.rest t.held.position) (unroll_non_block_indents (allow_key true h))
-    (λ b u. Ok (on_held (λ v. push b.position (Tok.scalar (block_style style) b.text) (record v { leading = true })) u)))) (sym (saved_is t.held))
+    rw (saved_is t.held)
     (read (unroll_non_block_indents (allow_key true (record t.held { keys = saved_keys t.held }))) (block (is_literal style) w.indent t.rest t.held.position) _ (λ x i. went (of style e x i)))
   where
     w : Levels

@@ -152,6 +152,5 @@ pub plain_keeps : (text : List ℕ) (t : ScannerState) (a : Arrives text t) → 
 unfolding fetch_plain_scalar unroll_non_block_indents
 plain_keeps text t a deep there =
     let comes : comes_plain (in_flow t.held) (t.held.position.index == t.held.adjacent_value_at) t.held.position.col t.rest ≡ true = grind arith in
-    subst (λ h. Holds (Onward text t.rest) (lexed (plain (context (unroll_non_block_indents (allow_key false h))) t.rest t.held.position) (unroll_non_block_indents (allow_key false h))
-    (λ r u. Ok (on_held (λ v. push t.held.position (Tok.scalar Style.plain r.text) (after_plain r.leading v)) u)))) (sym (saved_is t.held))
+    rw (saved_is t.held)
     (read (unroll_non_block_indents (allow_key false (record t.held { keys = saved_keys t.held }))) (plain (ctx text t a deep comes) t.rest t.held.position) _ (λ x k. went (stands text t a deep comes x k)))

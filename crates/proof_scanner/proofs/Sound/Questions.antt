@@ -221,13 +221,7 @@ question_outside : (text more : List ℕ) (t : ScannerState) (a : ArrivesBy text
 question_outside text more t a flow keys e gap allowed deep =
     subst (λ r. Holds (Onward text t.rest) (from r (roll_indent t.held.position.col None Tok.block_mapping_start t.held.position t.held))) (sym e)
     (subst (λ h. Holds (Onward text t.rest) (from (63 ∷ more) h)) (sym r.is_held)
-    (question_read more t.held.position (record (record t.held { indents = r.indents; indent = r.indent; tokens = with_start Tok.block_mapping_start t }) {
-      keys = with_top None (record t.held { indents = r.indents; indent = r.indent; tokens = with_start Tok.block_mapping_start t }).keys;
-      key_allowed = not
-          (in_flow (record t.held { indents = r.indents; indent = r.indent; tokens = with_start Tok.block_mapping_start t }));
-      position = past (record t.held { indents = r.indents; indent = r.indent; tokens = with_start Tok.block_mapping_start t }).position;
-      leading = false;
-    }) gap (λ begins apart fills.
+    (question_read more t.held.position _ gap (λ begins apart fills.
     (question_stands text more t a flow keys e allowed begins apart fills r.indent r.indents r.columns_are r.are_levels (top_closed r.indents (r.is_top deep)).1))))
   where
     r : RollsTo t.held.position.col None (token t.held.position Tok.block_mapping_start) t.held (roll_indent t.held.position.col None Tok.block_mapping_start t.held.position t.held)

@@ -170,10 +170,7 @@ module _ (text : List ℕ) (quotes : Quotes) (t : ScannerState) (a : Arrives tex
 pub quoted_keeps : (text : List ℕ) (quotes : Quotes) (t : ScannerState) (more : List ℕ) → t.rest ≡ quote_of (are_single quotes) ∷ more → IsDeep t.held → Arrives text t → Holds (Onward text t.rest) (fetch_flow_scalar quotes t)
 unfolding fetch_flow_scalar
 quoted_keeps text quotes t more e deep a =
-    subst (λ h. Holds (Onward text t.rest) (lexed (quoted (are_single quotes) (context (allow_key false h)) t.rest t.held.position) (allow_key false h) (λ x u.
-    check_after_quoted t.held.position.line (on_held unled u) >>= λ v.
-    skip_to_next_token v >>= λ w.
-    Ok (on_held (λ s. push t.held.position (Tok.scalar (quoted_style quotes) x) (adjacent_here s)) w)))) (sym (saved_is t.held))
+    rw (saved_is t.held)
     (read (allow_key false (record t.held { keys = saved_keys t.held })) (quoted (are_single quotes) (context t.held) t.rest t.held.position) _
     (λ x i. (chained (quoted_checked t.held.position (piece_of (are_single quotes) (read_as x i).body) (closed text quotes t a deep x (read_as x i)) (in_line (are_single quotes) (read_as x i).body) (no_nul_after (piece_of (are_single quotes) (read_as x i).body) x.rest (subst (λ r. has_no_nul r ≡ true) (read_as x i).cut a.is_clean)) (read_as x i).end_is)
     (λ v c. chained (both_hold (exact v) (skipped text quotes t a deep x (read_as x i) v c)) (λ w z. went (node text quotes t a deep x (read_as x i) v c w z.0 z.1))))))
