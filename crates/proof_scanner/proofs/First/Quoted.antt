@@ -56,7 +56,7 @@ module _ (least : ℕ) (here : Position) (rest : List ℕ) where
         → ((t : LineStand) (q : Position) (x : List ℕ) → is_marked q x ≡ true → k ≡ true → Wrong single least here t q x why at)
         → (all_stand least (past_elements within es) (position_after (past here) body r).col last ≡ true → k ≡ false → Place single least here (past_elements within es) (position_after (past here) body r) r why at) → Reason single least here within (past here) more why at
     walked why at k last es body r cut no_feed are fit marks marker end =
-        subst (λ x. Reason single least here within (past here) x why at) (sym cut)
+        rw cut
         (walk_of single least here (λ t q x. Wrong single least here t q x why at) last k r no_feed marker 0 body es within (past here) (omega arith) are fit (rw (off_margin here.col 0) marks) (λ f free n. placed why at free (end f n)))
 
     by_text : (why : Problem) (n : IsNotQuoted single more why) → quoted_first single least more why n → Reason single least here within (past here) more why here
@@ -73,7 +73,7 @@ module _ (least : ℕ) (here : Position) (rest : List ℕ) where
     by_lines whole why at (lines.by_tab body r es e are further low) first =
         let all : quote_of single ∷ more ≡ quote_of single ∷ (body ++ tab ∷ r) = sym whole ∙ e in
         let there = after_quote_at single here body (tab ∷ r) in
-        subst (λ q. Reason single least here within (past here) more TabAsIndentation q) (sym there)
+        rw there
         (walked TabAsIndentation _ false [] es body (tab ∷ r) (cc all) refl are (indented es first.1) first.0 (λ t q x h n. absurd (cc n)) (λ f n. by_tab r refl further (ap (λ (q : Position). nat_lt q.col least) (sym there) ∙ low)))
 
     one_sorted : has_no_nul rest ≡ true → (why1 why2 : Problem) (at1 at2 : Position) → Sorted single more why1 at1 → Sorted single more why2 at2 → (why1 ≡ why2) × (at1 ≡ at2)

@@ -23,7 +23,7 @@ pub record Stands (a : Account) (separation rest : List ℕ) (here : Position) :
 
 -- a text's ways are clean
 pub clean_way : (text : List ℕ) (vs : List Step) (after : List ℕ) → spelled vs after ≡ up_to_nul text → Holds (has_no_nul (spelled vs after))
-clean_way text vs after e = subst (λ z. Holds (has_no_nul z)) (sym e) (clean_up_to_end text)
+clean_way text vs after e = rw e (clean_up_to_end text)
 
 -- what is left of it is clean
 pub clean_place : {J : Account → Account → Type 0} {text after : List ℕ} {a : Account} → Way J text after a → Holds (has_no_nul after)
@@ -70,7 +70,7 @@ module _ (J : Account → Account → Type 0) (same : (x y : Account) → J x y 
   step = step_of J R a b s1 r1 s2 r2 h1 p g clean
 
   later_clean : Holds (has_no_nul (s2 ++ r2))
-  later_clean = clean_after (g.step ∷ g.steps) (s2 ++ r2) (subst (λ z. Holds (has_no_nul z)) (sym g.spells) clean)
+  later_clean = clean_after (g.step ∷ g.steps) (s2 ++ r2) (rw g.spells clean)
 
   pub clear : (g.steps ≡ [] → is_free_of_tabs b s2 ≡ true) → IsClearAfter step
   clear free gap content cut fills solid some = grind (arith, nat_tests, eqb-true, clear_way, no_nul_after, later_clean)
@@ -204,7 +204,7 @@ module _ (text : List ℕ) where
         | same_place like r e ↦
             let cut = one_cut f.account g.account f.separation f.rest g.separation g.rest f.here g.here f.stands g.stands like (clean_place f.way) e in
             one_reason f.account g.account like f.separation f.here f.rest (no_nul_after f.separation f.rest (clean_place f.way)) why1 why2 at1 at2 f.first
-            (subst (λ s. FailsFirst g.account s f.here f.rest why2 at2) (sym cut.0) (subst (λ r. FailsFirst g.account g.separation f.here r why2 at2) (sym cut.1) (subst (λ h. FailsFirst g.account g.separation h g.rest why2 at2) (sym cut.2) g.first)))
+            (rw cut.0 (rw cut.1 (rw cut.2 g.first)))
         | second_on n ↦ fails_before GivesUp gives_up_site Nothing f.account g.account f.separation f.rest g.separation g.rest f.here g.here f.stands g.stands n (clean_place f.way) why1 why2 at1 at2 f.first g.first
         | first_on n ↦
             let turned = fails_before GivesUp gives_up_site (λ x y. Nothing y x) g.account f.account g.separation g.rest f.separation f.rest g.here f.here g.stands f.stands n (clean_place g.way) why2 why1 at2 at1 g.first f.first in
@@ -216,7 +216,7 @@ module _ (text : List ℕ) where
   stands_keyless here k = record { is_filled = k.place.is_filled; is_solid = refl; goes_on = refl; is_here = k.place.is_here }
 
   begins_first : (steps : List Step) (after : List ℕ) → spelled steps after ≡ up_to_nul text → Begins text (spelled steps after) first_account
-  begins_first steps after e = subst (λ z. Begins text z first_account) (sym e) (begins_at_start text)
+  begins_first steps after e = rw e (begins_at_start text)
 
   -- the text that is left before a colon for which no key waits, and the way there
   abbrev ahead : {here : Position} → KeylessAt text here → List ℕ
@@ -244,7 +244,7 @@ module _ (text : List ℕ) where
       after1 = f.separation ++ f.rest
 
       passed : (x : Account) (s : StepAt k.account k.separation (58 ∷ k.more) here) → s.account ≡ x → BeginsOrApart text x k.account (ahead k) → ⊥
-      passed x s e (inl r) = keyless_step text k.separation k.more k.account here s (subst (λ u. Begins text (ahead k) u) (sym e) r.1) k.place.is_filled k.is_value k.is_outside k.is_line_taken k.has_none
+      passed x s e (inl r) = keyless_step text k.separation k.more k.account here s (rw e r.1) k.place.is_filled k.is_value k.is_outside k.is_line_taken k.has_none
       passed x s e (inr r) = no_colon_here s k.more refl k.is_value k.is_outside k.is_line_taken (λ q waiting unbroken near. cc (waiting, ap (λ (u : Account). u.line) e, r.1.none))
 
       by : Meet GivesUp Same (BeginsOrApart text) f.account k.account after1 (ahead k) → ⊥

@@ -50,8 +50,8 @@ keeps text = record {
 
 pub came_by : (text : List ℕ) (a : Account) (w : Step) (next : List ℕ) (b : Account) → Way GivesUp text (w.separation ++ (w.piece ++ next)) a → IsWritten a w next → Begins text next b → Came text a w next b
 came_by text a w next b way written g =
-    by (meet GivesUp Same (SecondBegins text) (keeps text) way.steps (strict_way text next b g).steps (w.separation ++ (w.piece ++ next)) next first_account first_account a b (refl, tt, tt) (subst (λ r. Begins text r first_account) (sym way.spells) (begins_at_start text), (subst (λ r. Holds (has_no_nul r)) (sym way.spells) (clean_up_to_end text))) way.leads
-    (strict_way text next b g).leads (way.spells ∙ sym (strict_way text next b g).spells) (subst (λ r. Holds (has_no_nul r)) (sym way.spells) (clean_up_to_end text)))
+    by (meet GivesUp Same (SecondBegins text) (keeps text) way.steps (strict_way text next b g).steps (w.separation ++ (w.piece ++ next)) next first_account first_account a b (refl, tt, tt) (rw way.spells (begins_at_start text), (rw way.spells (clean_up_to_end text))) way.leads
+    (strict_way text next b g).leads (way.spells ∙ sym (strict_way text next b g).spells) (rw way.spells (clean_up_to_end text)))
   where
     by : Meet GivesUp Same (SecondBegins text) a b (w.separation ++ (w.piece ++ next)) next → Came text a w next b
     by (same_place i r e) = let more = longer w next written.1.0 in let same = ap length e in absurd (omega (arith, more, same))
@@ -93,12 +93,12 @@ module _ (text : List ℕ) (t : ScannerState) (some : is_empty t.rest ≡ false)
       base = with_entries a.site a.line (e ∷ es)
 
       by : (y : Option Key) → outside_key es ks ≡ y → Way GivesUp text (a.separation ++ t.rest) (chosen false [] (k ∷ ks) base)
-      by None i = way_of text _ _ (a.completes true false [] (subst (λ z. MayChoose true false z t.held.position t.rest) (sym i) tt)).0
+      by None i = way_of text _ _ (a.completes true false [] (rw i tt)).0
       by (Some x) i = of x.required refl
         where
           of : (b : Bool) → x.required ≡ b → Way GivesUp text (a.separation ++ t.rest) (chosen false [] (k ∷ ks) base)
           of true m = way_but_for_key text (a.separation ++ t.rest) x.position (chosen false [] (k ∷ ks) base) (a.carries [] x i m refl some)
-          of false m = way_of text _ _ (a.completes true false [] (subst (λ z. MayChoose true false z t.held.position t.rest) (sym i) m)).0
+          of false m = way_of text _ _ (a.completes true false [] (rw i m)).0
 
 -- ---- a row of a text goes through each place that a way leads to, at an account that is like the way's; and so through the place after a step that was read there
 
@@ -144,11 +144,11 @@ walk J R keeps vs ws after last x y a i h leads row e clean = by (meet J Same R 
     by : Meet J Same R a end.account after last → Walked R a after
     by (same_place like holds e) = record { account = end.account; is_like = like; holds = holds; steps = []; last = last; is_row = (end.is_filled, end.may); spells = sym e; is_clean = clean_after vs after clean }
     by (first_on n) = absurd (at_end n.account n.step last (spelled n.steps after) end.is_filled n.is_written (sym n.spells))
-    by (second_on n) = record { account = n.account; is_like = n.is_like; holds = n.holds; steps = n.step ∷ n.steps; last = last; is_row = (n.is_written, subst (λ o. IsRowFrom o n.steps last) (sym n.is_past) (leads_row n.steps last (Some n.past) end.account n.leads end.is_filled end.may)); spells = n.spells; is_clean = clean_after vs after clean }
+    by (second_on n) = record { account = n.account; is_like = n.is_like; holds = n.holds; steps = n.step ∷ n.steps; last = last; is_row = (n.is_written, rw n.is_past (leads_row n.steps last (Some n.past) end.account n.leads end.is_filled end.may)); spells = n.spells; is_clean = clean_after vs after clean }
 
 pub row_walks : (J : Account → Account → Type 0) (R : Account → Account → List ℕ → Type 0) → KeepsOn J Same R → (text after : List ℕ) (a : Account) (r : Row) → R first_account first_account (up_to_nul text) → Way J text after a → HasRow text r → Walked R a after
 row_walks J R keeps text after a r p way h =
-    walk J R keeps way.steps r.steps after r.last first_account first_account a (refl, tt, tt) (subst (λ z. R first_account first_account z) (sym way.spells) p) way.leads h.1 (way.spells ∙ sym h.0) (subst (λ z. Holds (has_no_nul z)) (sym way.spells) (clean_up_to_end text))
+    walk J R keeps way.steps r.steps after r.last first_account first_account a (refl, tt, tt) (rw way.spells p) way.leads h.1 (way.spells ∙ sym h.0) (rw way.spells (clean_up_to_end text))
 
 -- ---- past a step
 

@@ -19,7 +19,7 @@ known_far text after p k far n = grind arith
 
 -- where a text begins
 pub known_at_start : (text after : List ℕ) (p : Position) → after ≡ up_to_nul text → KnowsKey text after p None
-known_at_start text after p whole = record { waiting = λ b begin g e l i. absurd (cc (ap (λ (x : Account). x.line) (begins_whole text after b whole g) ∙ e)); required = λ b x g e m. absurd (cc e); rows = λ r h. record { account = first_account; begins = subst (λ x. Begins text x first_account) (sym whole) (begins_at_start text); steps = r.steps; last = r.last; is_row = h.1; spells = h.0 ∙ sym whole } }
+known_at_start text after p whole = record { waiting = λ b begin g e l i. absurd (cc (ap (λ (x : Account). x.line) (begins_whole text after b whole g) ∙ e)); required = λ b x g e m. absurd (cc e); rows = λ r h. record { account = first_account; begins = rw whole (begins_at_start text); steps = r.steps; last = r.last; is_row = h.1; spells = h.0 ∙ sym whole } }
 
 -- ---- lines
 
@@ -138,7 +138,7 @@ keyless separation piece tok = record { separation = separation; piece = piece; 
 
 module _ (text : List ℕ) (t : ScannerState) (piece next : List ℕ) (tok : Tok) (cut : t.rest ≡ piece ++ next) (q : Position) (gap rest : List ℕ) (place : q ≡ position_after (position_after t.held.position piece next) gap rest) (is_rest : next ≡ gap ++ rest) where
   later : (k : Option Key) → KnowsKey text next t.held.position k → KnowsKey text (gap ++ rest) q k
-  later k n = subst (λ y. KnowsKey text y q k) is_rest (subst (λ x. KnowsKey text next x k) (sym place) (known_past text next (position_after t.held.position piece next) k gap rest (known_past text next t.held.position k piece next n)))
+  later k n = subst (λ y. KnowsKey text y q k) is_rest (rw place (known_past text next (position_after t.held.position piece next) k gap rest (known_past text next t.held.position k piece next n)))
 
   goes_on : not (is_empty piece) ≡ true → is_empty t.rest ≡ false
   goes_on h = some_rest t.rest piece next cut (not-true (is_empty piece) h)

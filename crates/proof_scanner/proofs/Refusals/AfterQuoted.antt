@@ -61,4 +61,4 @@ unfolding check_after_quoted
 check_passes p piece t is may =
     let checked : ScannerState → Result ScannerState Fault = λ u. (if may_follow_quoted (in_flow u.held) (p.line == u.held.position.line) (peek u.rest) then Ok u else Err (At ContentAfterQuoted u.held.position)) in
     let u : Left (Spaced Yes t) (skip_spaces Yes t) = skipped t (unglued (in_flow t.held) piece t.rest may) in
-    subst (λ y. Left (λ z. Unit {0}) (y >>= checked)) (sym u.is) (grind (arith, nat_tests, eqb-true, append_assoc, same_line, same_has_break, follows))
+    rw u.is (grind (arith, nat_tests, eqb-true, append_assoc, same_line, same_has_break, follows))

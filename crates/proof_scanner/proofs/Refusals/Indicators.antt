@@ -107,7 +107,7 @@ module _ (text : List ℕ) (t : ScannerState) (a : Arrives text t) (some : is_em
   -- a fault at the end of what was passed on the line
   followed_at : (why : Problem) (q : Position) (p : Position) (passed content : List ℕ) → q ≡ position_after p passed content
       → (x : IsFollowed (in_flow t.held) t.held.position t.rest why (position_after p passed content)) → HasFirst why (position_after p passed content) x → Said text (At why q)
-  followed_at why q p passed content e x first = λ _. subst (λ z. IsWhy text why z) (sym e) (followed_stuck text t a some lies why (position_after p passed content) x first)
+  followed_at why q p passed content e x first = λ _. rw e (followed_stuck text t a some lies why (position_after p passed content) x first)
 
   marked_state : (tok : Tok) (c : ℕ) (more : List ℕ) → t.rest ≡ c ∷ c ∷ c ∷ more → Holds (λ u. (u.rest ≡ more) × (u.held.position ≡ further 3 t.held.position)) (fetch_document_marker tok t)
   unfolding fetch_document_marker
@@ -226,9 +226,9 @@ module _ (text : List ℕ) (t : ScannerState) (a : Arrives text t) (some : is_em
   white_told : (in_flow t.held || t.held.key_allowed) ≡ true → (more : List ℕ) → t.rest ≡ 63 ∷ more → is_at_gap more ≡ true → (u : ScannerState) → u.rest ≡ more → u.held.position ≡ past t.held.position → Faults (Said text) (skip_yaml_whitespace u)
   unfolding skip_yaml_whitespace
   white_told asked more e gap u left place = elim (white_or_missed more u.held gap) [
-    | inl begins ↦ subst (λ x. Faults (Said text) x) (sym (white_goes u (ap begins_with_space_or_break left ∙ begins))) goes
+    | inl begins ↦ rw (white_goes u (ap begins_with_space_or_break left ∙ begins)) goes
     | inr m ↦
-        subst (λ x. Faults (Said text) x) (sym (ap (λ r. white false false r u.held) left ∙ m.is_refused)) (fault {f = At WhitespaceExpected u.held.position}
+        rw (ap (λ r. white false false r u.held) left ∙ m.is_refused) (fault {f = At WhitespaceExpected u.held.position}
         (followed_at WhitespaceExpected u.held.position (further 1 t.held.position) [] more place
         (none.no_space more [] more e gap (record { is_text = refl; is_filled = refl; is_on_line = refl }) m.no_space m.ends) (λ c may. (asks asked c may, refl))))
   ]
@@ -243,7 +243,7 @@ module _ (text : List ℕ) (t : ScannerState) (a : Arrives text t) (some : is_em
       let begins : begins_with_space_or_break more ≡ true = held_of w (white_first more u.held gap) (ap (λ r. white false false r u.held) (sym left) ∙ k) in
       let separation : List ℕ = white_of false u.rest in
       let rest : List ℕ = past_white false u.rest in
-      subst (λ (z : ScannerState). Faults (Said text) (if peek z.rest == 9 then Err (At TabAfterKey z.held.position) else Ok z)) (sym exact.0)
+      rw exact.0
       (checked (peek rest == 9) (At TabAfterKey (position_after u.held.position separation rest)) (λ tab.
       let first : rest ≡ 9 ∷ after rest = tab_first rest tab in
       followed_at TabAfterKey (position_after u.held.position separation rest) (further 1 t.held.position) separation (9 ∷ after rest)
@@ -286,7 +286,7 @@ module _ (text : List ℕ) (t : ScannerState) (a : Arrives text t) (some : is_em
       let out : is_empty t.held.flow ≡ true = is_outside o in
       let none_in : a.base.entries ≡ [] = no_entries t.held.key_allowed _ t.held.flow t.held.keys a.base.entries out a.are_entries in
       let key_is : outside_key a.base.entries t.held.keys ≡ None = ap (λ es. outside_key es t.held.keys) none_in ∙ top in
-      let may : MayChoose true false (outside_key a.base.entries t.held.keys) t.held.position t.rest = subst (λ k. MayChoose true false k t.held.position t.rest) (sym key_is) tt in
+      let may : MayChoose true false (outside_key a.base.entries t.held.keys) t.held.position t.rest = rw key_is tt in
       record {
         stands = λ h. absurd (cc h);
         is_stuck = no_key (account_by text t a some false []) a.separation more t.held.position (subst (λ r. IsPlace text (account_by text t a some false []) a.separation r t.held.position) e (place text t a some false [] may)) (value_here more e i false []) (in_flow_is text t a some false [] ∙ o)
@@ -357,8 +357,7 @@ module _ (text : List ℕ) (t : ScannerState) (a : Arrives text t) (some : is_em
   flow_begun : (kind : Collection) (bracket : ℕ) (more : List ℕ) → t.rest ≡ bracket ∷ more → (bracket ≡ 91) ⊎ (bracket ≡ 123) → Faults (Said text) (begin_flow kind t.held)
   unfolding begin_flow increase_flow_level
   flow_begun kind bracket more e is =
-      subst (λ s. Faults (Said text) (deepened_flow (if nat_le 255 (length s.flow) then Err (At FlowTooDeep s.position) else Ok (record s { keys = None ∷ s.keys; flow = flow_level kind ∷ s.flow }))))
-      (sym (ap roll_one_col_indent (saved_is t.held) ∙ rolled_one_is (record t.held { keys = saved_keys t.held })))
+      rw (ap roll_one_col_indent (saved_is t.held) ∙ rolled_one_is (record t.held { keys = saved_keys t.held }))
       (kept deepened_flow (λ e. refl) (λ x. goes) (checked (nat_le 255 (length t.held.flow)) (At FlowTooDeep t.held.position) (λ full _.
       stuck text t a some [] FlowTooDeep t.held.position (λ c may.
       let room : 255 ≤ length t.held.flow = grind (arith, nat_tests, full) in

@@ -41,13 +41,13 @@ module _ (text : List ℕ) (t : ScannerState) (a : Arrives text t) (some : is_em
         let place : position_after v.held.position d.passed d.rest ≡ position_after end gap d.rest =
         ap (λ p. position_after p d.passed d.rest) (ap (λ h. h.position) c.spaces.is_held ∙ ap (λ r. position_after x.position spaces r) d.cut) ∙
         (sym (position_append x.position spaces d.passed d.rest) ∙ ap (λ p. position_after p gap d.rest) (q.end_is ∙ ap (λ r. position_after t.held.position scalar r) cut)) in
-        subst (λ g. Said text g) (sym d.is_fault) (λ _. subst (λ p. IsWhy text TabInBlockIndentation p) (sym place)
+        rw d.is_fault (λ _. rw place
         (stuck text t a some [] TabInBlockIndentation (position_after end gap d.rest) (λ k may.
         record {
           fails = may_not_stand (defs.tab_after_quoted single scalar gap d.rest (q.cut ∙ ap (λ r. scalar ++ r) cut) (subst (λ r. (IsQuoted single scalar r)) cut (is text t a some lies single ctx x q same)) is_filled d.goes_on d.is_solid
               (ap (λ bs. is_indented_by_spaces quoted_scalar bs (site_at_place (account_by text t a some k []) t.held.position).awaits gap) (blocks_by text t a some k []) ∙
               (ap (λ w. is_indented_by_spaces quoted_scalar blocks w gap) (awaits_by text t a some k []) ∙ d.is_indented_by_tab)));
-          is_first = (looked_at text t a some lies k [], subst (λ n. closed_first single n scalar) (sym (least_by text t a some k [])) (fits text t a some lies single ctx x q same), subst (λ r. begins_with 35 r ≡ false) cut (unglued (in_flow own.held) scalar x.rest c.may_end));
+          is_first = (looked_at text t a some lies k [], rw (least_by text t a some k []) (fits text t a some lies single ctx x q same), subst (λ r. begins_with 35 r ≡ false) cut (unglued (in_flow own.held) scalar x.rest c.may_end));
         })))
 
     told : Faults (Said text) (skip_to_next_token v)
@@ -86,7 +86,7 @@ module _ (text : List ℕ) (t : ScannerState) (a : Arrives text t) (some : is_em
       let same : (context (node_start t.held)).indent ≡ t.held.indent = ap (λ h. h.indent) (saved_is t.held) in
       let clean : has_no_nul more ≡ true = (and_parts (not (is_nul (none.quote_of (are_single quotes)))) (has_no_nul more) (subst (λ r. has_no_nul r ≡ true) e a.is_clean)).1 in
       let read_as : (x : Read (List ℕ)) → quoted (are_single quotes) (context (node_start t.held)) t.rest t.held.position ≡ Ok x → QuotedAs (are_single quotes) (context (node_start t.held)) t.held.position t.rest x = λ x k.
-      subst (λ r. QuotedAs (are_single quotes) (context (node_start t.held)) t.held.position r x) (sym e)
+      rw e
       (quoted_as quotes (context (node_start t.held)) t.held.position more x clean (subst (λ r. quoted (are_single quotes) (context (node_start t.held)) r t.held.position ≡ Ok x) e k)) in
       read (node_start t.held) (quoted (are_single quotes) (context (node_start t.held)) t.rest t.held.position) _
       (λ f k. refused_told text t a some lies deep (are_single quotes) (context (node_start t.held)) same more e clean f (ap (λ r. quoted (are_single quotes) (context (node_start t.held)) r t.held.position) (sym e) ∙ k))

@@ -64,7 +64,7 @@ module _ (before : Previous) (least : ℕ) where
     arrives = λ g a c s at. goes;
     tab = tab_here;
     blank = blank_after;
-    fails = λ g a c s h. fault (record { passed = []; rest = c ∷ a; place = s.position; cut = refl; is_fault = refl; index_is = omega arith; tabbed = subst (λ y. IsTabbed y) (sym (append-nil g)) h });
+    fails = λ g a c s h. fault (record { passed = []; rest = c ∷ a; place = s.position; cut = refl; is_fault = refl; index_is = omega arith; tabbed = rw (append-nil g) h });
   })
 
 -- ---- what is said of it
@@ -103,7 +103,7 @@ pub skip_refused : (before : Previous) (bs : List ℕ) (awaits : Bool) (separati
 unfolding skip_to_next_token classes.is_blank
 skip_refused before bs awaits separation t l known = elim (cases_Bool (begins_separation t.rest)) [
   | inl h ↦ told h (skip between t.rest t.held) (separations_are_passed t.held t.rest) (tabs_tell before least t.rest between separation t.held l (known h))
-  | inr h ↦ subst (λ r. Faults Own r) (sym (skip_stays t.rest t.held h)) goes
+  | inr h ↦ rw (skip_stays t.rest t.held h) goes
 ]
   where
     least : ℕ
@@ -169,7 +169,7 @@ far_behind k p h late = grind arith
 module _ (text : List ℕ) (t : ScannerState) (s : Stands text t) (near : HasNear t.held) where
   -- a TAB indents the line of what comes next
   tab_stuck : {f : Fault} → TabStands s.base.site.blocks s.base.site.awaits s.base.site.before s.separation t.rest t.held.position f → Said text f
-  tab_stuck d = subst (λ g. Said text g) (sym d.is_fault) (λ _. by (where_is (outside_key s.base.entries t.held.keys) t.held.position t.rest d.is_some))
+  tab_stuck d = rw d.is_fault (λ _. by (where_is (outside_key s.base.entries t.held.keys) t.held.position t.rest d.is_some))
     where
       here : Position
       here = position_after t.held.position d.passed d.rest

@@ -32,7 +32,7 @@ knowing holds.refused (fault q) h = fault q
 
 -- where what it leaves is known
 pub known_turn : {F : Fault → Type 0} {A B C : Type 0} {x : A} {r : Result A Fault} (k : A → Result B Fault) → holds.Holds (λ u. (u ≡ x) × C) r → Faults F r → (C → Faults F (k x)) → Faults F (r >>= k)
-known_turn {F = F} k h f g = knowing h f (λ u d. subst (λ y. Faults F (k y)) (sym d.0) (g d.1))
+known_turn {F = F} k h f g = knowing h f (λ u d. rw d.0 (g d.1))
 
 -- of a step that may only refuse as the one before it
 pub kept : {F : Fault → Type 0} {A B : Type 0} {r : Result A Fault} (f : Result A Fault → Result B Fault) → ((e : Fault) → f (Err e) ≡ Err e) → ((x : A) → Faults F (f (Ok x))) → Faults F r → Faults F (f r)

@@ -155,7 +155,7 @@ module _ (single : Bool) (ctx : Context) (start : Position) (least : ℕ) (limit
       open_line : (s : LineStand) → begins_further s false ≡ true → past_element s (blank c) ≡ at_start → t.leading ≡ true → Ends s p (c ∷ b) here
       open_line s further next leads = elim (cases_Bool (t.leading && (c == 9) && nat_lt (p.col + 1) ctx.indent)) [
         | inl h ↦ tabbed s further h
-        | inr h ↦ on s (ap (λ x. not (x && (c == 9) && nat_lt p.col least)) further ∙ no_tab leads h) h (subst (λ x. Stood (past p) (after_element (blank c) t) x gap) (sym next) (begins_here (still leads)))
+        | inr h ↦ on s (ap (λ x. not (x && (c == 9) && nat_lt p.col least)) further ∙ no_tab leads h) h (rw next (begins_here (still leads)))
       ]
 
       by : (s : LineStand) (m : Mode) → Stood p t s m → Ends s p (c ∷ b) here
@@ -213,8 +213,8 @@ module _ (single : Bool) (ctx : Context) (start : Position) (least : ℕ) (limit
   unclosed_ends s p m t stood = refused QuotedEnd start (arrived (placed _ _ (and_false (p.col == 0)) (by_end refl))) (grind arith)
 
   none_ends : (c : ℕ) (b : List ℕ) → NoElement single c b → Later (c ∷ b)
-  none_ends c b (closing e ended) = subst (λ x. Later (x ∷ b)) (sym e) (closed_ends b ended)
-  none_ends c b (slash double e bad) = subst (λ x. Later (x ∷ b)) (sym e) (bad_ends double b bad)
+  none_ends c b (closing e ended) = rw e (closed_ends b ended)
+  none_ends c b (slash double e bad) = rw e (bad_ends double b bad)
 
   -- ---- each text
 
@@ -225,8 +225,8 @@ module _ (single : Bool) (ctx : Context) (start : Position) (least : ℕ) (limit
   by_kind c b e is (has_escaped d a double same_c same_b f) s p m t stood later =
       let slashed : (c : ℕ) (b : List ℕ) → c ≡ 92 → b ≡ d ∷ a → element_of single c b ≡ Some (spelled escaped_break (suc (break_further d a))) → Later (drop (suc (break_further d a)) b) → Ends s p (c ∷ b) (scan single ctx start (c ∷ b) gap p t) = λ c b same_c same_b is later.
       let there : element_of single 92 (d ∷ a) ≡ Some (spelled escaped_break (suc (break_further d a))) = ap (λ x. element_of single x (d ∷ a)) (sym same_c) ∙ (ap (λ y. element_of single c y) (sym same_b) ∙ is) in
-      subst (λ x. Ends s p (x ∷ b) (scan single ctx start (x ∷ b) gap p t)) (sym same_c)
-      (subst (λ y. Ends s p (92 ∷ y) (scan single ctx start (92 ∷ y) gap p t)) (sym same_b) (escaped_ends d a double there f s p m t stood (subst (λ y. Later (drop (suc (break_further d a)) y)) same_b later))) in
+      rw same_c
+      (rw same_b (escaped_ends d a double there f s p m t stood (subst (λ y. Later (drop (suc (break_further d a)) y)) same_b later))) in
       slashed c b same_c same_b is later
 
   by_element : (c : ℕ) (b : List ℕ) (o : Option Spelled) → element_of single c b ≡ o → (c == 0) ≡ false → ((n : ℕ) → Later (drop n b)) → Later (c ∷ b)

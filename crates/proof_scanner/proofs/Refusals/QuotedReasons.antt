@@ -284,7 +284,7 @@ module _ (single : Bool) (least : ℕ) (start : Position) where
         are = more c b e is x.body x.rest x.es x.is_text x.are;
         fits = λ last h. rw fit (columns_are c b e is s p (x.es ++ last) ∙ x.fits last (ap (λ (q : Position). all_stand least (past_elements (past_element s e.element) x.es) q.col last) (sym end) ∙ h));
         marks = marks_grown c b e is p none x.body x.rest x.is_text ∙ (x.marks ∙ ap (λ q. is_marked q x.rest) (sym end));
-        holds = subst (λ q. E (past_elements (past_element s e.element) x.es) q x.rest) (sym end) x.holds;
+        holds = rw end x.holds;
       }
 
 -- ---- along a body

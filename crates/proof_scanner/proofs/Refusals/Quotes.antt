@@ -62,7 +62,7 @@ module _ (text : List ℕ) (t : ScannerState) (a : Arrives text t) (some : is_em
   -- a comment right after the quote
   glued : begins_with 35 x.rest ≡ true → Said text (At CommentNotSeparated x.position)
   glued h =
-      λ _. subst (λ p. IsWhy text CommentNotSeparated p) (sym q.end_is)
+      λ _. rw q.end_is
       (followed_stuck text t a some lies CommentNotSeparated (position_after t.held.position piece x.rest) (none.glued_to_quoted single piece x.rest q.cut is h) (λ c may. fits))
 
   refuses : (v : ScannerState) → skip_spaces Yes closed ≡ Ok v → may_follow_quoted (in_flow v.held) (t.held.position.line == v.held.position.line) (peek v.rest) ≡ false
@@ -82,7 +82,7 @@ module _ (text : List ℕ) (t : ScannerState) (a : Arrives text t) (some : is_em
       let end : Position = position_after t.held.position piece x.rest in
       let passed : List ℕ = s.blanks ++ s.comment in
       let place : v.held.position ≡ position_after end passed v.rest = ap (λ h. h.position) s.is_held ∙ ap (λ p. position_after p passed v.rest) q.end_is in
-      λ _. subst (λ p. IsWhy text ContentAfterQuoted p) (sym place)
+      λ _. rw place
       (followed_stuck text t a some lies ContentAfterQuoted (position_after end passed v.rest)
       (none.after_quoted single piece x.rest passed v.rest q.cut is (may_not_end v e n) (record { is_text = s.is_rest ∙ sym (append_assoc s.blanks s.comment v.rest); is_filled = s.is_filled; is_on_line = s.no_break })
       (solid_left (in_flow v.held) (t.held.position.line == v.held.position.line) v.rest s.ends n)) (λ c may. (fits, held_of v (unglued Yes closed) e)))
@@ -117,7 +117,7 @@ module _ (text : List ℕ) (t : ScannerState) (a : Arrives text t) (some : is_em
 
     module _ (f : Fault) (fails : quoted single ctx (none.quote_of single ∷ more) here ≡ Err f) where
       none_there : is_of_lines f ≡ false → none.HasNoQuoted single t.rest
-      none_there told = subst (λ r. none.HasNoQuoted single r) (sym e) (none_quoted single ctx more here f fails told)
+      none_there told = rw e (none_quoted single ctx more here f fails told)
 
       -- nor one whose lines are indented
       none_fits : (why : Problem) (at : Position) → (why ≡ QuotedDocumentMarker → ⊥) → Reason single least here within (past here) more why at → AreNotIndented single least t.rest
@@ -152,7 +152,7 @@ module _ (text : List ℕ) (t : ScannerState) (a : Arrives text t) (some : is_em
               of why at is w (placed _ _ free (by_end ends)) =
                   let all : more ≡ x.body = x.is_text ∙ (ap (λ r. x.body ++ r) ends ∙ append-nil x.body) in
                   none_here text t a some lies QuotedEnd
-                  (none.unquoted single more QuotedEnd e (none_there (ap is_of_lines (sym is))) (none.by_end (x.es, subst (λ b. elements (element_of single) 0 b ≡ Some x.es) (sym all) x.are)))
+                  (none.unquoted single more QuotedEnd e (none_there (ap is_of_lines (sym is))) (none.by_end (x.es, rw all x.are)))
                   (ap (λ b. has_marker b []) all ∙ (ap (λ r. has_marker x.body r) (sym ends) ∙ marks false free), indented)
               of why at is w (placed _ _ free (by_escape next _ double cut bad may)) =
                   none_here text t a some lies why
@@ -164,7 +164,7 @@ module _ (text : List ℕ) (t : ScannerState) (a : Arrives text t) (some : is_em
                   (marks false free, indented)
               of why at is w (placed _ _ free (by_tab next cut further low)) =
                   let same_place : position_after (past here) x.body x.rest ≡ position_after here (none.quote_of single ∷ x.body) (tab ∷ next) = sym (after_quote_at single here x.body x.rest) ∙ ap (λ r. position_after here (none.quote_of single ∷ x.body) r) cut in
-                  subst (λ z. IsWhy text TabAsIndentation z) (sym same_place)
+                  rw same_place
                   (lines_stuck single TabAsIndentation (position_after here (none.quote_of single ∷ x.body) (tab ∷ next)) (none_fits why at (λ k. absurd (cc k)) w)
                   (lines.by_tab x.body next x.es (e ∙ ap (λ r. none.quote_of single ∷ r) (x.is_text ∙ ap (λ r. x.body ++ r) cut)) x.are further (ap (λ (q : Position). nat_lt q.col least) (sym same_place) ∙ low))
                   (ap (λ r. has_marker x.body r) (sym cut) ∙ marks false free, indented))

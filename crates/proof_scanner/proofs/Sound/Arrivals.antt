@@ -107,7 +107,7 @@ module _ (text : List ℕ) (t : ScannerState) (f : FlowLevel) (fs : List FlowLev
   tokens_before = a.tokens_are ∙ append-nil a.tokens
 
   last_before : NotBefore a.site.position t.held.position
-  last_before = subst (λ x. NotBefore a.site.position x) (sym a.position_is) (not_before_after a.site.position a.separation t.rest)
+  last_before = rw a.position_is (not_before_after a.site.position a.separation t.rest)
 
   around_of : (x : Key) → outside_key es ks ≡ Some x → After x.position a.site.position × (IsLive x t.held.position t.rest → IsOpenHere x t.held.position a.site.blocks)
   around_of x i = subst (λ y. IsOpenOutside y a.site.position t.held.position t.rest a.site.blocks) i a.is_open

@@ -137,14 +137,14 @@ arrives_now text v s solid near = by (is_empty v.held.flow) refl
 
     by : (out : Bool) → is_empty v.held.flow ≡ out → Arrives text (on_held (λ s. unroll_indent (s.position.col + 1) s) v)
     by false e =
-        subst (λ h. Arrives text (record v { held = h })) (sym (unrolled_in_flow (p.col + 1) v.held e))
+        rw (unrolled_in_flow (p.col + 1) v.held e)
         (arrives_with text v s solid near (record { indent = v.held.indent; indents = v.held.indents; tokens = v.held.tokens })
         (ap (λ b. (site_here (not b) p s.base.site).blocks) e ∙ s.blocks_are) (ap (λ b. (site_here (not b) p s.base.site).awaits) e ∙ s.awaits_is) s.are_levels
         (sym (append-nil v.held.tokens) ∙ ap (λ b. v.held.tokens ++ ends_here (not b) p s.base.site.blocks) (sym e)))
     by true e =
         let u : Levels = unrolled (p.col + 1) p v.held.indent v.held.indents v.held.tokens in
         let z : Ended p s.base.site.blocks s.base.site.awaits v.held.tokens u = rw (s.blocks_are, s.awaits_is) (levels_end p v.held.indent v.held.indents v.held.tokens s.are_levels) in
-        subst (λ h. Arrives text (record v { held = h })) (sym (unrolled_outside (p.col + 1) v.held e))
+        rw (unrolled_outside (p.col + 1) v.held e)
         (arrives_with text v s solid near u (ap (λ b. (site_here (not b) p s.base.site).blocks) e ∙ z.columns_are) (ap (λ b. (site_here (not b) p s.base.site).awaits) e ∙ z.open_is) z.are_levels
         (z.tokens_are ∙ ap (λ b. v.held.tokens ++ ends_here (not b) p s.base.site.blocks) (sym e)))
 

@@ -111,7 +111,7 @@ clear_first b h = grind arith
 
 pub spaced_exactly : (a : List ℕ) (p : Position) → IsSpaced a p (space Yes a p)
 unfolding space
-spaced_exactly a p = subst (λ x. IsSpaced a p (spaces_end x)) (sym (blanks_walked a p (record { found_tabs = false; has_valid_yaml_ws = false }))) (of (after is_blank a) refl)
+spaced_exactly a p = rw (blanks_walked a p (record { found_tabs = false; has_valid_yaml_ws = false })) (of (after is_blank a) refl)
   where
     l : List ℕ
     l = leading is_blank a

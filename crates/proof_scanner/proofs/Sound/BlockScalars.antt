@@ -93,7 +93,7 @@ module _ (text : List ℕ) (t : ScannerState) (k : Option Key) (a : ArrivesBy te
   clean = no_nul_after r.piece r.next (subst (λ l. has_no_nul l ≡ true) r.is_text a.is_clean)
 
   least : IsLeast w.indent here.blocks
-  least = subst (λ bs. IsLeast w.indent bs) (sym (a.blocks_are ∙ closed.same_columns)) closed.is_least
+  least = rw (a.blocks_are ∙ closed.same_columns) closed.is_least
 
   abbrev seen_here : pieces.Account
   seen_here = seen (with_entries a.site a.line []) here a.separation
@@ -159,7 +159,7 @@ module _ (text : List ℕ) (t : ScannerState) (k : Option Key) (a : ArrivesBy te
   then_rows true true cs (Some y) e may = absurd (dead y (before_it y e) may)
   then_rows false true cs (Some y) e may = absurd may
   then_rows strict false cs (Some y) e may =
-      let q = line_by_allowed strict t.held.key_allowed k refl refl (subst (λ o. MayChoose strict false o end rest) (sym e) may) in
+      let q = line_by_allowed strict t.held.key_allowed k refl refl (rw e may) in
       rows strict q.0 q.1
 
   taken_by : (y : Option Key) → key_now ≡ y → IsTakenBy true end rest y free
@@ -173,7 +173,7 @@ module _ (text : List ℕ) (t : ScannerState) (k : Option Key) (a : ArrivesBy te
   scalar_reads =
       let far = adjacent_kept t after_it (before_by (previous_by tok)) r.piece r.next gap is_solid place a.was_adjacent refl (ap before_by n.before) in
       let no_tabs : HasNoTabs site_then gap rest =
-      inr (subst (λ b. is_indented_by_spaces b here.blocks (awaits_past false tok here.blocks here.awaits r.next) gap ≡ true) (sym n.before) (ap not (ap (λ l. has_tab_within (least_column here.blocks ((awaits_past false tok here.blocks here.awaits r.next) || false)) l)
+      inr (rw n.before (ap not (ap (λ l. has_tab_within (least_column here.blocks ((awaits_past false tok here.blocks here.awaits r.next) || false)) l)
       (last_whole (spaces_of r.next) (spaces_in_line r.next)) ∙ no_tab_in (least_column here.blocks ((awaits_past false tok here.blocks here.awaits r.next) || false)) r.next))) in
       assumption (is_solid, r, spaces_cut r.next, spaces_fill r.next rest, place, (a.blocks_are ∙ closed.same_columns), n.awaits here.blocks here.awaits r.next ∙ sym closed.none_open, no_tabs, sym (ap (λ z. begins_line z gap) n.before), read_on (previous_by tok) n.before, far)
 
@@ -198,8 +198,8 @@ module _ (text : List ℕ) (t : ScannerState) (k : Option Key) (a : ArrivesBy te
   -- What stands after a block scalar that was read; the spaces after it are the separation.
   pub block_stands : KnowsKey text (a.separation ++ t.rest) t.held.position k → Onward text t.rest (read_state t w style x)
   block_stands known =
-      subst (λ z. Onward text t.rest (read_state t w style z)) (sym r.is)
-      (subst (λ ts. Onward text t.rest (record after_it { held = record after_it.held { tokens = ts ++ own ∷ [] } })) (sym closed.same_tokens) (scalar_stands known))
+      rw r.is
+      (rw closed.same_tokens (scalar_stands known))
 
 -- ---- the function
 

@@ -57,9 +57,9 @@ line_reads : (t : ScannerState) (d : Read) (h : Held) (y : Site) → IsRead t d 
     t.held.adjacent_value_at ≤ t.held.position.index → (h.adjacent_value_at ≡ t.held.adjacent_value_at) × (h.started ≡ t.held.started) × (h.ended ≡ t.held.ended) → Reads t (line_past t h d) y d.piece (next_of d) d.gap
 line_reads t d h y r here before columns_are awaits levels was same =
     let far = adjacent_kept t (line_past t h d) (before_by y.before) d.piece (next_of d) d.gap r.is_solid r.end_is was same.0 (ap before_by before ∙ r.token.before) in
-    let no_tabs : HasNoTabs y d.gap d.rest = inr (subst (λ b. is_indented_by_spaces b y.blocks y.awaits d.gap ≡ true) (sym before) (r.no_tabs y.blocks y.awaits)) in
+    let no_tabs : HasNoTabs y d.gap d.rest = inr (rw before (r.no_tabs y.blocks y.awaits)) in
     let leads_then : IsLeading d.leading y d.gap d.rest = λ _ more _. r.leads more ∙ ap (λ b. begins_line b d.gap) (sym before) in
-    let read_on : IsReadOn y.before y.position d.gap d.rest = subst (λ b. IsReadOn b y.position d.gap d.rest) (sym before) (r.read_on y.position) in
+    let read_on : IsReadOn y.before y.position d.gap d.rest = rw before (r.read_on y.position) in
     assumption (no_tabs, leads_then, read_on, far, r.end_is ∙ ap (λ q. position_after q d.gap d.rest) (sym here))
 
 -- ---- what begins such a line
@@ -70,7 +70,7 @@ begun_from u = record u { keys = with_top None u.keys; key_allowed = false }
 
 pub line_begun : (s u : Held) → unroll_indent 0 s ≡ u → Holds (λ v. (v ≡ begun_from u) × (is_required (top_key u.keys) ≡ false)) (begin_line s)
 unfolding begin_line remove_implicit_key
-line_begun s u e = subst (λ (h : Held). Holds (λ v. (v ≡ begun_from u) × (is_required (top_key u.keys) ≡ false)) (closed_key (if is_required (top_key h.keys) then Err (At problem.KeyExpected h.position) else Ok (record h { keys = with_top None h.keys })))) (sym e) (grind (arith, refused, went))
+line_begun s u e = rw e (grind (arith, refused, went))
 
 -- all levels have ended
 abbrev pub all_ended : Held → Held
@@ -86,7 +86,7 @@ line_stands : (text : List ℕ) (t : ScannerState) (d : Read) (a : ArrivesBy tex
 line_stands text t d a r flow keys =
     read_outside text t (line_past t (begun_from (all_ended t.held)) d) a d.piece (next_of d) d.gap d.tok (record { line = taken; blocks = [] }) x (ap (λ k. site_in false k t.held.position a.site) r.token.act)
     (line_reads t d (begun_from (all_ended t.held)) _ r refl refl refl (r.token.awaits_outside x.blocks x.awaits (next_of d)) refl a.was_adjacent (refl, refl, refl)) (record { line_is = (inr refl, sym r.not_free, tt); no_key = refl; flow_is = flow; keys_are = keys }) (record {
-      is_piece = subst (λ p. IsPiece (seen (with_entries a.site a.line []) x a.separation) d.piece (next_of d) None p d.tok) (sym (r.token.shown x d.piece (next_of d))) (r.is_piece (seen (with_entries a.site a.line []) x a.separation) r.at_margin refl);
+      is_piece = rw (r.token.shown x d.piece (next_of d)) (r.is_piece (seen (with_entries a.site a.line []) x a.separation) r.at_margin refl);
       stands = rw (a.is_indented (some_rest t.rest d.piece (next_of d) r.cut r.is_solid), r.token.lines (least_for d.tok x) d.piece, r.precedes false x.blocks) refl;
       after_is = ap (λ k. line_of_piece (is_in_column x.position.col x.blocks) x.position x.blocks k false a.line_here) r.token.act ∙ (grind arith);
       begun = r.token.begun;
@@ -119,7 +119,7 @@ line_goes text t d f fs k ks e es a r flow keys =
       has_had = (inr refl, sym r.not_renewed);
       in_line = r.in_line;
       begun = r.token.begun;
-      is_piece = subst (λ p. IsPiece (seen (with_entries a.site a.line (e ∷ es)) x a.separation) d.piece (next_of d) None p d.tok) (sym (r.token.shown x d.piece (next_of d))) (r.is_piece (seen (with_entries a.site a.line (e ∷ es)) x a.separation) r.at_margin refl);
+      is_piece = rw (r.token.shown x d.piece (next_of d)) (r.is_piece (seen (with_entries a.site a.line (e ∷ es)) x a.separation) r.at_margin refl);
       stands = rw (a.is_indented (some_rest t.rest d.piece (next_of d) r.cut r.is_solid), r.token.act, r.token.lines (least_for d.tok x) d.piece, r.precedes true x.blocks) refl;
       entry_past = λ xs. ap (λ y. entries_past x.position (is_renewed a.site.before a.separation) y [] false e xs) r.token.act ∙
           (grind arith);

@@ -52,7 +52,7 @@ stray_at text more closes tok c k t a keys e hash =
     (reads_in_line t (stray_past closes t tok more) _ (c ∷ []) more (blanks_and_comment more) refl e (line_rest_cut more) (line_rest_fills more) (line_rest_in_line more) (indicator_end t.held.position c more k.is_end.in_line) refl (is_previous closes k.previous)
     a.blocks_are (k.awaits false at.blocks at.awaits more ∙ a.awaits_is) a.are_levels (λ some. absurd (cc some)) (adjacent_kept t (stray_past closes t tok more) other (c ∷ []) more (blanks_and_comment more) refl (indicator_end t.held.position c more k.is_end.in_line) a.was_adjacent refl refl).1 (refl, refl))
     (record { line_is = allowed_by closes (begins_free_line (previous_by tok) (blanks_and_comment more)) (quiet_before (previous_by tok) t.held.position (blanks_and_comment more) [] (is_previous closes k.previous) (line_rest_in_line more)).1; no_key = grind arith; flow_is = refl; keys_are = keys }) (record {
-      is_piece = subst (λ p. IsPiece (seen (with_entries a.site a.line []) at a.separation) (c ∷ []) more None p tok) (sym (k.shown at (c ∷ []) more)) (k.is_end.piece (seen (with_entries a.site a.line []) at a.separation) more None refl);
+      is_piece = rw (k.shown at (c ∷ []) more) (k.is_end.piece (seen (with_entries a.site a.line []) at a.separation) more None refl);
       stands = rw (a.is_indented (ap is_empty e), k.lines (least_for tok at) (c ∷ []), k.precedes false at.blocks (c ∷ []) more, hash) refl;
       after_is = ap (λ x. line_past (is_in_column at.position.col at.blocks) at.position at.blocks x false a.line_here) k.act ∙ (grind arith);
       begun = k.begun;
@@ -173,7 +173,7 @@ module _ (text more : List ℕ) (closes : Bool) (tok : Tok) (c : ℕ) (i : IsClo
       let far = adjacent_kept t (record past_closer { held = record past_closer.held { adjacent_value_at = t.held.adjacent_value_at } }) other (c ∷ []) more gap refl (indicator_end t.held.position c more i.is_end.in_line) a.was_adjacent refl refl in
       steps_in_flow text t past_closer f fs k ks e es a (c ∷ []) more tok (keys_by closes ks) (entries_after closes e es) (levels_then closes f fs) gap
       (reads_in_line t past_closer _ (c ∷ []) more gap refl cut (line_rest_cut more) (line_rest_fills more) (line_rest_in_line more) (indicator_end t.held.position c more i.is_end.in_line) refl (is_previous closes i.previous) a.blocks_are
-      (i.awaits true x.blocks x.awaits more ∙ a.awaits_is) a.are_levels (λ some. subst (λ b. IsAdjacent (before_past (before_by b) gap) end (adjacent_then closes fs t.held.adjacent_value_at end.index) left) (sym i.previous)
+      (i.awaits true x.blocks x.awaits more ∙ a.awaits_is) a.are_levels (λ some. rw i.previous
       (adjacent_after closes f fs t.held.adjacent_value_at end gap left far.0 (line_rest_fills more) (line_rest_in_line more) (clear_ends left (past_rest_is_clear more)) (no_nul_after gap left (subst (λ r. has_no_nul r ≡ true) (line_rest_cut more) (no_nul_after (c ∷ []) more (subst (λ r. has_no_nul r ≡ true) cut a.is_clean)))) some)) (grind arith) (refl, refl)) (
       assumption (
         many_then closes f fs ks (cc a.one_each),
@@ -183,7 +183,7 @@ module _ (text more : List ℕ) (closes : Bool) (tok : Tok) (c : ℕ) (i : IsClo
         numbered closes,
         ap (λ b. not (not b && true)) i.is_end.in_line,
       )) (record {
-        is_piece = subst (λ p. IsPiece (seen (with_entries a.site a.line (e ∷ es)) x a.separation) (c ∷ []) more None p tok) (sym (i.shown x (c ∷ []) more)) (i.is_end.piece (seen (with_entries a.site a.line (e ∷ es)) x a.separation) more None refl);
+        is_piece = rw (i.shown x (c ∷ []) more) (i.is_end.piece (seen (with_entries a.site a.line (e ∷ es)) x a.separation) more None refl);
         stands = rw (a.is_indented (ap is_empty cut), deep_for true tok x (i.least x) (low_enough text t f fs (k ∷ ks) (e ∷ es) a deep), i.lines (least_for tok x) (c ∷ []), i.precedes true x.blocks (c ∷ []) more, hash) refl;
         choice = λ cs. false;
         outer = choices_by closes;

@@ -53,20 +53,20 @@ module _ (text : List ℕ) (t u : ScannerState) (f : FlowLevel) (fs : List FlowL
     one_each = g.one_each;
     are_entries = g.are_entries;
     line_is = g.line_is;
-    is_open = subst (λ y. IsOpenOutside y (flow_past t.held.position).position u.held.position u.rest a.site.blocks) (sym g.same_key)
+    is_open = rw g.same_key
         (open_around text t f fs k ks e es a some u.held.position u.rest later (flow_past t.held.position).position (not_before_after t.held.position piece next));
     no_key = a.no_key;
     are_numbered = g.are_numbered;
     carries = λ cs key own must inside more. subst (λ l. BeginsButForKey text l key.position (chosen false cs ls (account_then t.held.position))) r.is_rest
-        (subst (λ p. BeginsButForKey text next key.position (chosen false cs ls (account_then p))) (sym place)
+        (rw place
         (but_for_key_past text (a.separation ++ (piece ++ next)) key.position (before false cs) (chosen false cs ls (account_then piece_here)) (flow_step (n.bit cs)) next refl (grind (arith, same_levels))
         (account false cs (grind arith) (grind arith))
         (subst (λ x. BeginsButForKey text (a.separation ++ x) key.position (chosen false (n.choice cs ∷ n.outer cs) (k ∷ ks) (with_entries a.site a.line (e ∷ es)))) r.cut (a.carries (n.choice cs ∷ n.outer cs) key (sym g.same_key ∙ own) must refl some))));
-    knows = subst (λ y. KnowsKey text (gap ++ u.rest) u.held.position y) (sym g.same_key) (knows_inside text t piece next tok r.cut u.held.position gap u.rest r.position_is r.is_rest f fs k ks e es a ((subst (λ l. is_separation false a.separation l ≡ true) r.cut a.is_filled), (ap not r.is_solid, n.is_piece)));
+    knows = rw g.same_key (knows_inside text t piece next tok r.cut u.held.position gap u.rest r.position_is r.is_rest f fs k ks e es a ((subst (λ l. is_separation false a.separation l ≡ true) r.cut a.is_filled), (ap not r.is_solid, n.is_piece)));
     completes = λ strict c cs may.
         let was : MayChoose strict c (outside_key es ks) u.held.position u.rest = subst (λ y. MayChoose strict c y u.held.position u.rest) g.same_key may in
         subst (λ l. SoFar strict text l (chosen c cs ls (account_then t.held.position)) (tokens_up_to (chosen c cs ls (account_then t.held.position)) ls u.held.tokens)) r.is_rest
-        (subst (λ p. SoFar strict text next (chosen c cs ls (account_then p)) (tokens_up_to (chosen c cs ls (account_then p)) ls u.held.tokens)) (sym place)
+        (rw place
         (goes_past strict text (a.separation ++ (piece ++ next)) (before c cs) (chosen c cs ls (account_then piece_here)) (tokens_up_to (before c cs) (k ∷ ks) a.tokens) (tokens_up_to (chosen c cs ls (account_then piece_here)) ls u.held.tokens)
         (flow_step (n.bit cs)) next refl (grind (arith, same_levels))
         (account c cs (unbroken_around text t f fs k ks e es a some u.held.position u.rest later strict c was) (one_around text t f fs k ks e es a some u.held.position u.rest later piece g.in_line strict c was))

@@ -51,7 +51,7 @@ pub read_outside : (text : List ℕ) (t u : ScannerState) (a : ArrivesBy text t 
 read_outside text t u a piece next gap tok after x same r m n =
     ends_outside text t u None a piece next gap tok after x (ap (λ y. y.position) same) r m (is_written text a.site a.separation piece next tok x here true false a.line a.line_here after (assumption (ap (λ l. is_separation false a.separation l) (sym r.cut) ∙ a.is_filled, r, n, a, no_waiting (has_break piece) (is_waiting after.line) m.no_key, m))) n.begins_none
     (λ strict. goes_of strict text next (with_entries (site_then x piece tok next after) after.line []) u.held.tokens (rw m.no_key refl) m.no_key
-    (subst (λ ts. Completes text next (with_entries (site_then x piece tok next after) after.line []) (λ ws last. ts)) (sym n.tokens_are)
+    (rw n.tokens_are
     (subst (λ es. Completes text next (with_entries (site_then x piece tok next after) after.line es) (λ ws last. a.tokens ++ tokens_then a.site x piece tok next a.line_here)) n.begun
     (outer_completes text a.site a.separation piece next tok x here true false a.line a.line_here after (λ ws last. a.tokens) (λ ws last. a.tokens ++ tokens_then a.site x piece tok next a.line_here) (assumption (ap (λ l. is_separation false a.separation l) (sym r.cut) ∙ a.is_filled, r, n, a, no_waiting (has_break piece) (is_waiting after.line) m.no_key, m))
     (λ ws last h. outer_tokens text a.site a.separation piece next tok x here a.line a.line_here a.is_line a.tokens ws last h)

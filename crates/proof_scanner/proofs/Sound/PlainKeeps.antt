@@ -144,7 +144,7 @@ module _ (text : List ℕ) (t : ScannerState) (a : Arrives text t) (deep : IsDee
 
     pub stands : Onward text t.rest (record (state_after t None d) { held = record (state_after t None d).held { tokens = gone.tokens ++ put t.held.position tok ∷ [] } })
     stands =
-        subst (λ ts. Onward text t.rest (record (state_after t None d) { held = record (state_after t None d).held { tokens = ts ++ put t.held.position tok ∷ [] } })) (sym closed.same_tokens)
+        rw closed.same_tokens
         (node_read text t None d deep a (λ fs ks es f r. is_read fs ks es f r))
 
 -- a plain scalar

@@ -120,7 +120,7 @@ record Passed (column : ℕ) (flow : Bool) (x : Spot) (apart : Bool) (text rest 
 -- in the middle of CR LF a line begins too
 relocated : (column : ℕ) (t : PlainState) (y : Spot) (a passed rest : List ℕ) → IsAt t y a → a ≡ passed ++ rest → tabs_fit column (spot_of t.mode t.folded.leading t.position.col) passed rest ≡ true → tabs_fit column y passed rest ≡ true
 relocated column t y a passed rest (inl e) cut h = subst (λ z. tabs_fit column z passed rest ≡ true) e h
-relocated column t y a [] rest (inr b) cut h = subst (λ z. may_stop z rest ≡ true) (sym b.0) refl
+relocated column t y a [] rest (inr b) cut h = rw b.0 refl
 relocated column t y a (d ∷ p) rest (inr b) cut h = grind (arith, and_parts)
 
 module _ (ctx : Context) (start : Position) where

@@ -24,8 +24,8 @@ property_is_read text t tok rest end r k deep fs ks es flow a =
     let reads = reads_before_none t (state_after t None (property_read t tok rest end r)) (site_then t fs a.site (property_read t tok rest end r)) (r.first ∷ r.more) rest [] refl r.cut refl refl refl refl r.end_is refl k.previous
     a.blocks_are (k.awaits (not (is_empty fs)) x.blocks x.awaits rest ∙ a.awaits_is) a.are_levels a.was_adjacent (refl, refl, refl) in
     let piece_is = r.is_piece (seen (with_entries a.site a.line es) x a.separation) None refl (ap not ((grind arith) ∙ sym (same_flow t.held.key_allowed (is_renewed a.site.before a.separation) fs ks es a.are_entries) ∙ sym (ap is_empty flow))) in
-    let allowed : false ≡ allowed_past None (not (is_empty fs)) (previous_by tok) [] = subst (λ b. false ≡ allowed_past None (not (is_empty fs)) b []) (sym k.previous) (grind arith) in
-    let quiet : begins_free_line (previous_by tok) [] ≡ false = subst (λ b. begins_free_line b [] ≡ false) (sym k.previous) refl in
+    let allowed : false ≡ allowed_past None (not (is_empty fs)) (previous_by tok) [] = rw k.previous (grind arith) in
+    let quiet : begins_free_line (previous_by tok) [] ≡ false = rw k.previous refl in
     let shown : (y : Site) → shown_position y (r.first ∷ r.more) tok rest ≡ y.position = λ y. k.shown y (r.first ∷ r.more) rest in
     assumption (reads, k.act, k.begun, shown, piece_is, deep_for (not (is_empty fs)) tok x (k.least x) (rw (a.blocks_are, a.awaits_is) (grind arith)), k.lines (least_for tok x) (r.first ∷ r.more), k.precedes (not (is_empty fs)) x.blocks (r.first ∷ r.more) rest, allowed, ap not r.in_line, quiet)
 
@@ -33,7 +33,7 @@ property_is_read text t tok rest end r k deep fs ks es flow a =
 property_stands : (text : List ℕ) (t : ScannerState) (tok : Tok) (rest : List ℕ) (end : Position) → IsProperty (in_flow t.held) tok t.held.position t.rest rest end → IsPropertyToken tok → IsDeep t.held → Arrives text t →
     Onward text t.rest (on_held (λ s. push t.held.position tok (unled s)) (record { rest = rest; held = record (node_start t.held) { position = end } }))
 property_stands text t tok rest end r k deep a =
-    subst (λ h. Onward text t.rest (on_held (λ s. push t.held.position tok (unled s)) (record { rest = rest; held = record (allow_key false h) { position = end } }))) (sym (saved_is t.held))
+    rw (saved_is t.held)
     (node_read text t None (property_read t tok rest end r) deep a (property_is_read text t tok rest end r k deep))
 
 -- ---- anchors, aliases and tags

@@ -105,7 +105,7 @@ dash_outside text more t a flow keys e gap allowed deep =
         let w : ScannerState = past_rest v in
         let n : Entered w (roll_entry w) = entered w (ap (λ fs. not (is_empty fs)) flow) r.are_levels (r.is_top deep) in
         exactly _ (held_exactly (roll_entry w) (key_removed (roll_entry w).held)) (λ _. went
-        (subst (λ z. Onward text t.rest (on_held (λ s. push s.position Tok.block_entry (allow_key true s)) (record z { held = record z.held { keys = with_top None z.held.keys } }))) (sym n.is)
+        (rw n.is
         (dash_stands text more t a flow keys e gap allowed apart n.indent n.indents (n.columns_are ∙ r.columns_are) n.are_levels n.awaits)))
 
 -- A dash that begins an entry is read as in the row.
@@ -160,9 +160,9 @@ question_reads t u more y cut rest fills place leads here before columns_are awa
     let far = adjacent_kept t u (before_by y.before) (63 ∷ []) more (white_of false more) refl stop was same.0 (ap before_by before) in
     let cut_then : more ≡ white_of false more ++ u.rest = white_cut false more ∙ ap (λ l. white_of false more ++ l) (sym rest) in
     let filled : is_separation false (white_of false more) u.rest ≡ true = rw rest fills in
-    let no_tabs : HasNoTabs y (white_of false more) u.rest = subst (λ l. HasNoTabs y (white_of false more) l) (sym rest) (grind (arith, no_tab_in_last, no_tab_taken)) in
+    let no_tabs : HasNoTabs y (white_of false more) u.rest = rw rest (grind (arith, no_tab_in_last, no_tab_taken)) in
     let leads_then : IsLeading u.held.leading y (white_of false more) u.rest = λ _ _ _. leads ∙ ap (λ b. begins_line b (white_of false more)) (sym before) in
-    let read_on : IsReadOn y.before y.position (white_of false more) u.rest = subst (λ b. IsReadOn b y.position (white_of false more) u.rest) (sym before) tt in
+    let read_on : IsReadOn y.before y.position (white_of false more) u.rest = rw before tt in
     assumption (cut_then, filled, no_tabs, leads_then, read_on, stop ∙ ap (λ q. position_after q (white_of false more) u.rest) (sym here), far)
 
 pub question_stands : (text more : List ℕ) (t : ScannerState) (a : ArrivesBy text t [] (None ∷ []) []) → t.held.flow ≡ [] → t.held.keys ≡ None ∷ [] → t.rest ≡ 63 ∷ more → t.held.key_allowed ≡ true →

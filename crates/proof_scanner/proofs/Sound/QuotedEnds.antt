@@ -111,7 +111,7 @@ checks p piece t u in_line none is s no_hash follows =
     let same_flow : in_flow u.held ≡ in_flow t.held = ap in_flow s.is_held in
     record {
       spaces = s;
-      may_end = subst (λ r. quoted_may_end (in_flow t.held) piece r ≡ true) (sym cut)
+      may_end = rw cut
           (may_end_by (in_flow t.held) p piece g u.rest u.held.position in_line (no_nul_after g u.rest (subst (λ r. has_no_nul r ≡ true) cut none)) s.is_filled s.no_break (subst (λ r. begins_with 35 r ≡ false) cut no_hash)
           here (subst (λ b. may_follow_quoted b (p.line == u.held.position.line) (peek u.rest) ≡ true) same_flow follows));
     }

@@ -82,7 +82,7 @@ module _ (text : List ℕ) (quotes : Quotes) (t : ScannerState) (a : Arrives tex
 
     skipped : Holds (Cleared quoted_scalar least spaces v.rest) (skip_to_next_token v)
     unfolding skip_to_next_token
-    skipped = skip_clears quoted_scalar least v.rest between spaces v.held (subst (λ h. IsLeast quoted_scalar least h) (sym c.spaces.is_held) (least_is (columns t.held.indent t.held.indents) (has_open_level t.held.indents) now refl refl a.are_levels))
+    skipped = skip_clears quoted_scalar least v.rest between spaces v.held (rw c.spaces.is_held (least_is (columns t.held.indent t.held.indents) (has_open_level t.held.indents) now refl refl a.are_levels))
         (inr (record { leading_is = λ i. ap (λ h. h.leading) c.spaces.is_held ∙ sym no_break; col_is = λ b. absurd (cc (b, no_break)); spaced = λ b. absurd (cc (b, no_break)) }))
 
     module _ (w : ScannerState) (b : Exact v w) (z : Cleared quoted_scalar least spaces v.rest w) where
@@ -163,7 +163,7 @@ module _ (text : List ℕ) (quotes : Quotes) (t : ScannerState) (a : Arrives tex
         )
 
       node : Onward text t.rest (on_held (λ s. push t.held.position tok (adjacent_here s)) w)
-      node = subst (λ h. Onward text t.rest (on_held (λ s. push t.held.position tok (adjacent_here s)) (record { rest = w.rest; held = h }))) (sym held_is)
+      node = rw held_is
           (node_read text t None d deep a is_read)
 
 -- `'` or `"`
@@ -176,4 +176,4 @@ quoted_keeps text quotes t more e deep a =
     (λ v c. chained (both_hold (exact v) (skipped text quotes t a deep x (read_as x i) v c)) (λ w z. went (node text quotes t a deep x (read_as x i) v c w z.0 z.1))))))
   where
     read_as : (x : machine.Read (List ℕ)) → quoted (are_single quotes) (context t.held) t.rest t.held.position ≡ Ok x → QuotedAs (are_single quotes) (context t.held) t.held.position t.rest x
-    read_as x i = subst (λ r. QuotedAs (are_single quotes) (context t.held) t.held.position r x) (sym e) (quoted_as quotes (context t.held) t.held.position more x ((and_parts (not (is_nul (quote_of (are_single quotes)))) (has_no_nul more) (subst (λ r. has_no_nul r ≡ true) e a.is_clean)).1) (subst (λ r. quoted (are_single quotes) (context t.held) r t.held.position ≡ Ok x) e i))
+    read_as x i = rw e (quoted_as quotes (context t.held) t.held.position more x ((and_parts (not (is_nul (quote_of (are_single quotes)))) (has_no_nul more) (subst (λ r. has_no_nul r ≡ true) e a.is_clean)).1) (subst (λ r. quoted (are_single quotes) (context t.held) r t.held.position ≡ Ok x) e i))

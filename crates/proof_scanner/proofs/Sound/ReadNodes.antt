@@ -134,7 +134,7 @@ module _ (text : List ℕ) (t : ScannerState) (level : Option FlowLevel) (k : Op
   goes strict c may = record {
     is_filled = subst (λ y. is_separation false a.separation y ≡ true) r.reads.cut a.is_filled;
     is_solid = r.reads.is_solid;
-    is_piece = subst (λ p. IsPiece (seen (with_entries a.site a.line []) x a.separation) d.piece (next_of d) None p d.tok) (sym (r.shown x)) r.is_piece;
+    is_piece = rw (r.shown x) r.is_piece;
     stands = stands_here text t level [] (k ∷ []) [] a d r;
     line_is = unbroken_node text t k a within deep some d.end d.rest later strict c may;
     after_is = ap (λ y. line_past (strict && is_in_column x.position.col x.blocks) x.position x.blocks y (bit_of t.held.key_allowed c) (line_of c a.line_here)) r.act ∙
@@ -181,7 +181,7 @@ module _ (text : List ℕ) (t : ScannerState) (level : Option FlowLevel) (k : Op
   carried (Some lv) i all cs x is must inner goes = record {
     account = chosen true cs (None ∷ key_then ∷ []) (with_entries (site_then t [] a.site d) taken (first_entry (kind_of lv) ∷ []));
     steps = [];
-    begins = (all true true cs (subst (λ o. MayChoose true true o d.end d.rest) (sym is) (let own_line = key_line t.held.key_allowed is in let stays = i.1 in (omega (arith, stays, own_line), goes)))).0;
+    begins = (all true true cs (rw is (let own_line = key_line t.held.key_allowed is in let stays = i.1 in (omega (arith, stays, own_line), goes)))).0;
     is_inside = refl;
     line_is = ap (λ o. line_by true o taken) is;
     must_be = sym ((subst (λ o. IsOpenOutside o (site_then t [] a.site d).position d.end d.rest (site_of t [] a.site).blocks) is (open_node text t k a within deep some d.end d.rest later (site_then t [] a.site d).position (after_piece t.held.position d.piece (next_of d) r.reads.is_solid))).1 (let own_line = key_line t.held.key_allowed is in let stays = i.1 in (omega (arith, stays, own_line), goes))).must_be ∙ must;
@@ -247,7 +247,7 @@ module _ (text : List ℕ) (t : ScannerState) (level : Option FlowLevel) (f : Fl
         are_numbered = begun_numbered level (length (t.held.tokens ++ (shown_token ∷ []))) (key_past ∷ ks) (numbered_inside t a.tokens k ks shown_token (tokens_before text t f fs k ks e es a) a.are_numbered t.held.key_allowed);
         in_line = λ x y. (r.one_line x y).0;
       }) (record {
-        is_piece = subst (λ p. IsPiece (seen (with_entries a.site a.line (e ∷ es)) (site_of t (f ∷ fs) a.site) a.separation) d.piece (next_of d) None p d.tok) (sym (r.shown (site_of t (f ∷ fs) a.site))) r.is_piece;
+        is_piece = rw (r.shown (site_of t (f ∷ fs) a.site)) r.is_piece;
         stands = stands_here text t level (f ∷ fs) (k ∷ ks) (e ∷ es) a d r;
         choice = λ cs. choice_before t.held.key_allowed (first_choice (choices_around level cs));
         outer = λ cs. pop (choices_around level cs);

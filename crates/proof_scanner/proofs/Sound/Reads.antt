@@ -4,7 +4,7 @@ use Rattle.proof_scanner.proofs.Sound.Common.{adjacent_other, index_after, none_
 
 -- What a step leaves is known, if it goes on, with what else is so.
 pub exactly : {A B C : Type 0} {x : A} {P : B → Type 0} {r : Result A Fault} (k : A → Result B Fault) → Holds (λ u. (u ≡ x) × C) r → (C → Holds P (k x)) → Holds P (r >>= k)
-exactly {P = P} k h f = chained h (λ u d. subst (λ y. Holds P (k y)) (sym d.0) (f d.1))
+exactly {P = P} k h f = chained h (λ u d. rw d.0 (f d.1))
 
 pub held_exactly : {C : Type 0} {x : Held} (t : ScannerState) {r : Result Held Fault} → Holds (λ h. (h ≡ x) × C) r → Holds (λ u. (u ≡ record t { held = x }) × C) (with_held t r)
 held_exactly t {r = r} h = tried t r h (λ s d. (ap (λ y. record t { held = y }) d.0, d.1))

@@ -128,7 +128,7 @@ module _ (before : Previous) (least : ℕ) where
   skip_clears = skip_tells (λ g a s r. Holds (Cleared g a) r) (λ _. Unit {0}) (record {
     ended = λ g s. went (record { passed = []; cut = refl; clear = λ e. absurd (cc e) });
     further = λ g a c s u r next h. (weakened (λ u x. record { passed = c ∷ x.passed; cut = ap (λ y. c ∷ y) x.cut; clear = λ e. subst (λ y. IsAt y u.held) (append_assoc g (c ∷ []) x.passed) (x.clear e) }) h);
-    arrives = λ g a c s at. went (record { passed = []; cut = refl; clear = λ _. subst (λ y. IsAt y s) (sym (append-nil g)) at });
+    arrives = λ g a c s at. went (record { passed = []; cut = refl; clear = λ _. rw (append-nil g) at });
     tab = λ g c s e f l h. tt;
     blank = λ g c e h. tt;
     fails = λ g a c s h. refused;

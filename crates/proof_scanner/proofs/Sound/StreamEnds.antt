@@ -121,7 +121,7 @@ ends_split end (n ∷ ns) h = by (nat_lt end.col n) refl (λ k. ends_split end n
 pub ends_by_levels : (end : Position) (bs : List ℕ) (i : ℕ) (ds : List Indent) → AreLevels i ds → not_ended end.col bs ≡ columns i ds → ends_with_stream end bs ≡ ends_at end bs (not_ended end.col bs) ++ ends_of (length (columns i ds)) (stream_position end)
 ends_by_levels end bs i ds a e =
     let first : FirstIsNot end.col (columns i ds) = subst (λ x. FirstIsNot end.col x) e (first_going_on end.col bs) in
-    ends_split end bs (subst (λ x. NoneDeeper end.col x) (sym e) (levels_below end.col i ds a first)) ∙
+    ends_split end bs (rw e (levels_below end.col i ds a first)) ∙
     ap (λ x. ends_at end bs (not_ended end.col bs) ++ ends_of (length x) (stream_position end)) e
 
 -- ---- the stream's end
@@ -178,8 +178,7 @@ stream_ended text t a e =
     let same : ((unroll_indent 0 (at_stream_end t.held)).position ≡ next_line t.held.position) × ((unroll_indent 0 (at_stream_end t.held)).started ≡ t.held.started) = unroll_keeps 0 (at_stream_end t.held) in
     tried t _ (checked (has_required t.held.keys) (At problem.KeyExpected (next_line t.held.position)) (λ none. went (
       refl,
-      subst (λ x. IsRead text x)
-          (sym (last_tokens t.held a.tokens a.base.site a.base.entries (same_flow t.held.key_allowed (is_renewed a.base.site.before a.separation) t.held.flow t.held.keys a.base.entries a.are_entries) a.are_levels a.tokens_are a.blocks_are))
+      rw (last_tokens t.held a.tokens a.base.site a.base.entries (same_flow t.held.key_allowed (is_renewed a.base.site.before a.separation) t.held.flow t.held.keys a.base.entries a.are_entries) a.are_levels a.tokens_are a.blocks_are)
           (at_end text t a e none),
       same.1,
       same.0,

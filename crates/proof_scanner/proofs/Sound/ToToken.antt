@@ -100,8 +100,8 @@ unfolding skip_to_next_token
 passed_stands text t s = by (begins_separation t.rest) refl
   where
     by : (x : Bool) → begins_separation t.rest ≡ x → Holds (λ u. Stands text u × (begins_separation u.rest ≡ false)) (skip_to_next_token t)
-    by false h = subst (λ r. Holds (λ u. Stands text u × (begins_separation u.rest ≡ false)) r) (sym (skip_stays t.rest t.held h)) (went (s, h))
+    by false h = rw (skip_stays t.rest t.held h) (went (s, h))
     by true h =
         let site : Site = s.base.site in
-        weakened (λ u x. (subst (λ v. Stands text v) (sym x.0.is_state) (now text t u s h x.0 x.1), x.0.solid)) (both_hold (exact t)
+        weakened (λ u x. (rw x.0.is_state (now text t u s h x.0 x.1), x.0.solid)) (both_hold (exact t)
         (skip_clears site.before (least_column site.blocks site.awaits) t.rest between s.separation t.held (least_is site.blocks site.awaits t.held s.blocks_are s.awaits_is s.are_levels) (is_in text t s h)))

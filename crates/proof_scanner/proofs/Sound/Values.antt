@@ -147,7 +147,7 @@ module _ (text more : List ℕ) (t : ScannerState) (k : Key) (a : ArrivesBy text
 
   -- no collection ends here
   same_blocks : not_ended t.held.position.col a.site.blocks ≡ a.site.blocks
-  same_blocks = all_go_on t.held.position.col k.position.col a.site.blocks (a.is_open.1 live).column_is ((not_before_then k.position a.site.position t.held.position (weaker k.position a.site.position a.is_open.0) (subst (λ x. NotBefore a.site.position x) (sym a.position_is) (not_before_after a.site.position a.separation t.rest))).1 live.0)
+  same_blocks = all_go_on t.held.position.col k.position.col a.site.blocks (a.is_open.1 live).column_is ((not_before_then k.position a.site.position t.held.position (weaker k.position a.site.position a.is_open.0) (rw a.position_is (not_before_after a.site.position a.separation t.rest))).1 live.0)
 
   -- no line begins before the colon, and it is near
   quiet : (begins_free_line a.site.before a.separation ≡ false) × (is_near k.position t.held.position ≡ true)
@@ -290,7 +290,7 @@ key_before text t f fs k ks x es a some = by (outside_key es ks) refl
 
     may : (y : Option Key) → outside_key es ks ≡ y → MayChoose true false y t.held.position t.rest → k.position.line ≤ t.held.position.line
     may y i h =
-        let g = (a.completes true false (true ∷ []) (subst (λ z. MayChoose true false z t.held.position t.rest) (sym i) h)).0 in
+        let g = (a.completes true false (true ∷ []) (rw i h)).0 in
         early (keys_before (Some first_account) g.steps (a.separation ++ t.rest) b g.leads tt)
 
     by : (y : Option Key) → outside_key es ks ≡ y → k.position.line ≤ t.held.position.line

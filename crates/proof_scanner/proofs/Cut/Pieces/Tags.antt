@@ -77,7 +77,7 @@ tag_property fl p text more e x k = by x (read_as (ap (λ r. models.tag fl r p) 
           cut = e ∙ ap (λ l. 33 ∷ l) cut;
           in_line = line;
           end_is = position_in_line p (33 ∷ piece) rest line;
-          is_piece = λ a following q flow. ((is, subst (λ b. may_follow b rest ≡ true) (sym flow) follows), sym q);
+          is_piece = λ a following q flow. ((is, rw flow follows), sym q);
         }
 
 -- a tag that was read is the piece of its token
