@@ -174,8 +174,7 @@ module _ (text : List ℕ) (t : ScannerState) (a : Arrives text t) (some : is_em
   header_told style line after e inline ends g (headers.comment h before more lacks is cut) =
       let place : headers.along before (past t.held.position) ≡ position_after t.held.position (indicator_of style ∷ before) (35 ∷ more) =
       (sym (after_chars (indicator_of style ∷ before) [] (35 ∷ more) t.held.position (style_inner style before (inner_first before (35 ∷ more) (ap is_in_line (sym cut) ∙ inline)))) ∙ ap (λ w. position_after t.held.position w (35 ∷ more)) (append-nil (indicator_of style ∷ before))) in
-      rw place
-      (λ _. none_begins text t a some lies CommentNotSeparated _
+      rw place (λ _. none_begins text t a some lies CommentNotSeparated _
       (none.headless style line after CommentNotSeparated _ (ap not out) e inline ends lacks (none.by_comment h before more is cut)) tt)
   header_told style line after e inline ends g (headers.no_header lacks zero more begins) =
       λ _. none_here text t a some lies BlockScalarHeader (none.headless style line after BlockScalarHeader t.held.position (ap not out) e inline ends lacks (none.by_text zero more begins)) tt

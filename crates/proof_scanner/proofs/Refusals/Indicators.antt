@@ -243,8 +243,7 @@ module _ (text : List ℕ) (t : ScannerState) (a : Arrives text t) (some : is_em
       let begins : begins_with_space_or_break more ≡ true = held_of w (white_first more u.held gap) (ap (λ r. white false false r u.held) (sym left) ∙ k) in
       let separation : List ℕ = white_of false u.rest in
       let rest : List ℕ = past_white false u.rest in
-      rw exact.0
-      (checked (peek rest == 9) (At TabAfterKey (position_after u.held.position separation rest)) (λ tab.
+      rw exact.0 (checked (peek rest == 9) (At TabAfterKey (position_after u.held.position separation rest)) (λ tab.
       let first : rest ≡ 9 ∷ after rest = tab_first rest tab in
       followed_at TabAfterKey (position_after u.held.position separation rest) (further 1 t.held.position) separation (9 ∷ after rest)
       (ap (λ q. position_after q separation rest) place ∙ ap (λ r. position_after (further 1 t.held.position) separation r) first)

@@ -198,8 +198,7 @@ module _ (text : List ℕ) (t : ScannerState) (k : Option Key) (a : ArrivesBy te
   -- What stands after a block scalar that was read; the spaces after it are the separation.
   pub block_stands : KnowsKey text (a.separation ++ t.rest) t.held.position k → Onward text t.rest (read_state t w style x)
   block_stands known =
-      rw r.is
-      (rw closed.same_tokens (scalar_stands known))
+      rw r.is (rw closed.same_tokens (scalar_stands known))
 
 -- ---- the function
 

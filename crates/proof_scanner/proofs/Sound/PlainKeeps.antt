@@ -144,8 +144,7 @@ module _ (text : List ℕ) (t : ScannerState) (a : Arrives text t) (deep : IsDee
 
     pub stands : Onward text t.rest (record (state_after t None d) { held = record (state_after t None d).held { tokens = gone.tokens ++ put t.held.position tok ∷ [] } })
     stands =
-        rw closed.same_tokens
-        (node_read text t None d deep a (λ fs ks es f r. is_read fs ks es f r))
+        rw closed.same_tokens (node_read text t None d deep a (λ fs ks es f r. is_read fs ks es f r))
 
 -- a plain scalar
 pub plain_keeps : (text : List ℕ) (t : ScannerState) (a : Arrives text t) → IsDeep t.held → comes_plain (in_flow t.held) (is_adjacent (before_past (before_by a.base.site.before) a.separation)) t.held.position.col t.rest ≡ true → Holds (Onward text t.rest) (fetch_plain_scalar t)

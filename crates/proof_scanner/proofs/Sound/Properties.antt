@@ -33,8 +33,7 @@ property_is_read text t tok rest end r k deep fs ks es flow a =
 property_stands : (text : List ℕ) (t : ScannerState) (tok : Tok) (rest : List ℕ) (end : Position) → IsProperty (in_flow t.held) tok t.held.position t.rest rest end → IsPropertyToken tok → IsDeep t.held → Arrives text t →
     Onward text t.rest (on_held (λ s. push t.held.position tok (unled s)) (record { rest = rest; held = record (node_start t.held) { position = end } }))
 property_stands text t tok rest end r k deep a =
-    rw (saved_is t.held)
-    (node_read text t None (property_read t tok rest end r) deep a (property_is_read text t tok rest end r k deep))
+    rw (saved_is t.held) (node_read text t None (property_read t tok rest end r) deep a (property_is_read text t tok rest end r k deep))
 
 -- ---- anchors, aliases and tags
 

@@ -208,27 +208,22 @@ key_from t v =
     Ok (on_held (push t.held.position Tok.key) x)
 
 -- the same from the separation on
-question_read : {P : ScannerState → Type 0} (more : List ℕ) (p : Position) (h : Held) → is_at_gap more ≡ true →
+question_read : {P : ScannerState → Type 0} (more l : List ℕ) (p : Position) (h : Held) → l ≡ more → is_at_gap more ≡ true →
     (begins_with_space_or_break more ≡ true → has_tab_before_piece false more ≡ false → is_separation false (white_of false more) (past_white false more) ≡ true → P (on_held (push p Tok.key) (past_white_space (record { rest = more; held = h })))) →
-    Holds P (skip_yaml_whitespace (record { rest = more; held = h }) >>= λ w. check_key_space w >>= λ x. Ok (on_held (push p Tok.key) x))
+    Holds P (skip_yaml_whitespace (record { rest = l; held = h }) >>= λ w. check_key_space w >>= λ x. Ok (on_held (push p Tok.key) x))
 unfolding skip_yaml_whitespace
-question_read more p h gap f =
-    exactly {C = (is_separation false (white_of false more) (past_white false more) ≡ true) × (begins_with_space_or_break more ≡ true)} _ (weakened (λ w d. (d.0.0, (d.0.1, d.1))) (both_hold (white_exactly (record { rest = more; held = h })) (white_first more h gap))) (λ d.
-    exactly _ (space_checked more (past_white_space (record { rest = more; held = h })) refl) (λ apart. went (f d.1 apart d.0)))
+question_read more l p h left gap f =
+    rw left (exactly {C = (is_separation false (white_of false more) (past_white false more) ≡ true) × (begins_with_space_or_break more ≡ true)} _ (weakened (λ w d. (d.0.0, (d.0.1, d.1))) (both_hold (white_exactly (record { rest = more; held = h })) (white_first more h gap))) (λ d.
+    exactly _ (space_checked more (past_white_space (record { rest = more; held = h })) refl) (λ apart. went (f d.1 apart d.0))))
 
 question_outside : (text more : List ℕ) (t : ScannerState) (a : ArrivesBy text t [] (None ∷ []) []) → t.held.flow ≡ [] → t.held.keys ≡ None ∷ [] → t.rest ≡ 63 ∷ more → is_at_gap more ≡ true → t.held.key_allowed ≡ true → IsDeep t.held →
     Holds (Onward text t.rest) (key_from t (record t { held = record (roll_indent t.held.position.col None Tok.block_mapping_start t.held.position t.held) { keys = with_top None (roll_indent t.held.position.col None Tok.block_mapping_start t.held.position t.held).keys } }))
 question_outside text more t a flow keys e gap allowed deep =
-    subst (λ r. Holds (Onward text t.rest) (from r (roll_indent t.held.position.col None Tok.block_mapping_start t.held.position t.held))) (sym e)
-    (subst (λ h. Holds (Onward text t.rest) (from (63 ∷ more) h)) (sym r.is_held)
-    (question_read more t.held.position _ gap (λ begins apart fills.
-    (question_stands text more t a flow keys e allowed begins apart fills r.indent r.indents r.columns_are r.are_levels (top_closed r.indents (r.is_top deep)).1))))
+    rw r.is_held (question_read more _ t.held.position _ (ap after e) gap (λ begins apart fills.
+    (question_stands text more t a flow keys e allowed begins apart fills r.indent r.indents r.columns_are r.are_levels (top_closed r.indents (r.is_top deep)).1)))
   where
     r : RollsTo t.held.position.col None (token t.held.position Tok.block_mapping_start) t.held (roll_indent t.held.position.col None Tok.block_mapping_start t.held.position t.held)
     r = rolls_to t.held.position.col None Tok.block_mapping_start t.held.position t.held (ap (λ fs. not (is_empty fs)) flow) a.are_levels (first_not_right t.held.position.col t.held.indent t.held.indents a.are_levels deep)
-
-    from : List ℕ → Held → Result ScannerState Fault
-    from l h = skip_yaml_whitespace (record { rest = after l; held = (record h { keys = with_top None h.keys; key_allowed = not (in_flow h); position = past h.position; leading = false }) }) >>= λ w. check_key_space w >>= λ x. Ok (on_held (push t.held.position Tok.key) x)
 
 -- ---- in flow
 
@@ -282,6 +277,4 @@ key_keeps text more t a e gap deep =
         by_sides text t (λ v. in_flow v.held ≡ true → u ≡ record v.held { flow = keyed v.held.flow } → Holds (Onward text t.rest) (key_from v (record v { held = record u { keys = with_top None u.keys } }))) a
         (λ k x n in_it d. absurd (cc in_it)) (λ f fs k ks y es x _ d.
         subst (λ h. Holds (Onward text t.rest) (key_from (with_sides t (f ∷ fs) (k ∷ ks)) (record t { held = record h { keys = with_top None h.keys } }))) (sym d)
-        (subst (λ l. Holds (Onward text t.rest) (skip_yaml_whitespace (record { rest = after l; held = record t.held { flow = keyed (f ∷ fs); keys = None ∷ ks; key_allowed = not (not (is_empty (keyed (f ∷ fs)))); position = past t.held.position; leading = false } }) >>= λ w.
-        check_key_space w >>= λ x. Ok (on_held (push t.held.position Tok.key) x))) (sym e)
-        (question_read more t.held.position _ gap (λ begins apart fills. question_inside text more _ f fs k ks y es x refl refl e deep begins apart fills)))) in_it d
+        (question_read more _ t.held.position _ (ap after e) gap (λ begins apart fills. question_inside text more _ f fs k ks y es x refl refl e deep begins apart fills))) in_it d
