@@ -1,5 +1,5 @@
 -- A key that is removed, and what the model does after a dash.
-use Rattle.proof_scanner.proofs.Common.{checked, is_required, top_key, false, allow_key, check_dash, Fault, Held, Holds, lexed, No, None, Ok, on_held, push, refl, remove_implicit_key, Result, roll_entry, roll_indent, ScannerState, skip_indicator, skip_spaces, space, Tok, true, try_held, went, with_top, Yes, ◌>>=◌, ◌≡◌, passes}
+use Rattle.proof_scanner.proofs.Common.{checked, is_required, top_key, false, allow_key, check_dash, Fault, Held, Holds, lexed, No, None, Ok, on_held, push, refl, remove_implicit_key, Result, roll_entry, roll_indent, ScannerState, skip_indicator, skip_spaces, space, Tok, true, try_held, went, with_top, Yes, ◌>>=◌, ◌≡◌}
 
 pub key_removed : (s : Held) → Holds (λ u. (u ≡ record s { keys = with_top None s.keys }) × (is_required (top_key s.keys) ≡ false)) (remove_implicit_key s)
 unfolding remove_implicit_key

@@ -1,5 +1,5 @@
 -- A beginning of a row that goes on past a place does so by the step that was read there, from a beginning up to there; and where a piece begins, a way leads.
-use Rattle.proof_scanner.proofs.Common.{[], Account, account_past, ap, arith, Begins, Bool, chosen, clean_up_to_end, Entry, false, first_account, FlowLevel, GoesThrough, has_no_nul, HasRow, is_empty, is_separation, IsLike, IsRowFrom, IsWritten, Key, Leads, length, length-append, line_by, List, may_end, MayChoose, no_nul_after, None, not, Option, outside_key, refl, Row, same_written, ScannerState, Some, spelled, Step, subst, sym, true, up_to_nul, ℕ, ◌++◌, ◌<◌, ◌∙◌, ◌∷◌, ◌≡◌, ◌≤◌}
+use Rattle.proof_scanner.proofs.Common.{[], Account, account_past, ap, arith, Begins, Bool, chosen, clean_up_to_end, Entry, false, first_account, FlowLevel, GoesThrough, has_no_nul, HasRow, is_empty, is_separation, IsLike, IsRowFrom, IsWritten, Key, Leads, length, length-append, line_by, List, may_end, no_nul_after, None, not, Option, outside_key, refl, Row, same_written, ScannerState, Some, spelled, Step, subst, sym, true, up_to_nul, ℕ, ◌++◌, ◌<◌, ◌∙◌, ◌∷◌, ◌≡◌, ◌≤◌}
 use Rattle.defs_token.specs.Piece.{Holds}
 use Rattle.proof_scanner.proofs.Known.Ways.{first_on, gives_up_like, GivesUp, KeepsOn, LeadsBy, Meet, meet, moved, Same, same_place, second_on, strict_way, strictly, Way, way_but_for_key, way_of, With}
 use Rattle.proof_scanner.proofs.Sound.Common.{ArrivesBy, begins_at_start, begins_past, none_chosen, not_none, with_entries}

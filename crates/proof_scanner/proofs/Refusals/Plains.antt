@@ -1,5 +1,5 @@
 -- Faults of plain scalars.
-use Rattle.proof_scanner.proofs.Common.{[], after_plain, allow_key, ap, arith, Arrives, before_by, before_past, begins_left, collection_of, columns, comes_plain, Context, context, false, Fault, fetch_plain_scalar, goes_on, goes_over, HasNoPlainFault, HasTab, in_flow, innermost, is_adjacent, is_empty, IsPlainFault, IsPlainRefusal, least_column, lexed, List, nat_le, nat_lt, nat_tests, no_plain, Ok, on_held, Option, plain_first, Position, position_after, Problem, push, refused_as, ScannerState, scans_end, Style, subst, sym, Tok, true, unroll_non_block_indents, without_open, ℕ, ◌++◌, ◌∙◌, ◌∷◌, ◌≡◌, eqb-true, FlowIndentation, PlainDashInFlow, PlainTab}
+use Rattle.proof_scanner.proofs.Common.{[], allow_key, ap, arith, Arrives, before_by, before_past, begins_left, collection_of, columns, comes_plain, Context, false, Fault, fetch_plain_scalar, goes_on, goes_over, HasNoPlainFault, HasTab, in_flow, innermost, is_adjacent, is_empty, IsPlainFault, IsPlainRefusal, least_column, List, nat_le, nat_lt, nat_tests, no_plain, Option, plain_first, Position, position_after, Problem, refused_as, ScannerState, scans_end, sym, true, unroll_non_block_indents, without_open, ℕ, ◌++◌, ◌∙◌, ◌∷◌, ◌≡◌, eqb-true, FlowIndentation, PlainDashInFlow, PlainTab}
 use Rattle.defs_token.specs.Plain.{inside}
 use Rattle.model_scanner.specs.Plain.{plain}
 use Rattle.proof_lexers.specs.PlainEnds as plains

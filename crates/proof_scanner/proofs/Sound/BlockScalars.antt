@@ -1,5 +1,5 @@
 -- Block scalars: what holds where one begins holds between two fetches after it. No key waits over it, and after it a key may begin.
-use Rattle.proof_scanner.proofs.Common.{Act, Arrives, Block, BlockStyle, Bool, HasNoTabs, Holds, IsLive, IsPiece, IsReadOn, IsTakenBy, Key, KnowsKey, Levels, Line, List, MayChoose, None, NotBefore, Ok, Option, Outside, Position, Previous, Read, ScannerState, Site, SoFar, Some, Tok, Token, [], act_of, allow_key, ap, append-nil, append_assoc, arith, awaits_past, before_by, begins_line, begun_by, block, block_may_end, block_position, block_read, block_scalar, block_style, chosen, collection_of, content_position, false, fetch_block_scalar, folded, free, further_lines_stand, further_position, gives_block_scalar, has_break, has_no_nul, has_tab_within, if◌then◌else◌, inl, innermost, inr, is_break, is_empty, is_in_column, is_indented_by_spaces, is_literal, is_one_of, is_separation, least_column, least_for, lexed, line_past, literal, may_precede, may_stand, nat_tests, no_nul_after, not, on_held, position_after, previous_by, push, read, refl, seen, shown_position, site_at, site_here, site_in, site_past, subst, suc, sym, take, taken, token, tokens_up_to, true, unroll_non_block_indents, went, without_open, without_spaces, ℕ, ◌&&◌, ◌++◌, ◌||◌, ◌∙◌, ◌∷◌, ◌≡◌, ◌⊎◌, eqb-true}
+use Rattle.proof_scanner.proofs.Common.{Act, Arrives, Block, BlockStyle, Bool, HasNoTabs, Holds, IsLive, IsPiece, IsReadOn, IsTakenBy, Key, KnowsKey, Levels, Line, List, MayChoose, None, NotBefore, Ok, Option, Outside, Position, Previous, Read, ScannerState, Site, SoFar, Some, Tok, Token, [], act_of, allow_key, ap, append-nil, append_assoc, arith, awaits_past, before_by, begins_line, begun_by, block, block_may_end, block_position, block_read, block_scalar, block_style, chosen, collection_of, content_position, false, fetch_block_scalar, folded, free, further_lines_stand, further_position, gives_block_scalar, has_break, has_no_nul, has_tab_within, if◌then◌else◌, inl, innermost, inr, is_break, is_empty, is_in_column, is_literal, is_one_of, is_separation, least_column, least_for, line_past, literal, may_precede, may_stand, nat_tests, no_nul_after, not, position_after, previous_by, read, refl, seen, shown_position, site_at, site_here, site_in, site_past, subst, suc, sym, take, taken, token, tokens_up_to, true, unroll_non_block_indents, went, without_open, without_spaces, ℕ, ◌&&◌, ◌++◌, ◌||◌, ◌∙◌, ◌∷◌, ◌≡◌, ◌⊎◌, eqb-true}
 use Rattle.model_scanner.specs.declared.kind.BlockStyle as kind
 use Rattle.model_scanner.specs.declared.kind.BlockStyle.TheVariants.{Literal, Folded}
 use Rattle.defs_token.specs.Account as pieces

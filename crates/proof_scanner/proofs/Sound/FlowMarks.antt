@@ -1,5 +1,5 @@
 -- Commas and closing brackets: what holds where they begin holds between two fetches after them. Outside flow they close nothing.
-use Rattle.proof_scanner.proofs.Common.{[], Act, act_of, adjacent_in_flow, another, ap, append_assoc, AreAround, AreEntries, AreLevels, AreNumbered, arith, Arrives, before_by, before_past, begin_flow, begins_free_line, begins_with, begun_by, begun_outside, blanks_and_comment, Bool, chained, Collection, columns, end_entry, end_flow, ends_at, ends_spaces, entries_by, Entry, eqb-true, false, fetch_flow_collection_end, fetch_flow_collection_start, fetch_flow_entry, first_entry, flow_collection, flow_end, flow_level, flow_start, FlowLevel, free, gives_closing, gives_comma, gives_node, has_no_break, has_no_nul, has_open_level, Held, Holds, if◌then◌else◌, in_block, in_flow, increase_flow_level, Indent, is_blank, is_deeper, is_empty, is_in_column, is_renewed, is_required, is_separation, IsAdjacent, IsEntryOf, IsLine, IsPairOf, IsPiece, Key, least_for, length, level_of, Line, line_past, List, map, Mapping, nat_le, nat_lt, no_nul_after, no_pair, None, not, on_held, Option, other, outside_key, pair_end, past, past_blanks_and_comment, past_line_rest, pop, Position, position_after, position_in_line, Previous, previous_by, push, put, refl, refused, remove_implicit_key, roll_one_col_indent, ScannerState, seen, Site, site_here, site_in, Some, Step, subst, suc, sym, taken, Tok, Token, top_key, tried, true, went, with_keys, with_top, Yes, ℕ, ◌&&◌, ◌++◌, ◌∙◌, ◌∷◌, ◌≡◌, ◌⊎◌, kind_of, length-map}
+use Rattle.proof_scanner.proofs.Common.{[], Act, act_of, adjacent_in_flow, another, ap, append_assoc, AreAround, AreEntries, AreLevels, AreNumbered, arith, Arrives, before_by, before_past, begin_flow, begins_free_line, begins_with, begun_by, begun_outside, blanks_and_comment, Bool, Collection, columns, end_entry, end_flow, ends_at, ends_spaces, entries_by, Entry, eqb-true, false, fetch_flow_collection_end, fetch_flow_collection_start, fetch_flow_entry, first_entry, flow_collection, flow_end, flow_level, flow_start, FlowLevel, free, gives_closing, gives_comma, gives_node, has_no_break, has_no_nul, has_open_level, Held, Holds, if◌then◌else◌, in_block, in_flow, increase_flow_level, Indent, is_blank, is_deeper, is_empty, is_in_column, is_renewed, is_required, is_separation, IsAdjacent, IsEntryOf, IsLine, IsPairOf, Key, least_for, length, level_of, Line, line_past, List, map, Mapping, nat_le, nat_lt, no_nul_after, no_pair, None, not, on_held, Option, other, outside_key, pair_end, past, past_blanks_and_comment, past_line_rest, pop, Position, position_after, position_in_line, Previous, previous_by, push, put, refl, refused, remove_implicit_key, roll_one_col_indent, ScannerState, seen, Site, site_here, site_in, Some, Step, subst, suc, sym, taken, Tok, Token, top_key, true, went, with_keys, with_top, Yes, ℕ, ◌&&◌, ◌++◌, ◌∙◌, ◌∷◌, ◌≡◌, ◌⊎◌, kind_of, length-map}
 use Rattle.proof_scanner.proofs.Cut.FlowEnds.{adjacent_collection, closed_tokens, ended_is, ended_now, ends_by_comma, ends_mapping, ends_sequence, entered, entry_is, entry_now, IsEndOf}
 use Rattle.proof_scanner.proofs.Sound.Steps.{exactly, held_exactly, Onward, adjacent_kept, ArrivesBy, begins_key, by_sides, deep_for, had_as_it_was, indicator_end, indicator_passed, is_clear, IsDeep, IsRead, IsToken, key_gone, keyless, keyless_tokens, keys_along, line_rest_cut, line_rest_fills, line_rest_in_line, line_taken, low_enough, many_around, next_of, node_read, numbered_then, past_it, past_rest_is_clear, past_step, quiet_before, Read, read_outside, reads_before_none, reads_in_line, same_has_break, saved_is, saved_keys, site_of, site_then, started_tokens, state_after, steps_in_flow, tokens_before, with_entries}
 use Rattle.model_scanner.specs.State.{after}

@@ -1,5 +1,5 @@
 -- Anchors, aliases and tags: what holds between two fetches holds after them.
-use Rattle.proof_scanner.proofs.Common.{Arrives, Entry, FlowLevel, Holds, Key, List, NameKind, None, Option, Position, ScannerState, Site, Tok, [], allow_key, anchor_name, anchor_token, another, ap, arith, begins_free_line, false, fetch_anchor, fetch_tag, gives_node, in_flow, is_empty, is_renewed, least_for, mark_of, node_start, not, on_held, previous_by, push, read, refl, seen, shown_position, subst, sym, true, unled, went, ℕ, ◌∙◌, ◌∷◌, ◌≡◌}
+use Rattle.proof_scanner.proofs.Common.{Arrives, Entry, FlowLevel, Holds, Key, List, NameKind, None, Option, Position, ScannerState, Site, Tok, [], anchor_name, anchor_token, another, ap, arith, begins_free_line, false, fetch_anchor, fetch_tag, gives_node, in_flow, is_empty, is_renewed, least_for, mark_of, node_start, not, on_held, previous_by, push, read, refl, seen, shown_position, sym, true, unled, went, ℕ, ◌∙◌, ◌∷◌, ◌≡◌}
 use Rattle.model_scanner.specs.Tag as tags
 use Rattle.proof_scanner.proofs.Sound.Steps.{Onward, IsToken, allowed_past, ArrivesBy, awaits_kept, deep_for, IsDeep, IsRead, node_read, Read, reads_before_none, same_flow, saved_is, site_of, site_then, state_after, with_entries}
 use Rattle.proof_scanner.proofs.Cut.Pieces.Names.{IsProperty, name_property}

@@ -1,5 +1,5 @@
 -- What was read from one state to another: a piece at a site, and a separation after it; and what the scanner holds then that no key decides.
-use Rattle.proof_scanner.proofs.Common.{Account, AreEntries, AreLevels, AreNumbered, Before, Bool, FlowLevel, HasNoTabs, IsAdjacent, IsCarriedOn, IsLeading, IsLine, IsOpenOutside, IsReadOn, Key, KnowsKey, List, MayChoose, Option, Position, Previous, ScannerState, Site, SoFar, Stands, another, arith, before_by, before_past, begins_free_line, begins_line, chosen, columns, false, flow_collection, has_no_break, has_no_nul, has_open_level, is_empty, is_renewed, is_separation, is_waiting, length, no_nul_after, not, ap, length-append, ◌<◌, other, outside_key, position_after, suc, tokens_up_to, true, ℕ, ◌++◌, ◌≡◌, ◌≤◌, ◌⊎◌, eqb-true, nat_tests, chained, subst, sym, tried, Holds, Result, Fault, Held, ◌>>=◌, with_held}
+use Rattle.proof_scanner.proofs.Common.{Account, AreEntries, AreLevels, AreNumbered, Before, Bool, FlowLevel, HasNoTabs, IsAdjacent, IsCarriedOn, IsLeading, IsLine, IsOpenOutside, IsReadOn, Key, KnowsKey, List, MayChoose, Option, Position, Previous, ScannerState, Site, SoFar, Stands, another, arith, before_by, before_past, begins_free_line, begins_line, chosen, columns, false, flow_collection, has_no_break, has_no_nul, has_open_level, is_empty, is_renewed, is_separation, is_waiting, length, no_nul_after, not, ap, length-append, ◌<◌, other, outside_key, position_after, suc, tokens_up_to, true, ℕ, ◌++◌, ◌≡◌, ◌≤◌, ◌⊎◌, eqb-true, nat_tests, chained, tried, Holds, Result, Fault, Held, ◌>>=◌, with_held}
 use Rattle.proof_scanner.proofs.Sound.Common.{adjacent_other, index_after, none_indents, not_none, stands_by}
 
 -- What a step leaves is known, if it goes on, with what else is so.
