@@ -82,7 +82,7 @@ module _ (least : ℕ) (here : Position) (rest : List ℕ) where
     one_sorted clean why1 why2 at1 at2 (inr x) (inl y) = absurd (y.1 x.0 x.1 x.2 x.3 x.4)
     one_sorted clean why1 why2 at1 at2 (inr x) (inr y) =
         let same = one_end single y.0 x.0 y.1 x.1 y.3 x.3 (sym y.2 ∙ x.2) in
-        one_after x.0 x.1 (no_nul_after x.0 x.1 (sym (ap has_no_nul x.2) ∙ clean)) why1 why2 at1 at2 x.5 (subst (λ n. After x.0 n why2 at2) same.1 (subst (λ q. After q y.1 why2 at2) same.0 y.5))
+        one_after x.0 x.1 (no_nul_after x.0 x.1 (sym (ap has_no_nul x.2) ∙ clean)) why1 why2 at1 at2 x.5 (rw (sym same.1) (rw (sym same.0) y.5))
 
   closed : (single : Bool) (piece next : List ℕ) (why : Problem) (at : Position) → rest ≡ piece ++ next → IsQuoted single piece next → closed_first single least piece → After piece next why at → QuotedReason why at
   closed single piece next why at e is fit a = let z = begins_quoted single rest piece next e is in (single, z.0, z.1, inr (piece, next, e, is, fit, a))

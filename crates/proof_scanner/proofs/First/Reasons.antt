@@ -100,7 +100,7 @@ module _ (collection : List ℕ) (here : Position) (rest : List ℕ) (clean : ha
       let same : indicator_of style2 ∷ line2 ≡ indicator_of style ∷ line = sym (line_here style2 line2 after2 cut2 inner2 ends2) ∙ line_here style line after cut inner ends in
       let style_is : style2 ≡ style = style_same style2 style (cc same) in
       let line_is : line2 ≡ line = cc same in
-      one_header style here line lacks why1 why2 at1 at2 n (subst (λ s. IsNoHeader s here line why2 at2) style_is (subst (λ l. IsNoHeader style2 here l why2 at2) line_is m))
+      one_header style here line lacks why1 why2 at1 at2 n (rw (sym style_is) (rw (sym line_is) m))
   one_block why1 why2 at1 at2 (headless style line after why at cut inner ends lacks n first) (fails why3 at3 y other) = absurd (header_here why2 at2 y (ap header_of (line_here style line after cut inner ends) ∙ lacks))
   one_block why1 why2 at1 at2 (fails why at x first) (headless style line after why3 at3 cut inner ends lacks n other) = absurd (header_here why1 at1 x (ap header_of (line_here style line after cut inner ends) ∙ lacks))
   one_block why1 why2 at1 at2 (fails why at x first) (fails why3 at3 y other) = one_fault why1 why2 at1 at2 x first y other

@@ -155,10 +155,10 @@ gives_up_second : (x y z : Account) → GivesUp y z → IsLike x y → IsLike x 
 gives_up_second x y z g i = like_sym z x (gives_up_like y z x g (like_sym x y i))
 
 same_first : (x y z : Account) → x ≡ z → IsLike x y → IsLike z y
-same_first x y z e i = subst (λ u. IsLike u y) e i
+same_first x y z e i = rw (sym e) i
 
 same_second : (x y z : Account) → y ≡ z → IsLike x y → IsLike x z
-same_second x y z e i = subst (λ u. IsLike x u) e i
+same_second x y z e i = rw (sym e) i
 
 abbrev Nothing : Account → Account → List ℕ → Type 0
 Nothing x y after = Unit {0}
@@ -171,8 +171,8 @@ keeps_both : (text : List ℕ) → KeepsOn Same Same (BothBegin text)
 keeps_both text = record {
   first_like = same_first;
   second_like = same_second;
-  first = λ x y z after i g r. (subst (λ u. Begins text after u) g r.0, r.1);
-  second = λ x y z after i g r. (r.0, subst (λ u. Begins text after u) g r.1);
+  first = λ x y z after i g r. (rw (sym g) r.0, r.1);
+  second = λ x y z after i g r. (r.0, rw (sym g) r.1);
   both = λ x y a b v c next i r k l e f. (begins_past text _ x a v next refl k e r.0, begins_past text _ y b (With v c) next refl l f r.1);
 }
 
@@ -185,7 +185,7 @@ keeps_apart text = record {
   first_like = λ x y z g i. gives_up_like x z y g i;
   second_like = same_second;
   first = λ x y z after i g r. (grind (arith, nat_tests, eqb-true, not_below));
-  second = λ x y z after i e r. subst (λ u. BeginsOrApart text x u after) e r;
+  second = λ x y z after i e r. rw (sym e) r;
   both = λ x y a b v c next i r k l e f. on x y a b v c next i r k l e f;
 }
   where
@@ -251,7 +251,7 @@ module _ (text : List ℕ) where
       by (same_place like r e) =
           let cut = one_cut f.account k.account f.separation f.rest k.separation (58 ∷ k.more) f.here here f.stands (stands_keyless here k) like (clean_place f.way) e in
           colon_alone k.account f.account (like_sym f.account k.account like) k.separation k.more here k.is_value k.is_outside k.looked k.has_no_tab_after why at
-          (subst (λ s. FailsFirst f.account s here (58 ∷ k.more) why at) cut.0 (subst (λ r. FailsFirst f.account f.separation here r why at) cut.1 (subst (λ h. FailsFirst f.account f.separation h f.rest why at) cut.2 f.first)))
+          (rw (sym cut.0) (rw (sym cut.1) (rw (sym cut.2) f.first)))
       by (second_on n) =
           no_step_stands (step_of Same (BeginsOrApart text) f.account k.account f.separation f.rest k.separation (58 ∷ k.more) f.here f.stands n (clean_place f.way))
           (clear Same (λ x y e. ap (λ (u : Account). u.site) e) (BeginsOrApart text) f.account k.account f.separation f.rest k.separation (58 ∷ k.more) f.here here f.stands (stands_keyless here k) n (clean_place f.way) (λ _. k.looked.has_no_tab)) why at f.first.fails

@@ -42,9 +42,9 @@ SecondBegins text x y after = Begins text after y × Holds (has_no_nul after)
 pub keeps : (text : List ℕ) → KeepsOn GivesUp Same (SecondBegins text)
 keeps text = record {
   first_like = λ x y z g i. gives_up_like x z y g i;
-  second_like = λ x y z e i. subst (λ u. IsLike x u) e i;
+  second_like = λ x y z e i. rw (sym e) i;
   first = λ x y z after i g r. r;
-  second = λ x y z after i e r. (subst (λ u. Begins text after u) e r.0, r.1);
+  second = λ x y z after i e r. (rw (sym e) r.0, r.1);
   both = λ x y a b v c next i r k l e f. (begins_past text _ y b (With v c) next refl l f r.0, no_nul_after v.piece next (no_nul_after v.separation (v.piece ++ next) r.1));
 }
 
@@ -87,7 +87,7 @@ module _ (text : List ℕ) (t : ScannerState) (some : is_empty t.rest ≡ false)
 
   -- in flow, where no open key is one
   pub way_inside : (f : FlowLevel) (fs : List FlowLevel) (k : Option Key) (ks : List (Option Key)) (e : Entry) (es : List Entry) (a : ArrivesBy text t (f ∷ fs) (k ∷ ks) (e ∷ es)) → Way GivesUp text (a.separation ++ t.rest) (with_entries a.site a.line (e ∷ es))
-  way_inside f fs k ks e es a = subst (λ b. Way GivesUp text (a.separation ++ t.rest) b) (none_chosen (k ∷ ks) base) (by (outside_key es ks) refl)
+  way_inside f fs k ks e es a = rw (sym (none_chosen (k ∷ ks) base)) (by (outside_key es ks) refl)
     where
       base : Account
       base = with_entries a.site a.line (e ∷ es)
@@ -170,5 +170,5 @@ goes_past text a w next way written r h = by g.steps g.is_row g.spells
         to None f k = absurd k
         to (Some b) f k =
             let same : spelled us g.last ≡ next = sym ((same_written a g.account w u next (spelled us g.last) g.is_like written row.0 (sym e) g.holds.1).3) in
-            let there : Begins text next b = subst (λ x. Begins text x b) same (begins_past text before g.account b u (spelled us g.last) (sym e) row.0 f g.holds.0) in
+            let there : Begins text next b = rw (sym same) (begins_past text before g.account b u (spelled us g.last) (sym e) row.0 f g.holds.0) in
             record { account = b; begins = there; steps = us; last = g.last; is_row = k; spells = same }

@@ -133,7 +133,7 @@ module _ (J K : Account → Account → Type 0) (R : Account → Account → Lis
       like = keeps.first_like x y h.0 h.1 i
 
       rest : R h.0 b after2
-      rest = subst (λ z. R h.0 b z) e (keeps.second h.0 y b (spelled (v ∷ vs) after1) like k (keeps.first x y h.0 (spelled (v ∷ vs) after1) i h.1 r))
+      rest = rw (sym e) (keeps.second h.0 y b (spelled (v ∷ vs) after1) like k (keeps.first x y h.0 (spelled (v ∷ vs) after1) i h.1 r))
 
       to : (o : Option Account) → account_past h.0 v (spelled vs after1) ≡ o → LeadsBy J o vs after1 a → Meet J K R a b after1 after2
       to None f l = absurd l

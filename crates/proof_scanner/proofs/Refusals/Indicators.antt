@@ -184,7 +184,7 @@ module _ (text : List ℕ) (t : ScannerState) (a : Arrives text t) (some : is_em
   unfolding check_dash
   dash_checked more e gap outside allowed h place x k =
       let rest : List ℕ = past_blanks_and_comment more in
-      subst (λ (z : Read Whitespace). Faults (Said text) (if z.value.found_tabs && (slice_index z.rest 0 == 45) && is_blank_or_breakz (slice_index z.rest 1) then Err (At TabAfterDash z.position) else Ok (go_on z h))) (line_read more h.position x (no_comment more gap) k)
+      rw (sym (line_read more h.position x (no_comment more gap) k))
       (checked (is_one_of (leading is_blank more) 9 && (slice_index rest 0 == 45) && is_blank_or_breakz (slice_index rest 1)) (At TabAfterDash (past_line_rest h.position more)) (λ all.
       let second = and_parts (is_one_of (leading is_blank more) 9 && (slice_index rest 0 == 45)) (is_blank_or_breakz (slice_index rest 1)) all in
       let first = and_parts (is_one_of (leading is_blank more) 9) (slice_index rest 0 == 45) second.0 in
@@ -245,7 +245,7 @@ module _ (text : List ℕ) (t : ScannerState) (a : Arrives text t) (some : is_em
       let first : rest ≡ 9 ∷ after rest = tab_first rest tab in
       followed_at TabAfterKey (position_after u.held.position separation rest) (further 1 t.held.position) separation (9 ∷ after rest)
       (ap (λ q. position_after q separation rest) place ∙ ap (λ r. position_after (further 1 t.held.position) separation r) first)
-      (none.tab_after_question more separation (after rest) e gap (sym left ∙ (white_cut false u.rest ∙ ap (λ r. separation ++ r) first)) (subst (λ r. is_separation false separation r ≡ true) first exact.1))
+      (none.tab_after_question more separation (after rest) e gap (sym left ∙ (white_cut false u.rest ∙ ap (λ r. separation ++ r) first)) (rw (sym first) exact.1))
       (λ c may. (asks asked c may, begins, no_tab_in false u.rest))) (λ _. goes))
 
   pub question_told : (more : List ℕ) → t.rest ≡ 63 ∷ more → is_at_gap more ≡ true → Faults (Said text) (fetch_key t)
@@ -286,9 +286,9 @@ module _ (text : List ℕ) (t : ScannerState) (a : Arrives text t) (some : is_em
       let may : MayChoose true false (outside_key a.base.entries t.held.keys) t.held.position t.rest = rw key_is tt in
       record {
         stands = λ h. absurd (cc h);
-        is_stuck = no_key (account_by text t a some false []) a.separation more t.held.position (subst (λ r. IsPlace text (account_by text t a some false []) a.separation r t.held.position) e (place text t a some false [] may)) (value_here more e i false []) (in_flow_is text t a some false [] ∙ o)
-            (line_taken false [] (λ _. may) out allowed) (subst (λ r. HasNoKey text a.separation r t.held.position) e (none_waits text t a some top out))
-            (subst (λ r. IsLookedAt (account_by text t a some false []) a.separation t.held.position r) e (looked_at text t a some lies false [])) apart;
+        is_stuck = no_key (account_by text t a some false []) a.separation more t.held.position (rw (sym e) (place text t a some false [] may)) (value_here more e i false []) (in_flow_is text t a some false [] ∙ o)
+            (line_taken false [] (λ _. may) out allowed) (rw (sym e) (none_waits text t a some top out))
+            (rw (sym e) (looked_at text t a some lies false [])) apart;
       }
 
   mapping_told : (more : List ℕ) → t.rest ≡ 58 ∷ more → colon_may_precede more ≡ true → is_value t ≡ true → top_key t.held.keys ≡ None → (s : Held) → in_flow s ≡ in_flow t.held → s.key_allowed ≡ t.held.key_allowed → Faults (Said text) (begin_keyless_mapping t.held.position s)
@@ -300,7 +300,7 @@ module _ (text : List ℕ) (t : ScannerState) (a : Arrives text t) (some : is_em
   unfolding check_after_tab is_alpha is_alphanumeric
   tab_checked more e tab h place x k =
       let letter : (r : List ℕ) → ((peek r == 45) || is_alpha (peek r)) ≡ true → begins_with_alpha r ≡ true = λ r f. grind (arith, same_alpha) in
-      subst (λ (z : Read Whitespace). Faults (Said text) (if not z.value.has_valid_yaml_ws && ((peek z.rest == 45) || is_alpha (peek z.rest)) then Err (At TabAfterColon z.position) else Ok (go_on z h))) (line_read more h.position x (grind arith) k)
+      rw (sym (line_read more h.position x (grind arith) k))
       (checked (not (is_one_of (leading is_blank more) 32) && ((peek (past_blanks_and_comment more) == 45) || is_alpha (peek (past_blanks_and_comment more)))) (At TabAfterColon (past_line_rest h.position more)) (λ all.
       let first = and_parts (not (is_one_of (leading is_blank more) 32)) ((peek (past_blanks_and_comment more) == 45) || is_alpha (peek (past_blanks_and_comment more))) all in
       let alpha : begins_with_alpha (past_blanks_and_comment more) ≡ true = letter (past_blanks_and_comment more) first.1 in

@@ -217,7 +217,7 @@ key_on_its_line text separation rest begin here a r g filled here_is late some s
     first = row_begins (λ x y _. Together x y) together_keeps text (spelled g.steps after) g.account r first_together g.begins row
 
     like : LikeLine (waits begin) first.account.line
-    like = subst (λ l. LikeLine l first.account.line) g.line_is first.is_like.1
+    like = rw (sym g.line_is) first.is_like.1
 
     by : (l : Line) → first.account.line ≡ l → ⊥
     by (waits q) e = ends second.steps second.is_row second.spells
@@ -254,7 +254,7 @@ some_past : (o : Option Account) (ws : List Step) (after : List ℕ) (b : Accoun
 some_past o ws after b h = grind (arith, nat_tests, eqb-true)
 
 leads_waiting : (ws : List Step) (after : List ℕ) (a b : Account) → Waiting a.line a.site → Leads (Some a) ws after b → Waiting b.line b.site
-leads_waiting [] after a b on e = subst (λ (x : Account). Waiting x.line x.site) e on
+leads_waiting [] after a b on e = rw (sym e) on
 leads_waiting (w ∷ ws) after a b on h =
     let c = some_past (account_past a w (spelled ws after)) ws after b h.1 in
     leads_waiting ws after c.0 b (waiting_past a.site a.line a.entries w (spelled ws after) c.0 on h.0 c.1) c.2
@@ -319,7 +319,7 @@ none_at_end text separation rest q g waiting filled none = by g.steps g.is_row g
   where
     by : (ws : List Step) → IsRowFrom (Some g.account) ws g.last → spelled ws g.last ≡ separation ++ rest → ⊥
     by [] row e = none_ends g.account q waiting row.1
-    by (w ∷ ws) row e = at_end g.account w separation (spelled ws g.last) (subst (λ x. is_separation false separation x ≡ true) none filled) row.0 (sym (append-nil separation) ∙ (ap (λ x. separation ++ x) (sym none) ∙ sym e))
+    by (w ∷ ws) row e = at_end g.account w separation (spelled ws g.last) (rw (sym none) filled) row.0 (sym (append-nil separation) ∙ (ap (λ x. separation ++ x) (sym none) ∙ sym e))
 
 -- ---- open keys
 

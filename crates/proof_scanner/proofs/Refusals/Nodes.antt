@@ -36,7 +36,7 @@ module _ (text : List ℕ) (t : ScannerState) (a : Arrives text t) (some : is_em
     tab_stuck d =
         let gap : List ℕ = spaces ++ d.passed in
         let cut : x.rest ≡ gap ++ d.rest = c.spaces.is_rest ∙ (sym (append_assoc c.spaces.blanks c.spaces.comment v.rest) ∙ (ap (λ r. spaces ++ r) d.cut ∙ sym (append_assoc spaces d.passed d.rest))) in
-        let is_filled : is_separation false gap d.rest ≡ true = separation_append false spaces d.passed d.rest (subst (λ r. is_separation false spaces r ≡ true) d.cut c.spaces.is_filled) d.is_filled in
+        let is_filled : is_separation false gap d.rest ≡ true = separation_append false spaces d.passed d.rest (rw (sym d.cut) c.spaces.is_filled) d.is_filled in
         let end : Position = position_after t.held.position scalar (gap ++ d.rest) in
         let place : position_after v.held.position d.passed d.rest ≡ position_after end gap d.rest =
         ap (λ p. position_after p d.passed d.rest) (ap (λ h. h.position) c.spaces.is_held ∙ ap (λ r. position_after x.position spaces r) d.cut) ∙
@@ -44,10 +44,10 @@ module _ (text : List ℕ) (t : ScannerState) (a : Arrives text t) (some : is_em
         rw d.is_fault (λ _. rw place
         (stuck text t a some [] TabInBlockIndentation (position_after end gap d.rest) (λ k may.
         record {
-          fails = may_not_stand (defs.tab_after_quoted single scalar gap d.rest (q.cut ∙ ap (λ r. scalar ++ r) cut) (subst (λ r. (IsQuoted single scalar r)) cut (is text t a some lies single ctx x q same)) is_filled d.goes_on d.is_solid
+          fails = may_not_stand (defs.tab_after_quoted single scalar gap d.rest (q.cut ∙ ap (λ r. scalar ++ r) cut) (rw (sym cut) (is text t a some lies single ctx x q same)) is_filled d.goes_on d.is_solid
               (ap (λ bs. is_indented_by_spaces quoted_scalar bs (site_at_place (account_by text t a some k []) t.held.position).awaits gap) (blocks_by text t a some k []) ∙
               (ap (λ w. is_indented_by_spaces quoted_scalar blocks w gap) (awaits_by text t a some k []) ∙ d.is_indented_by_tab)));
-          is_first = (looked_at text t a some lies k [], rw (least_by text t a some k []) (fits text t a some lies single ctx x q same), subst (λ r. begins_with 35 r ≡ false) cut (unglued (in_flow own.held) scalar x.rest c.may_end));
+          is_first = (looked_at text t a some lies k [], rw (least_by text t a some k []) (fits text t a some lies single ctx x q same), rw (sym cut) (unglued (in_flow own.held) scalar x.rest c.may_end));
         })))
 
     told : Faults (Said text) (skip_to_next_token v)

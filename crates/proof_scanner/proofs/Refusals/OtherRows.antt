@@ -163,6 +163,6 @@ row_at text separation rest a here r p solid some h = by g.steps g.is_row g.spel
         record {
           begins = g.holds;
           is_clear = λ gap content cut fills solid_there some_there.
-              clear_on c.0 ws g.last gap content c.2 cut fills solid_there some_there (no_nul_after gap content (subst (λ n. has_no_nul n ≡ true) cut (no_nul_after w.piece (spelled ws g.last) (subst (λ n. has_no_nul n ≡ true) (sym (step_here g.account w (spelled ws g.last) separation rest row.0 e p.is_filled solid clean).1) clean))));
+              clear_on c.0 ws g.last gap content c.2 cut fills solid_there some_there (no_nul_after gap content (rw (sym cut) (no_nul_after w.piece (spelled ws g.last) (subst (λ n. has_no_nul n ≡ true) (sym (step_here g.account w (spelled ws g.last) separation rest row.0 e p.is_filled solid clean).1) clean))));
           step_at = step_from a g.account c.0 separation rest (spelled ws g.last) here w g.is_like row.0 c.1 e p.is_filled solid clean p.is_here;
         }

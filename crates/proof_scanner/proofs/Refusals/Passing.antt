@@ -44,7 +44,7 @@ module _ (before : Previous) (least : ℕ) where
     cut = ap (λ y. c ∷ y) x.cut;
     is_fault = x.is_fault;
     index_is = let i = x.index_is in omega (arith, i, next);
-    tabbed = subst (λ y. IsTabbed y) (append_assoc g (c ∷ []) x.passed) x.tabbed;
+    tabbed = rw (sym (append_assoc g (c ∷ []) x.passed)) x.tabbed;
   })
   one_more g a c s u r next goes = goes
 
@@ -134,7 +134,7 @@ skip_refused before bs awaits separation t l known = elim (cases_Bool (begins_se
           is_solid = grind (arith, not-true);
           is_fault = fault_of e;
           is_indented_by_tab = tabbed_is before bs awaits (separation ++ (first ++ 9 ∷ blanks))
-              (subst (λ y. begins_line before (separation ++ y) ≡ true) passed_is d.tabbed.0) (subst (λ y. has_tab_within least (last_line (separation ++ y)) ≡ true) passed_is d.tabbed.1);
+              (rw (sym passed_is) d.tabbed.0) (rw (sym passed_is) d.tabbed.1);
         })
       where
         fault_of : {g : Fault} → ◌≡◌ {A = Result ScannerState Fault} (Err f) (Err g) → f ≡ g
@@ -175,7 +175,7 @@ module _ (text : List ℕ) (t : ScannerState) (s : Stands text t) (near : HasNea
       here = position_after t.held.position d.passed d.rest
 
       filled : is_separation false (s.separation ++ d.passed) d.rest ≡ true
-      filled = separation_append false s.separation d.passed d.rest (subst (λ r. is_separation false s.separation r ≡ true) d.cut s.is_filled) d.is_filled
+      filled = separation_append false s.separation d.passed d.rest (rw (sym d.cut) s.is_filled) d.is_filled
 
       here_is : here ≡ position_after s.base.site.position (s.separation ++ d.passed) d.rest
       here_is = ap (λ p. position_after p d.passed d.rest) (s.position_is ∙ ap (position_after s.base.site.position s.separation) d.cut) ∙ sym (position_append s.base.site.position s.separation d.passed d.rest)
@@ -195,7 +195,7 @@ module _ (text : List ℕ) (t : ScannerState) (s : Stands text t) (near : HasNea
 
       place : (c : Bool) → MayChoose true c (outside_key s.base.entries t.held.keys) t.held.position t.rest → IsPlace text (chosen c [] t.held.keys s.base) (s.separation ++ d.passed) d.rest here
       place c may = record {
-        begins = subst (λ r. Begins text r (chosen c [] t.held.keys s.base)) (ap (λ r. s.separation ++ r) d.cut ∙ sym (append_assoc s.separation d.passed d.rest)) (s.completes true c [] may).0;
+        begins = rw (sym (ap (λ r. s.separation ++ r) d.cut ∙ sym (append_assoc s.separation d.passed d.rest))) (s.completes true c [] may).0;
         is_filled = filled;
         is_here = here_is;
       }
@@ -213,7 +213,7 @@ module _ (text : List ℕ) (t : ScannerState) (s : Stands text t) (near : HasNea
             let later = (not_before_after t.held.position d.passed d.rest).0 in
             let inside : is_empty s.base.entries ≡ false = sym (same_flow t.held.key_allowed (is_renewed s.base.site.before s.separation) t.held.flow t.held.keys s.base.entries s.are_entries) ∙ i in
             said (key_waits (chosen false [] t.held.keys s.base) (s.separation ++ d.passed) d.rest TabInBlockIndentation x.position here here
-            (subst (λ r. BeginsButForKey text r x.position (chosen false [] t.held.keys s.base)) (ap (λ r. s.separation ++ r) d.cut ∙ sym (append_assoc s.separation d.passed d.rest)) (s.carries [] x e must inside d.is_some))
+            (rw (sym (ap (λ r. s.separation ++ r) d.cut ∙ sym (append_assoc s.separation d.passed d.rest))) (s.carries [] x e must inside d.is_some))
             (ap not (entries_alike [] t.held.keys s.base.entries ∙ inside)) filled here_is (omega (arith, later, late)) d.goes_on d.is_solid (record { fails = may_not_stand (defs.tab_indents d.is_indented_by_tab); is_first = no_plain }))
       ]
 

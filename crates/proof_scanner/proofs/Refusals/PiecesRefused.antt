@@ -386,7 +386,7 @@ module _ {a : Account} {separation rest : List ℕ} {here : Position} (s : StepA
       (ap (λ es. past_piece (there s) s.step.piece s.step.shown s.next (is_renewed s.account.site.before s.step.separation) s.step.key (line_past_separation (is_in_flow es) (begins_free_line s.account.site.before s.step.separation) s.account.line) es) (no_entries out) ∙
       none_ends (there s) s.step.piece s.step.shown s.next (is_renewed s.account.site.before s.step.separation) s.step.key _ (ap act_of w.2) (taken_there line) (λ q i near.
       let was = waited false (begins_free_line s.account.site.before s.step.separation) s.account.line (waits q) q i refl in
-      none q was.0 (subst (λ f. begins_free_line s.account.site.before f ≡ false) s.separation_is was.1) (subst (λ p. is_near q p ≡ true) s.position_is near))) s.is_past
+      none q was.0 (rw (sym s.separation_is) was.1) (rw (sym s.position_is) near))) s.is_past
 
   -- no TAB indents the line of the row's piece
   pub spaces_indent : is_indented_by_spaces s.account.site.before s.account.site.blocks s.account.site.awaits separation ≡ true
@@ -396,7 +396,7 @@ module _ {a : Account} {separation rest : List ℕ} {here : Position} (s : StepA
   no_late_colon more begin e es cut is are takes had late =
       let flowing : (fs : List Entry) → s.account.entries ≡ fs → may_stand (is_in_flow fs) s.account.site (At s.account s.step s.next) s.step.separation s.step.piece s.step.shown s.next ≡ may_stand (is_in_flow s.account.entries) s.account.site (there s) s.step.separation s.step.piece s.step.shown s.next =
       λ fs i. ap (λ z. may_stand (is_in_flow z) s.account.site (there s) s.step.separation s.step.piece s.step.shown s.next) (sym i) in
-      by s.account.entries refl (subst (λ ds. LikeEntries ds s.account.entries) are s.is_like.2)
+      by s.account.entries refl (rw (sym are) s.is_like.2)
     where
       by : (fs : List Entry) → s.account.entries ≡ fs → LikeEntries (e ∷ es) fs → ⊥
       by [] i like = like

@@ -114,7 +114,7 @@ module _ (single : Bool) (ctx : Context) (start : Position) (least : ℕ) (limit
           let further : p.col ≤ (along (c ∷ take k b) p).col = along_more (c ∷ take k b) p in
           let place : q ≡ after_it single c b (spelled (content code) k) is p = at ∙ sym (content_after single c b code k is p) in
           let still : nat_lt q.col least ≡ false = ap (λ (z : Position). nat_lt z.col least) at ∙ grind (arith, nat_tests, further, deep) in
-          ends_grown c b (spelled (content code) k) is s p here _ i (deep_stands s p.col deep) none (subst (λ z. Ends within z (drop k b) (scan single ctx start (drop k b) gap q now)) place (later within q gap now (in_line still)))
+          ends_grown c b (spelled (content code) k) is s p here _ i (deep_stands s p.col deep) none (rw (sym place) (later within q gap now (in_line still)))
 
       go : ((p.col == 0) && is_document_marker (c ∷ b)) ≡ false → nat_lt p.col least ≡ false → Step single ctx start c b [] p t (spelled (content code) k) → Ends s p (c ∷ b) here
       go none deep (steps _ q at in_gap full unmarked marks j) =

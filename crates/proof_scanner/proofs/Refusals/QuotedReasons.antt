@@ -450,7 +450,7 @@ module _ (single : Bool) (least : ℕ) (start : Position) where
   meet E F x y s p text (stepped c b e is fit none v) (arrived a) = absurd (y s p c b e is fit none a)
   meet E F x y s p text (stepped c b e is fit none v) (stepped _ _ e2 is2 fit2 none2 w) =
       let same : e2 ≡ e = cc (is, is2) in
-      meet E F x y _ _ _ v (subst (λ (z : Spelled). Walk single least start F (past_element s z.element) (position_after p (c ∷ take z.further b) (drop z.further b)) (drop z.further b)) same w)
+      meet E F x y _ _ _ v (rw (sym same) w)
 
   -- ---- two reasons at one place
 
@@ -499,4 +499,4 @@ module _ (single : Bool) (least : ℕ) (start : Position) where
       by : {t : LineStand} {q : Position} {y : List ℕ} (why : Problem) (at : Position) → (why ≡ QuotedDocumentMarker → ⊥) → Wrong single least start t q y why at → Ends t q y → ⊥
       by why at unlike (by_marker h) z = unlike refl
       by why at unlike (placed _ _ none h) (inl i) = cc (none, i)
-      by {t = t} {q = q} why at unlike (placed _ _ none h) (inr i) = at_quote t q why at i.1 (subst (λ y. Place single least start t q y why at) i.0 h)
+      by {t = t} {q = q} why at unlike (placed _ _ none h) (inr i) = at_quote t q why at i.1 (rw (sym i.0) h)

@@ -127,7 +127,7 @@ module _ (text : List ℕ) (t : ScannerState) (a : Arrives text t) (some : is_em
             let es = has_elements single b.body b.value b.value_is in
             let whole : quoted_lines_fit least (element_of single) (none.quote_of single ∷ (b.body ++ none.quote_of single ∷ [])) ≡ true = ap (quoted_lines_fit least (element_of single)) (sym b.piece_is) ∙ i in
             let fit : further_lines_fit least (lines_of es.0) ≡ true = rw (body_between (none.quote_of single) b.body, es.1) at whole in
-            absurd (not_closed single least here within (past here) b.body next es.0 b.ends es.1 (sym (lines_close least (past here).col es.0) ∙ fit) why at unlike (subst (λ r. Reason single least here within (past here) r why at) b.is_text x))
+            absurd (not_closed single least here within (past here) b.body next es.0 b.ends es.1 (sym (lines_close least (past here).col es.0) ∙ fit) why at unlike (rw (sym b.is_text) x))
         | inr i ↦ i
       ]
 
@@ -172,5 +172,5 @@ module _ (text : List ℕ) (t : ScannerState) (a : Arrives text t) (some : is_em
     pub refused_told : has_no_nul more ≡ true → (f : Fault) → quoted single ctx (none.quote_of single ∷ more) here ≡ Err f → Said text f
     refused_told clean f fails = elim (quoted_ends single ctx here least limit (omega (arith, deep, same)) more (some_chars more clean)) [
       | reads y w i ↦ absurd (cc (i, fails))
-      | refused why at h i ↦ let is : At why at ≡ f = cc (i, fails) in subst (λ g. Said text g) is (λ _. told_by f fails why at is h)
+      | refused why at h i ↦ let is : At why at ≡ f = cc (i, fails) in rw (sym is) (λ _. told_by f fails why at is h)
     ]

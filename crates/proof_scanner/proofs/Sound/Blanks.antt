@@ -166,7 +166,7 @@ past_it u more = record { rest = past_blanks_and_comment more; held = record u.h
 -- All blanks and a comment after it are read; the comment does not stand directly there.
 pub indicator_passed : (u : ScannerState) (more : List ℕ) → after_first u.rest ≡ more → Holds (λ v. (v ≡ past_it u more) × (begins_with 35 more ≡ false)) (pass_indicator u)
 unfolding pass_indicator
-indicator_passed u more e = subst (λ r. Holds (λ v. (v ≡ past_it u r) × (begins_with 35 r ≡ false)) (pass_indicator u)) e (rest_skipped (skip_indicator u))
+indicator_passed u more e = rw (sym e) (rest_skipped (skip_indicator u))
 
 -- the position after an indicator
 pub past_one : (p : Position) (c : ℕ) (next : List ℕ) → is_break c ≡ false → position_after p (c ∷ []) next ≡ past p

@@ -90,7 +90,7 @@ module _ (text : List ℕ) (t : ScannerState) (k : Option Key) (a : ArrivesBy te
   some = some_rest t.rest r.piece r.next r.is_text is_solid
 
   clean : has_no_nul r.next ≡ true
-  clean = no_nul_after r.piece r.next (subst (λ l. has_no_nul l ≡ true) r.is_text a.is_clean)
+  clean = no_nul_after r.piece r.next (rw (sym r.is_text) a.is_clean)
 
   least : IsLeast w.indent here.blocks
   least = rw (a.blocks_are ∙ closed.same_columns) closed.is_least
@@ -189,7 +189,7 @@ module _ (text : List ℕ) (t : ScannerState) (k : Option Key) (a : ArrivesBy te
     are_numbered = numbered_past text t k a within deep own t.held.key_allowed;
     carries = λ cs x key m inside some. absurd (cc inside);
     knows = knows_saved text t r.piece r.next tok r.is_text end gap rest place (spaces_cut r.next) k a (
-      (subst (λ l. is_separation false a.separation l ≡ true) r.is_text a.is_filled),
+      (rw (sym r.is_text) a.is_filled),
       (ap not is_solid, subst (λ y. IsPiece (seen (with_entries a.site a.line []) y a.separation) r.piece r.next None (shown_position y r.piece tok r.next) tok) (sym same_site) is_piece),
     ) within deep (ap is_of_node n.act) known;
     completes = λ strict c cs may. then_rows strict c cs key_now refl may;

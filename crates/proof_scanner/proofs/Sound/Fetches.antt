@@ -37,7 +37,7 @@ here_kept text nul t a =
     either (peek t.rest == 0) (λ e.
     let none : t.rest ≡ [] = no_end t.rest a.is_clean e in
     let at : IsPositionIn text [] t.held.position =
-    subst (λ r. IsPositionIn text r t.held.position) none (cut_position text a.separation t.rest a.base a.tokens t.held.position (whole_text text nul) a.position_is (arrives_cut text t a)) in
+    rw (sym none) (cut_position text a.separation t.rest a.base a.tokens t.held.position (whole_text text nul) a.position_is (arrives_cut text t a)) in
     let here : t.held.position ≡ position_after first_position text [] = at.is_position ∙ ap (λ b. position_after first_position b []) (sym (append-nil at.before) ∙ sym at.is_text) in
     weakened (λ u x. inr (x.0, x.1, record { began = x.2 ∙ a.started; position = x.3 ∙ ap next_line here })) (stream_ended text t a none)) (λ e. weakened (λ u x. inl x) (content_kept text t a (goes_on_here t.rest e)))
 

@@ -20,7 +20,7 @@ row_first a [] vs f last r = tt
 row_first a (w ∷ []) vs f last r = ((r.0.0, grind arith), tt)
 row_first a (w ∷ v ∷ ws) vs f last r =
     let same : spelled ((v ∷ ws) ++ vs) f ≡ spelled (v ∷ ws) (spelled vs f) = spelled_append (v ∷ ws) vs f in
-    subst (λ t. IsWritten a w t (Some v.token.tok) × IsRow (account_past a w t) (v ∷ ws) (spelled vs f) None) same
+    rw (sym same)
     (r.0, row_first (account_past a w (spelled ((v ∷ ws) ++ vs) f)) (v ∷ ws) vs f last r.1)
 
 -- a row whose tokens are two lists one after the other
@@ -51,7 +51,7 @@ begun_by text begin ws after last (t ∷ given) more is_text row e =
       after = spelled p.second after;
       are_tokens = ap (λ x. x ∷ given) (sym (ap (first_or t) e)) ∙ ap (λ ts. start_token begin ∷ ts) (sym p.are_given);
       is_text = sym same ∙ is_text;
-      is_row = row_first first_account p.first p.second after last (subst (λ vs. IsRow first_account vs after last) p.are_both row);
+      is_row = row_first first_account p.first p.second after last (rw (sym p.are_both) row);
     })
 
 -- what comes before the last of a list, or all of it
@@ -84,7 +84,7 @@ first_tokens_are_cut text given more t nul run e = by (reached fetch_keeps text 
         inr (begun_by text first_position c.row (s.separation ++ t.rest) None given more c.is_text (c.is_row.is_row None) (sym c.are_tokens ∙ e))
     by (over f r n) = elim (before_last (end_token (rows_are_cuts text t.held.tokens r).end) (start_token (rows_are_cuts text t.held.tokens r).begin ∷ tokens_of (rows_are_cuts text t.held.tokens r).row) given more (sym (rows_are_cuts text t.held.tokens r).are_tokens ∙ e)) [
       | all k ↦ inl
-          (subst (λ ts. IsCut ts text) ((rows_are_cuts text t.held.tokens r).are_tokens ∙ sym k) (rows_are_cuts text t.held.tokens r))
+          (rw (sym ((rows_are_cuts text t.held.tokens r).are_tokens ∙ sym k)) (rows_are_cuts text t.held.tokens r))
       | some others k ↦ inr
           (begun_by text (rows_are_cuts text t.held.tokens r).begin (rows_are_cuts text t.held.tokens r).row (rows_are_cuts text t.held.tokens r).separation (Some stream_end) given others (rows_are_cuts text t.held.tokens r).is_text (rows_are_cuts text t.held.tokens r).is_row k)
     ]

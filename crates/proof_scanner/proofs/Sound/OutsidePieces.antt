@@ -33,7 +33,7 @@ ends_outside text t u k a piece next gap tok after x place r m written idle rows
     let base : Account = with_entries (site_then x piece tok next after) after.line [] in
     stands_so text t u piece next gap [] (None ∷ []) base a.is_clean a.started a.going r (
     let carries : IsCarriedOn text (gap ++ u.rest) u.rest (None ∷ []) base = λ cs x key m inside some. absurd (cc inside) in
-    let completes : (strict c : Bool) (cs : List Bool) → MayChoose strict c None u.held.position u.rest → SoFar strict text (gap ++ u.rest) base (λ ws last. u.held.tokens) = λ strict c cs may. subst (λ y. SoFar strict text y base (λ ws last. u.held.tokens)) r.is_rest (rows strict) in
+    let completes : (strict c : Bool) (cs : List Bool) → MayChoose strict c None u.held.position u.rest → SoFar strict text (gap ++ u.rest) base (λ ws last. u.held.tokens) = λ strict c cs may. rw (sym r.is_rest) (rows strict) in
     assumption (m, carries, completes, knows_none text t piece next tok r.cut u.held.position gap u.rest (r.position_is ∙ ap (λ p. position_after (position_after p piece next) gap u.rest) (sym place)) r.is_rest k a written idle))
 
 -- What was read where no key is open: a piece at a site, and what the scanner holds after it.

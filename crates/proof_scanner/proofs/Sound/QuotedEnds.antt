@@ -112,8 +112,8 @@ checks p piece t u in_line none is s no_hash follows =
     record {
       spaces = s;
       may_end = rw cut
-          (may_end_by (in_flow t.held) p piece g u.rest u.held.position in_line (no_nul_after g u.rest (subst (λ r. has_no_nul r ≡ true) cut none)) s.is_filled s.no_break (subst (λ r. begins_with 35 r ≡ false) cut no_hash)
-          here (subst (λ b. may_follow_quoted b (p.line == u.held.position.line) (peek u.rest) ≡ true) same_flow follows));
+          (may_end_by (in_flow t.held) p piece g u.rest u.held.position in_line (no_nul_after g u.rest (rw (sym cut) none)) s.is_filled s.no_break (rw (sym cut) no_hash)
+          here (rw (sym same_flow) follows));
     }
 
 pub quoted_checked : (p : Position) (piece : List ℕ) (t : ScannerState) → ends_in_line piece ≡ true → has_no_nul t.rest ≡ true → t.held.position ≡ position_after p piece t.rest → Holds (Checked piece t) (check_after_quoted p.line t)

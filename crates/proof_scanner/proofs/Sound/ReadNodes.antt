@@ -132,7 +132,7 @@ module _ (text : List ℕ) (t : ScannerState) (level : Option FlowLevel) (k : Op
 
   goes : (strict c : Bool) → MayChoose strict c key_then d.end d.rest → Goes text a.site a.separation d.piece (next_of d) d.tok x same_site strict (bit_of t.held.key_allowed c) (line_of c a.line) (line_of c a.line_here) (after_by c)
   goes strict c may = record {
-    is_filled = subst (λ y. is_separation false a.separation y ≡ true) r.reads.cut a.is_filled;
+    is_filled = rw (sym r.reads.cut) a.is_filled;
     is_solid = r.reads.is_solid;
     is_piece = rw (r.shown x) r.is_piece;
     stands = stands_here text t level [] (k ∷ []) [] a d r;
@@ -155,7 +155,7 @@ module _ (text : List ℕ) (t : ScannerState) (level : Option FlowLevel) (k : Op
       with_keys 0 (position_after p d.piece y) ws last (site_here false p a.site).blocks (line_by c key_then taken) (with_begun level []) keys_then (before_at p ++ (put (shown_position (site_here false p a.site) d.piece d.tok y) d.tok ∷ [])) in
       node_outer_tokens level a.site a.separation d.piece d.tok strict t.held.key_allowed c k (new_key t) a.line a.line_here d.end d.rest a.tokens ws last r.act r.begun (line_node text t k a within deep some d.end d.rest later)
       may a.no_key (among (length a.tokens) (k ∷ []) a.are_numbered) q
-      (ap length (a.tokens_are ∙ ap before_at q)) (subst (λ p. AreSame k d.end d.rest a.site.blocks (site_here false p a.site).blocks) q (same_node text t k a within deep some d.end d.rest later)) ∙
+      (ap length (a.tokens_are ∙ ap before_at q)) (rw (sym q) (same_node text t k a within deep some d.end d.rest later)) ∙
       (ap (λ y. whole (here y) y) h ∙ (ap (λ p. whole p (next_of d)) (sym place) ∙
       (ap (λ ts. with_keys 0 (site_then t [] a.site d).position ws last x.blocks (line_by c key_then taken) (with_begun level []) keys_then ts)
       (ap (λ ts. ts ++ (put (shown_position x d.piece d.tok (next_of d)) d.tok ∷ [])) (sym a.tokens_are) ∙ ap (λ p. t.held.tokens ++ (put p d.tok ∷ [])) (r.shown x)) ∙
@@ -169,8 +169,8 @@ module _ (text : List ℕ) (t : ScannerState) (level : Option FlowLevel) (k : Op
       (outer_completes text a.site a.separation d.piece (next_of d) d.tok x same_site strict (bit_of t.held.key_allowed c) (line_of c a.line) (line_of c a.line_here) (after_by c) (tokens_up_to (Outer a.site (line_of c a.line)) (k ∷ []) a.tokens)
       (λ ws last. with_keys 0 (site_then t [] a.site d).position ws last x.blocks (line_by c key_then taken) (begun_by d.tok) keys_then (t.held.tokens ++ (own ∷ []))) (goes strict c may) (tokens_past strict c may)
       (completes_at text t [] (k ∷ []) [] a (d.piece ++ next_of d) (position_after a.site.position a.separation (d.piece ++ next_of d)) r.reads.cut place strict (choice_before t.held.key_allowed c) []
-      (subst (λ p. MayChoose strict (choice_before t.held.key_allowed c) k p (d.piece ++ next_of d)) place
-      (subst (λ y. MayChoose strict (choice_before t.held.key_allowed c) k t.held.position y) r.reads.cut (may_node text t k a within deep some d.end d.rest later strict c may)))))
+      (rw (sym place)
+      (rw (sym r.reads.cut) (may_node text t k a within deep some d.end d.rest later strict c may)))))
 
   -- where a flow level begins, a key that must be one is on this line
   carried : (lv : Option FlowLevel) → IsBegun lv t d → ((strict c : Bool) (cs : List Bool) → MayChoose strict c key_then d.end d.rest →
@@ -207,14 +207,14 @@ module _ (text : List ℕ) (t : ScannerState) (level : Option FlowLevel) (k : Op
         carries = carried level r.is_begun rows;
         knows = subst (λ y. KnowsKey text (next_of d) d.end y) (sym same)
             (knows_saved text t d.piece (next_of d) d.tok r.reads.cut d.end d.gap d.rest r.reads.position_is refl k a (
-              (subst (λ y. is_separation false a.separation y ≡ true) r.reads.cut a.is_filled),
+              (rw (sym r.reads.cut) a.is_filled),
               (
                 ap not r.reads.is_solid,
                 subst (λ y. IsPiece (seen (with_entries a.site a.line []) y a.separation) d.piece (next_of d) None (shown_position y d.piece d.tok (next_of d)) d.tok) (sym same_site)
                     (subst (λ p. IsPiece (seen (with_entries a.site a.line []) x a.separation) d.piece (next_of d) None p d.tok) (sym (r.shown x)) r.is_piece),
               ),
             ) within deep (ap is_of_node r.act) known);
-        completes = λ strict c cs may. rows strict c cs (subst (λ y. MayChoose strict c y d.end d.rest) same may);
+        completes = λ strict c cs may. rows strict c cs (rw (sym same) may);
       })
 
 -- ---- in flow

@@ -120,7 +120,7 @@ ends_split end (n ∷ ns) h = by (nat_lt end.col n) refl (λ k. ends_split end n
 -- the same by the levels of indentation that the scanner holds
 pub ends_by_levels : (end : Position) (bs : List ℕ) (i : ℕ) (ds : List Indent) → AreLevels i ds → not_ended end.col bs ≡ columns i ds → ends_with_stream end bs ≡ ends_at end bs (not_ended end.col bs) ++ ends_of (length (columns i ds)) (stream_position end)
 ends_by_levels end bs i ds a e =
-    let first : FirstIsNot end.col (columns i ds) = subst (λ x. FirstIsNot end.col x) e (first_going_on end.col bs) in
+    let first : FirstIsNot end.col (columns i ds) = rw (sym e) (first_going_on end.col bs) in
     ends_split end bs (rw e (levels_below end.col i ds a first)) ∙
     ap (λ x. ends_at end bs (not_ended end.col bs) ++ ends_of (length x) (stream_position end)) e
 
@@ -140,14 +140,14 @@ at_end text t a e required =
     let ends : may_end a.base ≡ true = rw (a.no_key, plain) refl in
     let last : a.separation ++ t.rest ≡ a.separation = ap (λ x. a.separation ++ x) e ∙ append-nil a.separation in
     let own : Completes text a.separation a.base (λ ws z. tokens_up_to a.base t.held.keys a.tokens ws z) =
-    subst (λ x. Completes text a.separation x (λ ws z. tokens_up_to x t.held.keys a.tokens ws z)) (none_chosen t.held.keys a.base)
-    (subst (λ x. Completes text x none (λ ws z. tokens_up_to none t.held.keys a.tokens ws z)) last (a.completes true false [] (outside_free a.base.entries t.held.keys t.held.position t.rest required))) in
+    rw (sym (none_chosen t.held.keys a.base))
+    (rw (sym last) (a.completes true false [] (outside_free a.base.entries t.held.keys t.held.position t.rest required))) in
     let whole : IsRead text (tokens_up_to a.base t.held.keys a.tokens [] a.separation ++ tokens_at_end (position_after a.base.site.position a.separation []) a.base.site.blocks a.base.entries) =
-    completed_at_end text a.separation a.base (λ ws z. tokens_up_to a.base t.held.keys a.tokens ws z) (subst (λ x. is_separation false a.separation x ≡ true) e a.is_filled) ends own in
+    completed_at_end text a.separation a.base (λ ws z. tokens_up_to a.base t.held.keys a.tokens ws z) (rw (sym e) a.is_filled) ends own in
     let put_none : tokens_up_to a.base t.held.keys a.tokens [] a.separation ≡ a.tokens = none_put 0 a.base.site.position [] a.separation a.base.site.blocks a.base.line a.base.entries t.held.keys a.tokens a.no_key plain in
     let same : position_after a.base.site.position a.separation [] ≡ t.held.position = ap (λ x. position_after a.base.site.position a.separation x) (sym e) ∙ sym a.position_is in
-    subst (λ x. IsRead text (x ++ tokens_at_end t.held.position a.base.site.blocks a.base.entries)) put_none
-    (subst (λ x. IsRead text (tokens_up_to a.base t.held.keys a.tokens [] a.separation ++ tokens_at_end x a.base.site.blocks a.base.entries)) same whole)
+    rw (sym put_none)
+    (rw (sym same) whole)
 
 -- what the scanner holds after the ends of all levels
 unrolled_outside : (s : Held) → in_flow s ≡ false → AreLevels s.indent s.indents → ((unroll_indent 0 s).tokens ≡ s.tokens ++ ends_of (length (columns s.indent s.indents)) s.position) × ((unroll_indent 0 s).position ≡ s.position)

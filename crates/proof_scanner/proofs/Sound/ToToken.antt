@@ -44,7 +44,7 @@ open_after (Some k) q p p2 rest rest2 bs before h = (h.0, λ live. let o : IsOpe
 
 module _ (text : List ℕ) (t u : ScannerState) (s : Stands text t) (begins : begins_separation t.rest ≡ true) (e : Exact t u) (c : Cleared s.base.site.before (least_column s.base.site.blocks s.base.site.awaits) s.separation t.rest u) where
   at : is_empty u.rest ≡ false → IsAt s.base.site.before (least_column s.base.site.blocks s.base.site.awaits) (s.separation ++ e.separation) u.held
-  at some = subst (λ g. IsAt s.base.site.before (least_column s.base.site.blocks s.base.site.awaits) (s.separation ++ g) u.held) (append_cancel_right c.passed e.separation u.rest (sym c.cut ∙ e.cut)) (c.clear some)
+  at some = rw (sym (append_cancel_right c.passed e.separation u.rest (sym c.cut ∙ e.cut))) (c.clear some)
 
   abbrev Now : ScannerState
   Now = after_separation t.held e.is_leading e.separation u.rest

@@ -192,7 +192,7 @@ module _ (text more : List ℕ) (t : ScannerState) (k : Key) (a : ArrivesBy text
       (is_written text a.site a.separation (58 ∷ []) more Tok.value x same_site true false (waits k.position) (waits k.position) outside_after (grind (arith, (ap is_empty e), quiet, no_waiting))) refl
       (λ strict. goes_of strict text more (outer_then text a.site a.separation (58 ∷ []) more Tok.value x same_site outside_after) keyed_end.held.tokens refl refl
       (outer_completes text a.site a.separation (58 ∷ []) more Tok.value x same_site true false (waits k.position) (waits k.position) outside_after (tokens_up_to (Outer a.site (waits k.position)) (Some k ∷ []) a.tokens) (λ ws last. keyed_end.held.tokens) (grind (arith, (ap is_empty e), quiet, no_waiting)) keyed_tokens
-      (subst (λ y. Completes text (a.separation ++ y) (Outer a.site (waits k.position)) (tokens_up_to (Outer a.site (waits k.position)) (Some k ∷ []) a.tokens)) e (a.completes true true [] live))))
+      (rw (sym e) (a.completes true true [] live))))
 
   pub keyed_outside : Holds (Onward text t.rest) (value_by more t [] (Some k ∷ []))
   unfolding insert_key begin_pair

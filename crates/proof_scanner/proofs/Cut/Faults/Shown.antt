@@ -41,7 +41,7 @@ module _ (text : List ℕ) (t : ScannerState) (a : Arrives text t) where
 
   -- where a piece begins is a position after a row of pieces
   spot : (rest : List ℕ) → t.rest ≡ rest → IsSpot text rest now
-  spot rest e = subst (λ r. IsSpot text r now) e (record {
+  spot rest e = rw (sym e) (record {
     row = c.row;
     separation = a.separation;
     is_text = c.is_text;

@@ -36,6 +36,6 @@ module _ (a : Account) (more body rest value : List ℕ) where
 pub quoted_is_read : QuotedIsRead
 quoted_is_read a quotes ctx more r nul e =
     let q : IsQuotedRead (are_single quotes) more r = read_as e (scans_end (are_single quotes) ctx more a.position (some_chars more nul)) in
-    let there = body_read (are_single quotes) ctx a.position (ctx.indent - 1) (λ k. same_limit k ctx.indent) q.body r (subst (λ l. list_all is_some l ≡ true) q.is_text (some_chars more nul))
+    let there = body_read (are_single quotes) ctx a.position (ctx.indent - 1) (λ k. same_limit k ctx.indent) q.body r (rw (sym q.is_text) (some_chars more nul))
     (ap (λ l. quoted (are_single quotes) ctx (quote_of (are_single quotes) ∷ l) a.position) (sym q.is_text) ∙ e) in
     found a more q.body r.rest r.value quotes r.position q.is_text q.is_value q.may_end there.end_is
