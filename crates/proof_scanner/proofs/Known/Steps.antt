@@ -1,5 +1,5 @@
 -- What is known of keys that wait, after a step: from what was known before it.
-use Rattle.proof_scanner.proofs.Common.{[], Account, Act, act_of, ap, arith, Begins, begins_free_line, Bool, Entry, eqb-true, false, FlowLevel, free, gives_block_scalar, gives_node, is_empty, is_far, is_in_column, is_in_flow, IsLineHere, IsWritten, Key, KnowsKey, LikeLine, Line, line_by, line_past, line_past_separation, List, must_be_key, nat_tests, None, not, not-true, Option, Outside, outside_key, Position, position_after, refl, same_flow, ScannerState, Site, site_here, Some, Step, subst, sym, taken, Tok, true, up_to_nul, waits, ℕ, ◌++◌, ◌+◌, ◌∙◌, ◌∷◌, ◌≡◌, ◌≤◌, first_account, IsAt}
+use Rattle.proof_scanner.proofs.Common.{[], Account, Act, act_of, ap, arith, Begins, begins_free_line, Bool, Entry, eqb-true, false, FlowLevel, free, gives_block_scalar, gives_node, is_empty, is_far, is_in_column, is_in_flow, IsLineHere, IsWritten, Key, KnowsKey, LikeLine, Line, line_by, line_past, line_past_separation, List, nat_tests, None, not, not-true, Option, Outside, outside_key, Position, position_after, refl, same_flow, ScannerState, Site, site_here, Some, Step, subst, sym, taken, Tok, true, up_to_nul, waits, ℕ, ◌++◌, ◌+◌, ◌∙◌, ◌∷◌, ◌≡◌, ◌≤◌, first_account, IsAt}
 use Rattle.proof_scanner.proofs.Sound.Common.{ArrivesBy, index_after, IsDeep, not_before_after, not_before_same, saved, some_rest, with_entries, begins_at_start}
 use Rattle.proof_scanner.proofs.Known.Rows.{begins_whole, Came, came_by, goes_past, way_inside, way_outside}
 use Rattle.proof_scanner.proofs.Known.Made.{begun, inside, kept, Made, made, outside, same_of, still_there, waited, Waits, waits_past}
@@ -147,8 +147,7 @@ module _ (text : List ℕ) (t : ScannerState) (piece next : List ℕ) (tok : Tok
       IsWritten (with_entries a.site a.line (e ∷ es)) (keyless a.separation piece tok) next → KnowsKey text (gap ++ rest) q (outside_key es ks)
   knows_inside f fs k ks e es a written =
       later (outside_key es ks) (known_inside text (with_entries a.site a.line (e ∷ es)) (keyless a.separation piece tok) next written t.held.position (outside_key es ks) refl
-      (rw (sym cut) (way_inside text t (goes_on written.1.0) f fs k ks e es a))
-      (rw (sym cut) (a.knows refl)))
+      (rw (sym cut) (way_inside text t (goes_on written.1.0) f fs k ks e es a)) (rw (sym cut) (a.knows refl)))
 
   module _ (k : Option Key) (a : ArrivesBy text t [] (k ∷ []) []) (written : IsWritten (with_entries a.site a.line []) (keyless a.separation piece tok) next) where
     way : (c : Bool) × Way GivesUp text (a.separation ++ (piece ++ next)) (with_entries a.site (line_by c k a.line) [])
@@ -162,5 +161,4 @@ module _ (text : List ℕ) (t : ScannerState) (piece next : List ℕ) (tok : Tok
         let here : t.held.position ≡ position_after a.site.position a.separation (piece ++ next) = a.position_is ∙ ap (λ r. position_after a.site.position a.separation r) cut in
         later (saved t.held.key_allowed (new_key t) k) (known_saved text a.site a.line a.line_here t.held.key_allowed k (new_key t) (keyless a.separation piece tok) next written keyed
         (line_node text t k a out deep (goes_on written.1.0) t.held.position t.rest (not_before_same t.held.position)) a.is_line way.0 way.1 t.held.position here
-        (rw (sym here) (must_be_here text t k a out deep))
-        (rw (sym cut) n))
+        (rw (sym here) (must_be_here text t k a out deep)) (rw (sym cut) n))

@@ -1,5 +1,5 @@
 -- Faults of names, tags and scalars: no such piece begins with the text.
-use Rattle.proof_scanner.proofs.Common.{anchor_name, and_parts, ap, are_single, Arrives, context, false, Fault, fetch_anchor, fetch_flow_scalar, fetch_tag, has_no_nul, in_flow, is_empty, is_nul, List, mark_of, NameKind, names_end, node_start, not, Ok, quoted, Quotes, Read, refused_as, ScannerState, subst, sym, tags_end, true, ℕ, ◌∙◌, ◌∷◌, ◌≡◌, [], append_assoc, begins_with, Bool, check_after_quoted, columns, Context, has_break, has_open_level, held_of, inr, is_indented_by_spaces, is_separation, IsQuoted, may_not_stand, no_nul_after, Position, position_after, position_append, quoted_scalar, site_at_place, skip_to_next_token, ◌++◌, arith, eqb-true, nat_tests, AnchorName, TabInBlockIndentation, Alias, Anchor}
+use Rattle.proof_scanner.proofs.Common.{anchor_name, and_parts, ap, are_single, Arrives, context, false, Fault, fetch_anchor, fetch_flow_scalar, fetch_tag, has_no_nul, in_flow, is_empty, is_nul, List, mark_of, NameKind, names_end, node_start, not, Ok, quoted, Quotes, Read, refused_as, ScannerState, subst, sym, tags_end, true, ℕ, ◌∙◌, ◌∷◌, ◌≡◌, [], append_assoc, Bool, check_after_quoted, columns, Context, has_break, has_open_level, held_of, inr, is_indented_by_spaces, is_separation, may_not_stand, no_nul_after, Position, position_after, position_append, quoted_scalar, site_at_place, skip_to_next_token, ◌++◌, arith, eqb-true, nat_tests, AnchorName, TabInBlockIndentation, Alias, Anchor}
 use Rattle.proof_scanner.proofs.Refusals.Common.{Checked, Faults, IsDeep, LiesDeep, QuotedAs, Said, account_by, awaits_by, blocks_by, goes, in_line, in_turn, least_by, least_is, looked_at, mapped, none_here, quoted_as, quoted_checked, read, same_has_break, saved_is, separation_append, stuck}
 use Rattle.proof_scanner.proofs.Refusals.Quotes.{after_told, refused_told, closed, piece, is, fits}
 use Rattle.proof_scanner.proofs.Refusals.AfterQuoted.{unglued}

@@ -1,5 +1,5 @@
 -- Faults of quoted scalars: a further line is not indented, or what stands after the scalar may not follow it.
-use Rattle.proof_scanner.proofs.Common.{inr, inl, cases_Bool, [], ap, append-nil, append_assoc, are_indented, AreNotIndented, arith, Arrives, At, begins_separation, begins_with, bodies_are_read, Bool, check_after_quoted, closed_first, content, Context, element_of, ends_before, ends_spaces, Err, false, Fault, go_on, has_marker, has_no_nul, held_of, in_flow, is_breakz, is_document_marker, is_empty, IsBadEscape, IsQuoted, IsQuotedFault, lines_first, List, may_follow_quoted, nat_lt, no_quoted, node_start, not-true, off_margin, Ok, on_held, past, past_elements, peek, Position, position_after, Problem, quote_of, quoted, quoted_lines_fit, quoted_may_end, Read, refl, Result, ScannerState, skip_spaces, Some, subst, sym, tab, true, unled, value_of, within, Yes, ℕ, ◌++◌, ◌+◌, ◌-◌, ◌==◌, ◌∙◌, ◌∷◌, ◌≡◌, further_lines_fit, lines_of, eqb-true, nat_tests, and_parts, CommentNotSeparated, ContentAfterQuoted, QuotedDocumentMarker, QuotedEnd, QuotedIndentation, TabAsIndentation, neither}
+use Rattle.proof_scanner.proofs.Common.{inr, inl, cases_Bool, [], ap, append-nil, append_assoc, are_indented, AreNotIndented, arith, Arrives, At, begins_separation, begins_with, bodies_are_read, Bool, check_after_quoted, closed_first, content, Context, element_of, ends_before, ends_spaces, Err, false, Fault, go_on, has_marker, has_no_nul, held_of, in_flow, is_breakz, is_document_marker, is_empty, IsBadEscape, IsQuoted, IsQuotedFault, lines_first, List, may_follow_quoted, nat_lt, no_quoted, node_start, not-true, off_margin, Ok, on_held, past, past_elements, peek, Position, position_after, Problem, quote_of, quoted, quoted_lines_fit, quoted_may_end, Read, refl, Result, ScannerState, skip_spaces, Some, sym, tab, true, unled, value_of, within, Yes, ℕ, ◌++◌, ◌+◌, ◌-◌, ◌==◌, ◌∙◌, ◌∷◌, ◌≡◌, further_lines_fit, lines_of, eqb-true, nat_tests, and_parts, CommentNotSeparated, ContentAfterQuoted, QuotedDocumentMarker, QuotedEnd, QuotedIndentation, TabAsIndentation, neither}
 use Rattle.proof_lexers.specs.QuotedScan as scans
 use Rattle.proof_scanner.proofs.Refusals.Common.{Faults, IsDeep, IsWhy, LiesDeep, QuotedAs, Said, Spaced, either, fault, followed_stuck, goes, in_turn, looked_at, none_here, piece_of, saved_is, solid_past, some_chars, spaces_skipped, spaces_told, stuck_by, unglued}
 use Rattle.proof_scanner.proofs.Sound.QuotedBreaks.{same_limit, has_elements, body_between}

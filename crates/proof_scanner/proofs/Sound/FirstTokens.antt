@@ -1,7 +1,7 @@
 -- The first of a text's tokens are a cut of a beginning of it.
-use Rattle.proof_scanner.proofs.Common.{[], ap, arith, begins, end_token, Fares, first_position, has_no_nul, inl, inr, is_empty, IsCut, IsCutOfBeginning, IsCutUpTo, IsRow, IsWhere, List, None, Option, over, Position, Reaches, refl, rows_are_cuts, ScannerState, Some, spelled_append, start, start_token, stream_end, subst, sym, Tok, Token, tokens_of, true, up_to_nul, Written, ℕ, ◌++◌, ◌∙◌, ◌∷◌, ◌≡◌, ◌⊎◌, goes}
+use Rattle.proof_scanner.proofs.Common.{[], ap, arith, begins, end_token, Fares, first_position, has_no_nul, inl, inr, is_empty, IsCut, IsCutOfBeginning, IsCutUpTo, IsRow, IsWhere, List, None, Option, over, Position, Reaches, refl, rows_are_cuts, ScannerState, Some, spelled_append, start, start_token, stream_end, sym, Tok, Token, tokens_of, true, up_to_nul, Written, ℕ, ◌++◌, ◌∙◌, ◌∷◌, ◌≡◌, ◌⊎◌, goes}
 use Rattle.defs_token.specs.Account.{Account, first_account}
-use Rattle.defs_token.specs.Cut.{account_past, IsWritten, spelled}
+use Rattle.defs_token.specs.Cut.{account_past, spelled}
 use Rattle.proof_scanner.specs.Laws.{TokensAreACut}
 use Rattle.proof_scanner.proofs.Refusals.Common.{cut_position, fetch_keeps, reached, stands_cut, tokens_are_of_a_row, whole_text}
 
@@ -20,8 +20,7 @@ row_first a [] vs f last r = tt
 row_first a (w ∷ []) vs f last r = ((r.0.0, grind arith), tt)
 row_first a (w ∷ v ∷ ws) vs f last r =
     let same : spelled ((v ∷ ws) ++ vs) f ≡ spelled (v ∷ ws) (spelled vs f) = spelled_append (v ∷ ws) vs f in
-    rw (sym same)
-    (r.0, row_first (account_past a w (spelled ((v ∷ ws) ++ vs) f)) (v ∷ ws) vs f last r.1)
+    rw (sym same) (r.0, row_first (account_past a w (spelled ((v ∷ ws) ++ vs) f)) (v ∷ ws) vs f last r.1)
 
 -- a row whose tokens are two lists one after the other
 record Parted (ws : List Written) (given more : List Token) : Type 0 where

@@ -1,5 +1,5 @@
 -- A step outside flow: if the definition and the scanner agree on what may begin after it and on its tokens, whatever completes the row after it completes it from before.
-use Rattle.proof_scanner.proofs.Common.{Account, Bool, IsCutUpTo, IsPiece, IsWritten, Line, List, None, Outside, Site, SoFar, Some, Step, Tok, Token, [], act_of, ap, arith, begins_free_line, begun_by, begun_outside, cut_past_no_key, ends_at, false, has_break, is_deeper, is_empty, is_in_column, is_separation, is_waiting, line_past, line_past_separation, may_stand, not, past_by, past_outside, past_site, put, refl, seen, shown_position, site_at, site_past, spelled, subst, sym, tokens_of_step, true, ℕ, ◌&&◌, ◌++◌, ◌∙◌, ◌∷◌, ◌≡◌}
+use Rattle.proof_scanner.proofs.Common.{Account, Bool, IsPiece, IsWritten, Line, List, None, Outside, Site, SoFar, Some, Step, Tok, Token, [], act_of, ap, arith, begins_free_line, begun_by, begun_outside, cut_past_no_key, ends_at, false, has_break, is_deeper, is_empty, is_in_column, is_separation, is_waiting, line_past, line_past_separation, may_stand, not, past_by, past_outside, past_site, put, refl, seen, shown_position, site_at, site_past, spelled, subst, sym, tokens_of_step, true, ℕ, ◌&&◌, ◌++◌, ◌∙◌, ◌∷◌, ◌≡◌}
 use Rattle.proof_scanner.proofs.Sound.Completed.{completed_past}
 
 -- an account outside flow

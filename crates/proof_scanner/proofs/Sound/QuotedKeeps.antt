@@ -1,5 +1,5 @@
 -- Quoted scalars: what holds between two fetches holds after them.
-use Rattle.proof_scanner.proofs.Common.{list_all, is_some, Arrives, Bool, Context, Entry, FlowLevel, HasNoTabs, Held, Holds, IsPiece, IsQuotedRead, Key, List, None, Ok, Option, Position, Quotes, ScannerState, Site, Some, Tok, [], adjacent_here, allow_key, and_parts, ap, append_assoc, append_cancel_right, are_single, arith, begins_with, between, both_hold, chained, columns, context, element_of, ends_before, false, fetch_flow_scalar, gives_node, go_on, has_break, has_no_nul, has_open_level, in_flow, inr, is_break, is_empty, is_nul, is_separation, least_column, no_nul_after, not, not-true, on_held, position_after, position_append, push, quote_of, quoted, quoted_lines_fit, quoted_may_end, quoted_scalar, quoted_style, read, read_as, refl, skip_to_next_token, subst, sym, true, unled, value_of, went, ℕ, ◌&&◌, ◌++◌, ◌-◌, ◌||◌, ◌∙◌, ◌∷◌, ◌≡◌, ◌≤◌, eqb-true, nat_tests}
+use Rattle.proof_scanner.proofs.Common.{Arrives, Bool, Context, Entry, FlowLevel, HasNoTabs, Held, Holds, IsPiece, IsQuotedRead, Key, List, None, Ok, Option, Position, Quotes, ScannerState, Site, Some, Tok, [], adjacent_here, allow_key, and_parts, ap, append_assoc, append_cancel_right, are_single, arith, begins_with, between, both_hold, chained, columns, context, element_of, ends_before, false, fetch_flow_scalar, gives_node, go_on, has_break, has_no_nul, has_open_level, in_flow, inr, is_break, is_empty, is_nul, least_column, no_nul_after, not, not-true, on_held, position_after, position_append, push, quote_of, quoted, quoted_lines_fit, quoted_may_end, quoted_scalar, quoted_style, read, read_as, refl, skip_to_next_token, subst, sym, true, unled, value_of, went, ℕ, ◌&&◌, ◌++◌, ◌-◌, ◌||◌, ◌∙◌, ◌∷◌, ◌≡◌, ◌≤◌, eqb-true, nat_tests}
 use Rattle.defs_token.specs.Account.{Account as PieceAccount}
 use Rattle.model_scanner.specs.Machine as machine
 use Rattle.proof_lexers.specs.PlainEnds as plains

@@ -1,5 +1,5 @@
 -- What the scan of a quoted scalar reads is its piece.
-use Rattle.proof_scanner.proofs.Common.{◌-◌, subst, [], and_parts, ap, append_assoc, are_single, begins_with, Bool, ends_before, has_no_nul, is_some, IsPiece, IsQuotedRead, List, list_all, not, Option, Position, position_after, quote_of, quoted, quoted_style, QuotedIsRead, Quotes, read_as, ReadAs, refl, scalar, Some, sym, Tok, true, value_of, ℕ, ◌++◌, ◌==◌, ◌∙◌, ◌∷◌, ◌≡◌, arith, nat_tests, eqb-true}
+use Rattle.proof_scanner.proofs.Common.{◌-◌, [], and_parts, ap, append_assoc, are_single, begins_with, Bool, ends_before, has_no_nul, is_some, IsPiece, IsQuotedRead, List, list_all, not, Option, Position, position_after, quote_of, quoted, quoted_style, QuotedIsRead, Quotes, read_as, ReadAs, refl, scalar, Some, sym, Tok, true, value_of, ℕ, ◌++◌, ◌==◌, ◌∙◌, ◌∷◌, ◌≡◌, arith, nat_tests, eqb-true}
 use Rattle.defs_text.specs.Classes as classes
 use Rattle.defs_token.specs.Account.{Account}
 use Rattle.proof_lexers.proofs.Quoted.ScanEnds.{scans_end}
