@@ -3,7 +3,7 @@ pub use Rattle.std.proofs.Common.{[], ap, append-nil, append_assoc, arith, Bool,
 pub use Rattle.std.proofs.Math.Bool.{or-false, or-true}
 pub use Rattle.std.proofs.lemmas.Bool.{cases_Bool, and_parts, eqb-true, not-false, not-true, or_left, or_parts, or_right}
 pub use Rattle.std.proofs.lemmas.Bool.Decides.{nat_tests}
-pub use Rattle.std.proofs.lemmas.List.{append_cancel_left, append_cancel_right, drop-append-le, length-take, replicate-append-replicate, take-append-drop, take-append-le}
+pub use Rattle.std.proofs.lemmas.List.{append_cancel_left, append_cancel_right, drop-append-le, length-take, replicate-append-replicate, take-append-drop, take-append-le, length-map}
 pub use Rattle.std.specs.Char.{digit_value, is_digit}
 pub use Rattle.std.specs.List.{insert, list_all, list_any}
 pub use Rattle.defs_text.specs.BlockScalar.{after_digit, after_sign, after_style, all_lines, block_value, BlockStyle, Body, body, Chomping, digit_or_end, Ending, first_indicator, folded, further_text, Header, header_of, is_further_text, is_outside, is_spaces, keep, leading_spaces, literal, sign_or_end, starts_with_tab, strip}
@@ -26,7 +26,7 @@ pub use Rattle.defs_token.specs.Column.{blocks_at, innermost, is_deeper, is_in_c
 pub use Rattle.defs_token.specs.Cut.{account_past_row, end_token, first_token, IsCut, IsCutOfBeginning, IsRow, start_token, tokens_of, Written}
 pub use Rattle.defs_token.specs.FlowEntry.{asked_pair, begun_by, entries_past, Entry, filled, first_entry, fresh, Had, had_after, has_no_pair, is_keyed, is_no_comment, is_renewed, no_pair, Pair, pair_past, renewed, settled, single_pair, takes_pair}
 pub use Rattle.defs_token.specs.Following.{are_empty, block_may_end, goes_on_quoted, line_is_done, lines_may_end, may_precede, quoted_may_end, read_may_end}
-pub use Rattle.defs_token.specs.Indentation.{awaits_past, begins_entry, begins_line, begins_with_alpha, colon_may_precede, dash_may_precede, follows_plain, has_tab_before_piece, has_tab_within, is_at_break_or_flow, is_indented_by_spaces, last_line, least_column}
+pub use Rattle.defs_token.specs.Indentation.{awaits_past, begins_entry, begins_line, begins_with_alpha, colon_may_precede, dash_may_precede, follows_plain, has_tab_before_piece, has_tab_within, is_at_break_or_flow, is_indented_by_spaces, last_line, least_column, awaits_in_block, awaits_in_flow}
 pub use Rattle.defs_token.specs.Key.{begins_free_line, free, is_near, is_waiting, Line, line_past, line_past_separation, Outside, taken, waits, without_break}
 pub use Rattle.defs_token.specs.Lines.{after_first, blanks_before, ends_with_dash, further_lines_fit, further_lines_stand, has_dash_before_flow, has_more, lines_fit, lines_have_no_tab, plain_lines_fit, quoted_lines_fit, without_last}
 pub use Rattle.defs_token.specs.Piece.{begins_with_space_or_break, ends_entry, goes_on_with_name, is_name, IsBlockScalar, IsDirective, IsPiece, IsTagLine}
@@ -79,14 +79,14 @@ pub use Rattle.model_scanner.specs.declared.level.FlowLevel.TheVariants.{Keyed, 
 pub use Rattle.model_scanner.specs.declared.level.Indent.{Indent}
 pub use Rattle.proof_lexers.proofs.Along.{along_more}
 pub use Rattle.proof_lexers.proofs.Blocks.Ends.{style_same}
-pub use Rattle.proof_lexers.proofs.Blocks.Margins.{after_break, after_line, after_lines}
-pub use Rattle.proof_lexers.proofs.Blocks.Positions.{after_chars, after_spell, first_empty, first_header, past_is, space_past, spell_more}
+pub use Rattle.proof_lexers.proofs.Blocks.Margins.{after_break, after_line, after_lines, lines_front}
+pub use Rattle.proof_lexers.proofs.Blocks.Positions.{after_chars, after_spell, first_empty, first_header, past_is, space_past, spell_more, feed_past}
 pub use Rattle.proof_lexers.proofs.Blocks.Scans.{style_inner}
 pub use Rattle.proof_lexers.proofs.Blocks.Written.{AreLines, both, Break, carriage, feed, Fits, Lined, lined, spell, split_spell, texts}
 pub use Rattle.proof_lexers.proofs.Bridges.{and_false, digits_of, row, same_alpha, same_blank, same_break, same_code, same_digit, same_escape, same_gap}
 pub use Rattle.proof_lexers.proofs.Directives.Lines.{directives_end}
 pub use Rattle.proof_lexers.proofs.Ends.{read_as, refused_as}
-pub use Rattle.proof_lexers.proofs.Plain.Found.{flow_solid, further_on, no_flow}
+pub use Rattle.proof_lexers.proofs.Plain.Found.{flow_solid, further_on, no_flow, tab_blank}
 pub use Rattle.proof_lexers.proofs.Plain.Scalars.{scans_end}
 pub use Rattle.proof_lexers.proofs.Plain.Turns.{in_line_position, line_position, or_false, or_true, same_feed}
 pub use Rattle.proof_lexers.proofs.Properties.Names.{names_end}
@@ -106,12 +106,12 @@ pub use Rattle.proof_lexers.specs.BlockEnds.{IsBlockRead, whole_block}
 pub use Rattle.proof_lexers.specs.BlockScan.{further_position, is_literal_style, is_none, is_shallow, is_single, is_tabbed, read_block, tabbed, without_spaces}
 pub use Rattle.proof_lexers.specs.Buffers.{after_element}
 pub use Rattle.proof_lexers.specs.DirectiveEnds.{begins_handle, first_break, from_prefix, HasName, IsDeclarationBefore, IsDirectiveRead, IsDirectiveRefusal, IsNoDeclaration, IsNoVersion, IsVersionBefore, said, token_of, whole_directive}
-pub use Rattle.proof_lexers.specs.HeaderEnds.{along, has_zero, indicator_of, is_in_line, is_sign, past_indicators}
+pub use Rattle.proof_lexers.specs.HeaderEnds.{along, has_zero, indicator_of, is_in_line, is_sign, past_indicators, past_one}
 pub use Rattle.proof_lexers.specs.NameEnds.{after_name, further, IsNameRead, named, nameless}
 pub use Rattle.proof_lexers.specs.PlainEnds.{begins_left, begins_solid, begins_token, begins_white, collection_of, HasTab, is_apart, is_gap, is_indented, is_white, IsPlainRead, IsPlainRefusal, stand_after, whole_plain}
 pub use Rattle.proof_lexers.specs.QuotedEnds.{IsBadEscape, IsQuotedRead, number_at}
 pub use Rattle.proof_lexers.specs.QuotedScan.{by_line, element_of, ends_before, has_marker, is_some, IsShallow, value_of}
-pub use Rattle.proof_lexers.specs.Separations.{after_separation, after_space, are_spaces, begins_separation, begins_white_space, ends_spaces, glued, has, HasNoWhiteSpace, HasPassed, HasSpaces, IsGlued, IsTabRefusal, misses, spaces}
+pub use Rattle.proof_lexers.specs.Separations.{after_separation, after_space, are_spaces, begins_separation, begins_white_space, ends_spaces, glued, has, HasNoWhiteSpace, HasPassed, HasSpaces, IsGlued, IsTabRefusal, misses, spaces, tab_left}
 pub use Rattle.proof_lexers.specs.TagEnds.{after_tag, IsTagRead, IsTagRefusal, local_goes_on, local_octets, may_follow, no_suffix, suffix_goes_on, suffix_octets, unclosed, verbatim_goes_on, verbatim_octets, whole_tag}
 pub use Rattle.proof_lexers.specs.UriEnds.{problem_of}
 pub use Rattle.proof_row.proofs.Accounts.{account_step, same_flow}
@@ -128,7 +128,7 @@ pub use Rattle.proof_row.proofs.Splits.{More, splits}
 pub use Rattle.proof_row.proofs.Texts.{no_nul_after}
 pub use Rattle.proof_row.proofs.Written.{not_empty, same_piece, same_written}
 pub use Rattle.proof_row.specs.Ends.{alias_name, colon, comma, dash, dashes, directive_line, dots, ends_separation, in_double_quotes, in_single_quotes, Kind, kind_at, kind_by, mapping_closing, mapping_opening, question, sequence_closing, sequence_opening, tag_text}
-pub use Rattle.proof_scanner.specs.Arrives.{Arrives, ends_here, IsLineHere, IsNear, site_here}
+pub use Rattle.proof_scanner.specs.Arrives.{Arrives, ends_here, IsLineHere, IsNear, site_here, ArrivesAmong, ArrivesWith}
 pub use Rattle.proof_scanner.specs.Certain.{FailingPlacesHaveNoRow, TextsWithARowAreNotStuck}
 pub use Rattle.proof_scanner.specs.Choices.{chosen, entries_by, entry_by, first_choice, had_by, IsCarriedOn, line_by, MayChoose, outside_key}
 pub use Rattle.proof_scanner.specs.Completes.{Completes, Cuts, put_if, put_key, SoFar, tokens_up_to, with_had, with_keys, with_line}
@@ -139,14 +139,14 @@ pub use Rattle.proof_scanner.specs.FirstBlock.{block_first, header_first}
 pub use Rattle.proof_scanner.specs.FirstPlain.{HasNoPlainFault, plain_first}
 pub use Rattle.proof_scanner.specs.FirstQuoted.{are_indented, closed_first, lines_first, quoted_first}
 pub use Rattle.proof_scanner.specs.Here.{IsLive, IsNotRight}
-pub use Rattle.proof_scanner.specs.KnownKeys.{GoesThrough, KnowsKey}
+pub use Rattle.proof_scanner.specs.KnownKeys.{GoesThrough, KnowsKey, IsAt}
 pub use Rattle.proof_scanner.specs.NoPiece.{goes_over, GoesOn, HasNoQuoted, is_flow_indicator, IsBlockFault, IsFollowed, IsNoHeader, IsNotQuoted, IsPlainFault, IsQuoted, name_mark, NoPiece}
 pub use Rattle.proof_scanner.specs.Order.{After, NotBefore}
 pub use Rattle.proof_scanner.specs.PiecesRead.{BlockIsRead, comes_plain, DirectiveIsRead, is_directive_token, mark_of, NameIsRead, PiecesAreRead, PlainIsRead, QuotedIsRead, ReadAs, TagIsRead}
 pub use Rattle.proof_scanner.specs.Positions.{IsAtEnd, IsPositionIn, IsWhere}
 pub use Rattle.proof_scanner.specs.QuotedLines.{AreNotIndented, at_start, begins_further, IsQuotedFault, LineStand, past_element, past_elements, past_escaped, within}
 pub use Rattle.proof_scanner.specs.Stands.{IsAdjacent}
-pub use Rattle.proof_scanner.specs.StandsInRow.{AreAround, AreCollections, AreEntries, AreLevels, AreNumbered, begins, columns, Fares, FetchKeeps, has_open_level, HasFirst, HasHad, HasHadHere, HasNoTabs, is_at_comment_or_end, is_free, is_fresh, IsEntryOf, IsFreeKey, IsLeading, IsLine, IsOpenHere, IsOpenOutside, IsPairOf, IsReadOn, IsTakenBy, IsTopLevel, over, Stands, TokensAreOfARow}
+pub use Rattle.proof_scanner.specs.StandsInRow.{AreAround, AreCollections, AreEntries, AreLevels, AreNumbered, begins, columns, Fares, FetchKeeps, has_open_level, HasFirst, HasHad, HasHadHere, HasNoTabs, is_at_comment_or_end, is_free, is_fresh, IsEntryOf, IsFreeKey, IsLeading, IsLine, IsOpenHere, IsOpenOutside, IsPairOf, IsReadOn, IsTakenBy, IsTopLevel, over, Stands, TokensAreOfARow, StandsWith, goes, kind_of}
 pub use Rattle.proof_scanner.specs.Stuck.{fails, HasNoKey, IsStuck, key_waits, no_key}
 pub use Rattle.proof_scanner.specs.Told.{is_told, RefusedTextsAreStuck}
 pub use Rattle.yaml_chars.specs.Class.{is_blank_or_breakz, is_breakz}
@@ -160,3 +160,5 @@ pub use Rattle.model_scanner.specs.declared.kind.NameKind.TheVariants.{Alias, An
 pub use Rattle.proof_lexers.specs.Ends.{EndsAs, reads, refuses}
 pub use Rattle.proof_row.proofs.Columns.{further_is_no_break}
 pub use Rattle.proof_row.proofs.Runs.{neither}
+pub use Rattle.model_scanner.proofs.PlainLemmas.{break_leads}
+pub use Rattle.proof_row.proofs.KeyLines.{KeysBefore, keys_before, line_grows}

@@ -1,18 +1,11 @@
 -- A text without NUL that has a row is read: each run ends the stream or is refused, and a text with a row is not refused.
 use Rattle.proof_row.proofs.OneRow.{one_reading}
-use Rattle.proof_scanner.proofs.Common.{ap, arith, At, begins, Err, false, Fares, Fault, fetch, fetch_stream_start, has_no_nul, HasTokens, held_of, here, inl, inr, IsPositionIn, IsRead, length, List, Ok, OutOfMemory, over, Reaches, refl, Result, ScannerState, Stands, start, suc, there, true, zero, ℕ, ◌<◌, ◌≡◌, ◌≤◌, length-append}
-use Rattle.proof_scanner.proofs.Cut.Documents.{whole_text}
-use Rattle.proof_scanner.proofs.Sound.CutsSoFar.{stands_cut, cut_position}
-use Rattle.proof_scanner.specs.StandsInRow.{goes}
-use Rattle.proof_scanner.proofs.Sound.Fetches.{fetch_keeps}
-use Rattle.proof_scanner.proofs.Sound.Runs.{first_fetch}
-use Rattle.proof_scanner.proofs.Sound.Sound.{tokens_are_of_a_row}
+use Rattle.proof_scanner.proofs.Common.{arith, At, Err, false, Fault, fetch, fetch_stream_start, has_no_nul, HasTokens, held_of, here, inl, inr, IsRead, length, List, Ok, OutOfMemory, Reaches, refl, Result, ScannerState, Stands, start, suc, there, true, zero, ℕ, ◌<◌, ◌≡◌, ◌≤◌}
+use Rattle.proof_scanner.proofs.Refusals.Common.{Fetched, Told, fetched, first_fetch, tokens_are_of_a_row, with_row}
 use Rattle.proof_scanner.proofs.Sound.Starts.{stream_started}
 use Rattle.proof_scanner.specs.Goes.{IsComplete}
 use Rattle.proof_scanner.proofs.Refusals.KeysThatWait.{texts_with_a_row_are_not_stuck}
-use Rattle.proof_scanner.proofs.Refusals.Places.{Told, with_row}
 use Rattle.proof_scanner.proofs.Refusals.Refusals.{refusal_told}
-use Rattle.proof_scanner.proofs.Refusals.Shortens.{ReadsOn, fetch_reads_on}
 
 -- how a run goes on: it comes to the stream's end, or is refused
 data Outcome (t : ScannerState) : Type 0 where
@@ -23,29 +16,17 @@ before : (t u : ScannerState) → t.held.ended ≡ false → fetch t ≡ Ok u �
 before t u going e (ends v run ended) = ends v (there going e run) ended
 before t u going e (refused v f run on g) = refused v f (there going e run) on g
 
--- after a state within a stream does not come the first one
-not_first : (text : List ℕ) (t u : ScannerState) → has_no_nul text ≡ true → Stands text t → ReadsOn t u → u ≡ start text → ⊥
-not_first text t u nul s (inl ended) b = cc (ended, ap (λ (x : ScannerState). x.held.ended) b)
-not_first text t u nul s (inr less) b =
-    let i : IsPositionIn text t.rest t.held.position = cut_position text s.separation t.rest s.base t.held.tokens t.held.position (whole_text text nul) s.position_is (stands_cut text t s) in
-    let whole = ap length i.is_text in
-    let parts = length-append i.before t.rest in
-    let same = ap (λ (x : ScannerState). length x.rest) b in
-    omega (arith, less, whole, parts, same)
-
 -- by what comes of the next fetch
 outcome_by : (text : List ℕ) → has_no_nul text ≡ true → (t : ScannerState) → Stands text t → ((u : ScannerState) → Stands text u → length u.rest < length t.rest → Outcome u) → Outcome t
 outcome_by text nul t s on = by (fetch t) refl
   where
-    next : (u : ScannerState) → fetch t ≡ Ok u → ReadsOn t u → Fares text u → Outcome t
-    next u e m (begins b) = absurd (not_first text t u nul s m b)
-    next u e m (over f r n) = ends u (there s.going e here) f
-    next u e (inl ended) (goes z) = absurd (cc (z.going, ended))
-    next u e (inr less) (goes z) = before t u s.going e (on u z less)
+    next : (u : ScannerState) → fetch t ≡ Ok u → Fetched text t.rest u → Outcome t
+    next u e (inl n) = before t u s.going e (on u n.stands n.less)
+    next u e (inr n) = ends u (there s.going e here) n.0
 
     by : (r : Result ScannerState Fault) → fetch t ≡ r → Outcome t
     by (Err f) e = refused t f here s.going e
-    by (Ok u) e = next u e (held_of u (fetch_reads_on text t s) e) (fetch_keeps text t u nul s e)
+    by (Ok u) e = next u e (held_of u (fetched text nul t s) e)
 
 outcome : (text : List ℕ) → has_no_nul text ≡ true → (n : ℕ) (t : ScannerState) → Stands text t → length t.rest ≤ n → Outcome t
 outcome text nul zero t s n = outcome_by text nul t s (λ u z less. absurd (omega (arith, n, less)))

@@ -1,5 +1,6 @@
 pub mod AfterQuoted
 pub mod Blocks
+pub mod Common
 pub mod Fetches
 pub mod Indicators
 pub mod KeysThatWait
@@ -16,5 +17,4 @@ pub mod QuotedReasons
 pub mod Quotes
 pub mod Refusals
 pub mod Rows
-pub mod Shortens
 pub mod TextsRefused

@@ -1,9 +1,9 @@
 -- A key that is removed, and what the model does after a dash.
-use Rattle.proof_scanner.proofs.Common.{allow_key, check_dash, Fault, Held, Holds, lexed, No, None, Ok, on_held, push, refl, remove_implicit_key, Result, roll_entry, roll_indent, ScannerState, skip_indicator, skip_spaces, space, Tok, true, try_held, went, with_top, Yes, ◌>>=◌, ◌≡◌, passes}
+use Rattle.proof_scanner.proofs.Common.{checked, is_required, top_key, false, allow_key, check_dash, Fault, Held, Holds, lexed, No, None, Ok, on_held, push, refl, remove_implicit_key, Result, roll_entry, roll_indent, ScannerState, skip_indicator, skip_spaces, space, Tok, true, try_held, went, with_top, Yes, ◌>>=◌, ◌≡◌}
 
-pub key_removed : (s : Held) → Holds (λ u. u ≡ record s { keys = with_top None s.keys }) (remove_implicit_key s)
+pub key_removed : (s : Held) → Holds (λ u. (u ≡ record s { keys = with_top None s.keys }) × (is_required (top_key s.keys) ≡ false)) (remove_implicit_key s)
 unfolding remove_implicit_key
-key_removed s = passes _ _ (went refl)
+key_removed s = checked (is_required (top_key s.keys)) _ (λ n. went (refl, n))
 
 -- what the model does after the dash
 abbrev pub entry_from : ScannerState → ScannerState → Result ScannerState Fault

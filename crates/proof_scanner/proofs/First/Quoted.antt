@@ -5,8 +5,7 @@ use Rattle.proof_row.proofs.Quotes.{singles, doubles}
 use Rattle.proof_scanner.specs.NoPiece as none
 use Rattle.proof_scanner.specs.NoPiece.{quote_of}
 use Rattle.proof_scanner.specs.QuotedLines as lines
-use Rattle.proof_scanner.proofs.Known.Places.{ends_before}
-use Rattle.proof_scanner.proofs.Sound.Passed.{same_has_break}
+use Rattle.proof_scanner.proofs.Refusals.Common.{ends_before, same_has_break}
 use Rattle.proof_scanner.proofs.Refusals.QuotedReasons.{one_reason, walk_of, after_quote_at, all_stand, indented_are, is_marked, by_end, by_escape, by_column, by_tab, by_marker, placed, Place, Wrong, Reason}
 
 -- ---- the quote
@@ -57,7 +56,7 @@ module _ (least : ℕ) (here : Position) (rest : List ℕ) where
         → ((t : LineStand) (q : Position) (x : List ℕ) → is_marked q x ≡ true → k ≡ true → Wrong single least here t q x why at)
         → (all_stand least (past_elements within es) (position_after (past here) body r).col last ≡ true → k ≡ false → Place single least here (past_elements within es) (position_after (past here) body r) r why at) → Reason single least here within (past here) more why at
     walked why at k last es body r cut no_feed are fit marks marker end =
-        subst (λ x. Reason single least here within (past here) x why at) (sym cut)
+        rw cut
         (walk_of single least here (λ t q x. Wrong single least here t q x why at) last k r no_feed marker 0 body es within (past here) (omega arith) are fit (rw (off_margin here.col 0) marks) (λ f free n. placed why at free (end f n)))
 
     by_text : (why : Problem) (n : IsNotQuoted single more why) → quoted_first single least more why n → Reason single least here within (past here) more why here
@@ -74,7 +73,7 @@ module _ (least : ℕ) (here : Position) (rest : List ℕ) where
     by_lines whole why at (lines.by_tab body r es e are further low) first =
         let all : quote_of single ∷ more ≡ quote_of single ∷ (body ++ tab ∷ r) = sym whole ∙ e in
         let there = after_quote_at single here body (tab ∷ r) in
-        subst (λ q. Reason single least here within (past here) more TabAsIndentation q) (sym there)
+        rw there
         (walked TabAsIndentation _ false [] es body (tab ∷ r) (cc all) refl are (indented es first.1) first.0 (λ t q x h n. absurd (cc n)) (λ f n. by_tab r refl further (ap (λ (q : Position). nat_lt q.col least) (sym there) ∙ low)))
 
     one_sorted : has_no_nul rest ≡ true → (why1 why2 : Problem) (at1 at2 : Position) → Sorted single more why1 at1 → Sorted single more why2 at2 → (why1 ≡ why2) × (at1 ≡ at2)
@@ -83,7 +82,7 @@ module _ (least : ℕ) (here : Position) (rest : List ℕ) where
     one_sorted clean why1 why2 at1 at2 (inr x) (inl y) = absurd (y.1 x.0 x.1 x.2 x.3 x.4)
     one_sorted clean why1 why2 at1 at2 (inr x) (inr y) =
         let same = one_end single y.0 x.0 y.1 x.1 y.3 x.3 (sym y.2 ∙ x.2) in
-        one_after x.0 x.1 (no_nul_after x.0 x.1 (sym (ap has_no_nul x.2) ∙ clean)) why1 why2 at1 at2 x.5 (subst (λ n. After x.0 n why2 at2) same.1 (subst (λ q. After q y.1 why2 at2) same.0 y.5))
+        one_after x.0 x.1 (no_nul_after x.0 x.1 (sym (ap has_no_nul x.2) ∙ clean)) why1 why2 at1 at2 x.5 (rw (sym same.1) (rw (sym same.0) y.5))
 
   closed : (single : Bool) (piece next : List ℕ) (why : Problem) (at : Position) → rest ≡ piece ++ next → IsQuoted single piece next → closed_first single least piece → After piece next why at → QuotedReason why at
   closed single piece next why at e is fit a = let z = begins_quoted single rest piece next e is in (single, z.0, z.1, inr (piece, next, e, is, fit, a))

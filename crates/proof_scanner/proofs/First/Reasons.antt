@@ -1,15 +1,14 @@
 -- Of two reasons at one place that both come first, kind and position are the same.
-use Rattle.proof_scanner.proofs.Common.{[], no_nul_after, separations, inl, inr, Account, alias_name, ap, are_marks, arith, At, begins_block, begins_flow, begins_with, block_begins, BlockStyle, Bool, colon, colon_may_precede, comes_first, dash, dashes, directive_line, dots, eqb-true, Fails, FailsFirst, false, first_line, folded, followed_first, has_no_break, has_no_nul, if◌then◌else◌, in_double_quotes, in_single_quotes, indicator_of, innermost, is_at_gap, is_blank, is_blank_or_end, is_break, is_flow, is_flow_indicator, is_full, is_in_flow, is_nul, is_value_here, is_value_indicator, IsBlockFault, IsDirectiveRefusal, IsFollowed, IsLike, IsLookedAt, IsPlainFault, IsTagRefusal, Kind, least_column, least_here, line_is, List, literal, MayNotStand, nat_tests, no_piece_first, NoPiece, opens, plain_first, Position, Problem, question, refl, stands_first, subst, sym, tab, tag_text, true, ℕ, ◌&&◌, ◌++◌, ◌==◌, ◌||◌, ◌∙◌, ◌∷◌, ◌≡◌, ◌⊎◌, begins_entry, begins_separation, begins_with_alpha, begins_with_space_or_break, ends_separation, further, GoesOn, has_tab_before_piece, is_alpha, is_decimal_digit, is_letter, is_separation, may_ask, not, position_after, before_by, before_past, begins_document_at, comes_plain, is_adjacent, is_free_of_tabs, is_taken, kind_by, nat_le, same_flow, site_at_place, append_cancel_left, further_on, goes_on, goes_over, no_flow, Option, Stand, AnchorName, BlockEntryInFlow, BlockEntryNotAllowed, ColonMisplaced, CommentNotSeparated, ContentAfterDocumentEnd, FlowIndentation, FlowTooDeep, InvalidIndentation, KeyNotAllowed, PlainDashInFlow, PlainTab, TabAfterColon, TabAfterDash, TabAfterKey, TabInBlockIndentation, UnexpectedAt, UnexpectedBacktick, UnexpectedPercent, WhitespaceExpected, after, begins_handle, begins_prefix, begins_with_mark, codes, decoded, drop, Err, Fault, first_position, from_prefix, HasName, is_empty, is_same, is_uri, IsDeclarationBefore, IsNoDeclaration, IsNoVersion, IsVersionBefore, leading, length, length-append, None, number_of, Ok, problem_of, Result, said, Some, suc, UriFault, ◌-◌, DirectiveEnd, DirectiveName, DirectiveNameEnd, GlobalTagCharacter, TagDirectiveEnd, TagDirectiveHandle, TagStart, VersionDot, VersionNumber, VersionTooLong, append_cancel_right, block_first, blocks, digit_of, has_header, has_zero, Header, header_first, header_of, is_at_end, is_blanks_and_comment, is_in_line, is_rest_of_line, IsNoHeader, line_more, past_indicators, past_spaces, sign_of, split, style_inner, style_same, up_to_break, HasNoPlainFault}
+use Rattle.proof_scanner.proofs.Common.{BlockScalarZero, BlockScalarHeader, [], no_nul_after, separations, inl, inr, Account, alias_name, ap, are_marks, arith, At, begins_block, begins_flow, begins_with, block_begins, BlockStyle, Bool, colon, colon_may_precede, comes_first, dash, dashes, directive_line, dots, eqb-true, Fails, FailsFirst, false, first_line, folded, followed_first, has_no_break, has_no_nul, if◌then◌else◌, in_double_quotes, in_single_quotes, indicator_of, innermost, is_at_gap, is_blank, is_blank_or_end, is_break, is_flow, is_flow_indicator, is_full, is_in_flow, is_nul, is_value_here, is_value_indicator, IsBlockFault, IsDirectiveRefusal, IsFollowed, IsLike, IsLookedAt, IsPlainFault, IsTagRefusal, Kind, least_column, least_here, line_is, List, literal, MayNotStand, nat_tests, no_piece_first, NoPiece, opens, plain_first, Position, Problem, question, refl, stands_first, subst, sym, tab, tag_text, true, ℕ, ◌&&◌, ◌++◌, ◌==◌, ◌||◌, ◌∙◌, ◌∷◌, ◌≡◌, ◌⊎◌, begins_entry, begins_separation, begins_with_alpha, begins_with_space_or_break, further, GoesOn, has_tab_before_piece, is_alpha, is_decimal_digit, is_letter, is_separation, may_ask, not, position_after, before_by, before_past, begins_document_at, comes_plain, is_adjacent, is_free_of_tabs, is_taken, kind_by, nat_le, same_flow, site_at_place, append_cancel_left, further_on, goes_on, goes_over, no_flow, Option, Stand, AnchorName, BlockEntryInFlow, BlockEntryNotAllowed, ColonMisplaced, CommentNotSeparated, ContentAfterDocumentEnd, FlowIndentation, FlowTooDeep, InvalidIndentation, KeyNotAllowed, PlainDashInFlow, PlainTab, TabAfterColon, TabAfterDash, TabAfterKey, TabInBlockIndentation, UnexpectedAt, UnexpectedBacktick, UnexpectedPercent, WhitespaceExpected, after, begins_handle, begins_prefix, begins_with_mark, codes, decoded, drop, Err, Fault, first_position, from_prefix, HasName, is_empty, is_same, is_uri, IsDeclarationBefore, IsNoDeclaration, IsNoVersion, IsVersionBefore, leading, length, length-append, None, number_of, Ok, problem_of, Result, said, Some, suc, UriFault, ◌-◌, DirectiveEnd, DirectiveName, DirectiveNameEnd, GlobalTagCharacter, TagDirectiveEnd, TagDirectiveHandle, TagStart, VersionDot, VersionNumber, VersionTooLong, append_cancel_right, block_first, blocks, digit_of, has_header, has_zero, Header, header_first, header_of, is_at_end, is_blanks_and_comment, is_in_line, is_rest_of_line, IsNoHeader, line_more, past_indicators, past_spaces, sign_of, split, style_inner, style_same, up_to_break, HasNoPlainFault}
 use Rattle.proof_row.specs.Ends.{nothing, plain_scalar, anchor_name, block_scalar}
 use Rattle.proof_scanner.specs.NoPiece.{quote_of}
 use Rattle.proof_scanner.proofs.First.Quoted.{QuotedReason, one_quoted}
 use Rattle.proof_scanner.proofs.Refusals.PiecesRefused.{no_colon_before, tab_gap, many_alike}
 use Rattle.proof_scanner.proofs.Refusals.TextsRefused.{first_char, refusal_fails, one_line, first_of, piece_line}
-use Rattle.proof_scanner.proofs.Known.Places.{ends_before}
+use Rattle.proof_scanner.proofs.Refusals.Common.{ends_before}
 use Rattle.defs_token.specs.Plain.{inside, past}
 use Rattle.proof_lexers.specs.DirectiveEnds.{ends_line}
 use Rattle.proof_lexers.proofs.Directives.Values.{no_handle}
-use Rattle.proof_lexers.specs.HeaderEnds.{past_one}
 use Rattle.proof_lexers.specs.DirectiveEnds as directives
 use Rattle.proof_scanner.specs.NoPiece as none
 use Rattle.proof_scanner.specs.Failing as failing
@@ -48,25 +47,22 @@ comment_is style line before text h lacks is cut =
 -- ---- one reason why a line is no header
 
 module _ (style : BlockStyle) (here : Position) (line : List ℕ) (lacks : header_of (indicator_of style ∷ line) ≡ None) where
-  zero_no_comment : (text : List ℕ) → has_zero line ≡ true → past_indicators line ≡ 35 ∷ text → ⊥
-  zero_no_comment text zero is = let z : begins_with 48 (past_indicators line) ≡ true = grind (arith, nat_tests) in cc (z, ap (begins_with 48) is)
+  zero_first : has_zero line ≡ true → begins_with 48 (past_indicators line) ≡ true
+  zero_first zero = grind (arith, nat_tests)
 
-  comment_no_text : (text : List ℕ) → past_indicators line ≡ 35 ∷ text → begins_with 35 (past_indicators line) ≡ false → ⊥
-  comment_no_text text is other = cc (other, ap (begins_with 35) is)
+  abbrev HeaderReason : Problem → Position → Type 0
+  HeaderReason why at =
+      ((has_zero line ≡ true) × (why ≡ BlockScalarZero) × (at ≡ here)) ⊎
+      (((before : List ℕ) × (text : List ℕ) × (line ≡ before ++ 35 ∷ text) × (past_indicators line ≡ 35 ∷ text) × (why ≡ CommentNotSeparated) × (at ≡ position_after here (indicator_of style ∷ before) (35 ∷ text))) ⊎
+      ((has_zero line ≡ false) × (begins_with 35 (past_indicators line) ≡ false) × (why ≡ BlockScalarHeader) × (at ≡ here)))
+
+  header_reason : (why : Problem) (at : Position) → IsNoHeader style here line why at → HeaderReason why at
+  header_reason why at (none.by_zero zero) = inl (zero, refl, refl)
+  header_reason why at (none.by_comment h before text is cut) = inr (inl (before, text, cut, comment_is style line before text h lacks is cut, refl, refl))
+  header_reason why at (none.by_text no_zero more begins) = inr (inr (no_zero, begins, refl, refl))
 
   one_header : (why1 why2 : Problem) (at1 at2 : Position) → IsNoHeader style here line why1 at1 → IsNoHeader style here line why2 at2 → (why1 ≡ why2) × (at1 ≡ at2)
-  one_header why1 why2 at1 at2 (none.by_zero zero) (none.by_zero zero2) = (refl, refl)
-  one_header why1 why2 at1 at2 (none.by_zero zero) (none.by_comment h before text is cut) = absurd (zero_no_comment text zero (comment_is style line before text h lacks is cut))
-  one_header why1 why2 at1 at2 (none.by_zero zero) (none.by_text none_there more begins) = absurd (cc (zero, none_there))
-  one_header why1 why2 at1 at2 (none.by_comment h before text is cut) (none.by_zero zero) = absurd (zero_no_comment text zero (comment_is style line before text h lacks is cut))
-  one_header why1 why2 at1 at2 (none.by_comment h before text is cut) (none.by_comment h2 before2 text2 is2 cut2) =
-      let same : 35 ∷ text ≡ 35 ∷ text2 = sym (comment_is style line before text h lacks is cut) ∙ comment_is style line before2 text2 h2 lacks is2 cut2 in
-      let first : before ≡ before2 = append_cancel_right before before2 (35 ∷ text2) (ap (λ r. before ++ r) (sym same) ∙ (sym cut ∙ cut2)) in
-      (refl, ap (λ b. position_after here (indicator_of style ∷ b) (35 ∷ text)) first ∙ ap (λ r. position_after here (indicator_of style ∷ before2) r) same)
-  one_header why1 why2 at1 at2 (none.by_comment h before text is cut) (none.by_text none_there more begins) = absurd (comment_no_text text (comment_is style line before text h lacks is cut) begins)
-  one_header why1 why2 at1 at2 (none.by_text none_there more begins) (none.by_zero zero) = absurd (cc (zero, none_there))
-  one_header why1 why2 at1 at2 (none.by_text none_there more begins) (none.by_comment h before text is cut) = absurd (comment_no_text text (comment_is style line before text h lacks is cut) begins)
-  one_header why1 why2 at1 at2 (none.by_text none_there more begins) (none.by_text none_there2 more2 begins2) = (refl, refl)
+  one_header why1 why2 at1 at2 x y = let r = header_reason why1 at1 x in let q = header_reason why2 at2 y in grind (arith, r, q, zero_first, append_cancel_right)
 
 -- ---- all reasons
 
@@ -104,7 +100,7 @@ module _ (collection : List ℕ) (here : Position) (rest : List ℕ) (clean : ha
       let same : indicator_of style2 ∷ line2 ≡ indicator_of style ∷ line = sym (line_here style2 line2 after2 cut2 inner2 ends2) ∙ line_here style line after cut inner ends in
       let style_is : style2 ≡ style = style_same style2 style (cc same) in
       let line_is : line2 ≡ line = cc same in
-      one_header style here line lacks why1 why2 at1 at2 n (subst (λ s. IsNoHeader s here line why2 at2) style_is (subst (λ l. IsNoHeader style2 here l why2 at2) line_is m))
+      one_header style here line lacks why1 why2 at1 at2 n (rw (sym style_is) (rw (sym line_is) m))
   one_block why1 why2 at1 at2 (headless style line after why at cut inner ends lacks n first) (fails why3 at3 y other) = absurd (header_here why2 at2 y (ap header_of (line_here style line after cut inner ends) ∙ lacks))
   one_block why1 why2 at1 at2 (fails why at x first) (headless style line after why3 at3 cut inner ends lacks n other) = absurd (header_here why1 at1 x (ap header_of (line_here style line after cut inner ends) ∙ lacks))
   one_block why1 why2 at1 at2 (fails why at x first) (fails why3 at3 y other) = one_fault why1 why2 at1 at2 x first y other

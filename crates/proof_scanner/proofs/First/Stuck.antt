@@ -1,18 +1,14 @@
 -- A text is stuck at one place, with one kind.
 use Rattle.proof_scanner.proofs.Common.{Account, account_past, ap, Begins, Bool, colon_may_precede, fails, FailsFirst, false, first_account, HasNoKey, inl, inr, is_in_flow, is_taken, is_value_here, IsLike, IsLookedAt, IsPlace, IsStuck, IsWritten, key_waits, List, no_key, no_nul_after, Position, Problem, refl, Some, spelled, Step, subst, sym, true, up_to_nul, ℕ, ◌++◌, ◌∙◌, ◌∷◌, ◌≡◌, ◌⊎◌, arith, eqb-true, nat_tests, ValueNotAllowed, [], act_of, begins_separation, clean_up_to_end, comes_first, Fails, follows_plain, gives_node, has_no_nul, is_empty, is_free_of_tabs, is_indented_by_spaces, is_separation, IsQuoted, None, Option, position_after, separations, Site, cases_Bool, TabInBlockIndentation}
-use Rattle.proof_scanner.proofs.Sound.Completed.{begins_at_start, begins_past}
+use Rattle.proof_scanner.proofs.Refusals.Common.{GivesUp, GoesOn, KeepsOn, LeadsBy, Meet, Same, Way, With, begins_at_start, begins_past, clean_after, ends_before, first_on, gap_is_separation, gives_up_like, like_sym, meet, same_place, second_on, step_here, strict_way, way_but_for_key, way_of}
 use Rattle.proof_scanner.proofs.Refusals.OtherRows.{StepAt, IsClearAfter, IsClearGapAfter, no_tab_before, step_from}
 use Rattle.proof_scanner.proofs.Refusals.PiecesRefused.{no_colon_here, node_site_past, node_token, quoted_value, same_quoted_value}
 use Rattle.proof_scanner.proofs.Refusals.NoRows.{keyless_step, no_step_stands, step_refuted}
 use Rattle.proof_scanner.proofs.Refusals.KeysThatWait.{Together, Apart, together_keeps, apart_keeps, first_together, not_below}
 use Rattle.proof_scanner.proofs.First.Reasons.{one_reason, colon_alone}
-use Rattle.proof_scanner.proofs.Known.Ways.{With, like_sym, GivesUp, gives_up_like, Same, Way, way_of, strict_way, way_but_for_key, Meet, same_place, second_on, first_on, KeepsOn, meet, LeadsBy, GoesOn}
 use Rattle.defs_token.specs.Piece.{Holds}
-use Rattle.proof_scanner.proofs.Known.Places.{ends_before, step_here}
-use Rattle.proof_scanner.proofs.Cut.Pieces.Separations.{gap_is_separation}
 use Rattle.proof_scanner.proofs.Refusals.PlainsRefused.{no_tab}
 use Rattle.proof_scanner.proofs.Sound.PlainKeeps.{no_comment}
-use Rattle.proof_scanner.proofs.Known.Rows.{clean_after}
 use Rattle.defs_text.specs.Classes as classes
 use Rattle.proof_scanner.specs.Failing as failing
 
@@ -27,7 +23,7 @@ pub record Stands (a : Account) (separation rest : List ℕ) (here : Position) :
 
 -- a text's ways are clean
 pub clean_way : (text : List ℕ) (vs : List Step) (after : List ℕ) → spelled vs after ≡ up_to_nul text → Holds (has_no_nul (spelled vs after))
-clean_way text vs after e = subst (λ z. Holds (has_no_nul z)) (sym e) (clean_up_to_end text)
+clean_way text vs after e = rw e (clean_up_to_end text)
 
 -- what is left of it is clean
 pub clean_place : {J : Account → Account → Type 0} {text after : List ℕ} {a : Account} → Way J text after a → Holds (has_no_nul after)
@@ -74,7 +70,7 @@ module _ (J : Account → Account → Type 0) (same : (x y : Account) → J x y 
   step = step_of J R a b s1 r1 s2 r2 h1 p g clean
 
   later_clean : Holds (has_no_nul (s2 ++ r2))
-  later_clean = clean_after (g.step ∷ g.steps) (s2 ++ r2) (subst (λ z. Holds (has_no_nul z)) (sym g.spells) clean)
+  later_clean = clean_after (g.step ∷ g.steps) (s2 ++ r2) (rw g.spells clean)
 
   pub clear : (g.steps ≡ [] → is_free_of_tabs b s2 ≡ true) → IsClearAfter step
   clear free gap content cut fills solid some = grind (arith, nat_tests, eqb-true, clear_way, no_nul_after, later_clean)
@@ -159,10 +155,10 @@ gives_up_second : (x y z : Account) → GivesUp y z → IsLike x y → IsLike x 
 gives_up_second x y z g i = like_sym z x (gives_up_like y z x g (like_sym x y i))
 
 same_first : (x y z : Account) → x ≡ z → IsLike x y → IsLike z y
-same_first x y z e i = subst (λ u. IsLike u y) e i
+same_first x y z e i = rw (sym e) i
 
 same_second : (x y z : Account) → y ≡ z → IsLike x y → IsLike x z
-same_second x y z e i = subst (λ u. IsLike x u) e i
+same_second x y z e i = rw (sym e) i
 
 abbrev Nothing : Account → Account → List ℕ → Type 0
 Nothing x y after = Unit {0}
@@ -175,8 +171,8 @@ keeps_both : (text : List ℕ) → KeepsOn Same Same (BothBegin text)
 keeps_both text = record {
   first_like = same_first;
   second_like = same_second;
-  first = λ x y z after i g r. (subst (λ u. Begins text after u) g r.0, r.1);
-  second = λ x y z after i g r. (r.0, subst (λ u. Begins text after u) g r.1);
+  first = λ x y z after i g r. (rw (sym g) r.0, r.1);
+  second = λ x y z after i g r. (r.0, rw (sym g) r.1);
   both = λ x y a b v c next i r k l e f. (begins_past text _ x a v next refl k e r.0, begins_past text _ y b (With v c) next refl l f r.1);
 }
 
@@ -189,7 +185,7 @@ keeps_apart text = record {
   first_like = λ x y z g i. gives_up_like x z y g i;
   second_like = same_second;
   first = λ x y z after i g r. (grind (arith, nat_tests, eqb-true, not_below));
-  second = λ x y z after i e r. subst (λ u. BeginsOrApart text x u after) e r;
+  second = λ x y z after i e r. rw (sym e) r;
   both = λ x y a b v c next i r k l e f. on x y a b v c next i r k l e f;
 }
   where
@@ -208,7 +204,7 @@ module _ (text : List ℕ) where
         | same_place like r e ↦
             let cut = one_cut f.account g.account f.separation f.rest g.separation g.rest f.here g.here f.stands g.stands like (clean_place f.way) e in
             one_reason f.account g.account like f.separation f.here f.rest (no_nul_after f.separation f.rest (clean_place f.way)) why1 why2 at1 at2 f.first
-            (subst (λ s. FailsFirst g.account s f.here f.rest why2 at2) (sym cut.0) (subst (λ r. FailsFirst g.account g.separation f.here r why2 at2) (sym cut.1) (subst (λ h. FailsFirst g.account g.separation h g.rest why2 at2) (sym cut.2) g.first)))
+            (rw cut.0 (rw cut.1 (rw cut.2 g.first)))
         | second_on n ↦ fails_before GivesUp gives_up_site Nothing f.account g.account f.separation f.rest g.separation g.rest f.here g.here f.stands g.stands n (clean_place f.way) why1 why2 at1 at2 f.first g.first
         | first_on n ↦
             let turned = fails_before GivesUp gives_up_site (λ x y. Nothing y x) g.account f.account g.separation g.rest f.separation f.rest g.here f.here g.stands f.stands n (clean_place g.way) why2 why1 at2 at1 g.first f.first in
@@ -220,7 +216,7 @@ module _ (text : List ℕ) where
   stands_keyless here k = record { is_filled = k.place.is_filled; is_solid = refl; goes_on = refl; is_here = k.place.is_here }
 
   begins_first : (steps : List Step) (after : List ℕ) → spelled steps after ≡ up_to_nul text → Begins text (spelled steps after) first_account
-  begins_first steps after e = subst (λ z. Begins text z first_account) (sym e) (begins_at_start text)
+  begins_first steps after e = rw e (begins_at_start text)
 
   -- the text that is left before a colon for which no key waits, and the way there
   abbrev ahead : {here : Position} → KeylessAt text here → List ℕ
@@ -248,14 +244,14 @@ module _ (text : List ℕ) where
       after1 = f.separation ++ f.rest
 
       passed : (x : Account) (s : StepAt k.account k.separation (58 ∷ k.more) here) → s.account ≡ x → BeginsOrApart text x k.account (ahead k) → ⊥
-      passed x s e (inl r) = keyless_step text k.separation k.more k.account here s (subst (λ u. Begins text (ahead k) u) (sym e) r.1) k.place.is_filled k.is_value k.is_outside k.is_line_taken k.has_none
+      passed x s e (inl r) = keyless_step text k.separation k.more k.account here s (rw e r.1) k.place.is_filled k.is_value k.is_outside k.is_line_taken k.has_none
       passed x s e (inr r) = no_colon_here s k.more refl k.is_value k.is_outside k.is_line_taken (λ q waiting unbroken near. cc (waiting, ap (λ (u : Account). u.line) e, r.1.none))
 
       by : Meet GivesUp Same (BeginsOrApart text) f.account k.account after1 (ahead k) → ⊥
       by (same_place like r e) =
           let cut = one_cut f.account k.account f.separation f.rest k.separation (58 ∷ k.more) f.here here f.stands (stands_keyless here k) like (clean_place f.way) e in
           colon_alone k.account f.account (like_sym f.account k.account like) k.separation k.more here k.is_value k.is_outside k.looked k.has_no_tab_after why at
-          (subst (λ s. FailsFirst f.account s here (58 ∷ k.more) why at) cut.0 (subst (λ r. FailsFirst f.account f.separation here r why at) cut.1 (subst (λ h. FailsFirst f.account f.separation h f.rest why at) cut.2 f.first)))
+          (rw (sym cut.0) (rw (sym cut.1) (rw (sym cut.2) f.first)))
       by (second_on n) =
           no_step_stands (step_of Same (BeginsOrApart text) f.account k.account f.separation f.rest k.separation (58 ∷ k.more) f.here f.stands n (clean_place f.way))
           (clear Same (λ x y e. ap (λ (u : Account). u.site) e) (BeginsOrApart text) f.account k.account f.separation f.rest k.separation (58 ∷ k.more) f.here here f.stands (stands_keyless here k) n (clean_place f.way) (λ _. k.looked.has_no_tab)) why at f.first.fails

@@ -1,5 +1,5 @@
 -- A beginning of a row that goes on past a place does so by the step that was read there, from a beginning up to there; and where a piece begins, a way leads.
-use Rattle.proof_scanner.proofs.Common.{[], Account, account_past, ap, arith, Begins, Bool, chosen, clean_up_to_end, Entry, false, first_account, FlowLevel, GoesThrough, has_no_nul, HasRow, is_empty, is_separation, IsLike, IsRowFrom, IsWritten, Key, Leads, length, length-append, line_by, List, may_end, MayChoose, no_nul_after, None, not, Option, outside_key, refl, Row, same_written, ScannerState, Some, spelled, Step, subst, sym, true, up_to_nul, ℕ, ◌++◌, ◌<◌, ◌∙◌, ◌∷◌, ◌≡◌, ◌≤◌}
+use Rattle.proof_scanner.proofs.Common.{[], Account, account_past, ap, arith, Begins, Bool, chosen, clean_up_to_end, Entry, false, first_account, FlowLevel, GoesThrough, has_no_nul, HasRow, is_empty, is_separation, IsLike, IsRowFrom, IsWritten, Key, Leads, length, length-append, line_by, List, may_end, no_nul_after, None, not, Option, outside_key, refl, Row, same_written, ScannerState, Some, spelled, Step, subst, sym, true, up_to_nul, ℕ, ◌++◌, ◌<◌, ◌∙◌, ◌∷◌, ◌≡◌, ◌≤◌}
 use Rattle.defs_token.specs.Piece.{Holds}
 use Rattle.proof_scanner.proofs.Known.Ways.{first_on, gives_up_like, GivesUp, KeepsOn, LeadsBy, Meet, meet, moved, Same, same_place, second_on, strict_way, strictly, Way, way_but_for_key, way_of, With}
 use Rattle.proof_scanner.proofs.Sound.Common.{ArrivesBy, begins_at_start, begins_past, none_chosen, not_none, with_entries}
@@ -42,16 +42,16 @@ SecondBegins text x y after = Begins text after y × Holds (has_no_nul after)
 pub keeps : (text : List ℕ) → KeepsOn GivesUp Same (SecondBegins text)
 keeps text = record {
   first_like = λ x y z g i. gives_up_like x z y g i;
-  second_like = λ x y z e i. subst (λ u. IsLike x u) e i;
+  second_like = λ x y z e i. rw (sym e) i;
   first = λ x y z after i g r. r;
-  second = λ x y z after i e r. (subst (λ u. Begins text after u) e r.0, r.1);
+  second = λ x y z after i e r. (rw (sym e) r.0, r.1);
   both = λ x y a b v c next i r k l e f. (begins_past text _ y b (With v c) next refl l f r.0, no_nul_after v.piece next (no_nul_after v.separation (v.piece ++ next) r.1));
 }
 
 pub came_by : (text : List ℕ) (a : Account) (w : Step) (next : List ℕ) (b : Account) → Way GivesUp text (w.separation ++ (w.piece ++ next)) a → IsWritten a w next → Begins text next b → Came text a w next b
 came_by text a w next b way written g =
-    by (meet GivesUp Same (SecondBegins text) (keeps text) way.steps (strict_way text next b g).steps (w.separation ++ (w.piece ++ next)) next first_account first_account a b (refl, tt, tt) (subst (λ r. Begins text r first_account) (sym way.spells) (begins_at_start text), (subst (λ r. Holds (has_no_nul r)) (sym way.spells) (clean_up_to_end text))) way.leads
-    (strict_way text next b g).leads (way.spells ∙ sym (strict_way text next b g).spells) (subst (λ r. Holds (has_no_nul r)) (sym way.spells) (clean_up_to_end text)))
+    by (meet GivesUp Same (SecondBegins text) (keeps text) way.steps (strict_way text next b g).steps (w.separation ++ (w.piece ++ next)) next first_account first_account a b (refl, tt, tt) (rw way.spells (begins_at_start text), (rw way.spells (clean_up_to_end text))) way.leads
+    (strict_way text next b g).leads (way.spells ∙ sym (strict_way text next b g).spells) (rw way.spells (clean_up_to_end text)))
   where
     by : Meet GivesUp Same (SecondBegins text) a b (w.separation ++ (w.piece ++ next)) next → Came text a w next b
     by (same_place i r e) = let more = longer w next written.1.0 in let same = ap length e in absurd (omega (arith, more, same))
@@ -87,18 +87,18 @@ module _ (text : List ℕ) (t : ScannerState) (some : is_empty t.rest ≡ false)
 
   -- in flow, where no open key is one
   pub way_inside : (f : FlowLevel) (fs : List FlowLevel) (k : Option Key) (ks : List (Option Key)) (e : Entry) (es : List Entry) (a : ArrivesBy text t (f ∷ fs) (k ∷ ks) (e ∷ es)) → Way GivesUp text (a.separation ++ t.rest) (with_entries a.site a.line (e ∷ es))
-  way_inside f fs k ks e es a = subst (λ b. Way GivesUp text (a.separation ++ t.rest) b) (none_chosen (k ∷ ks) base) (by (outside_key es ks) refl)
+  way_inside f fs k ks e es a = rw (sym (none_chosen (k ∷ ks) base)) (by (outside_key es ks) refl)
     where
       base : Account
       base = with_entries a.site a.line (e ∷ es)
 
       by : (y : Option Key) → outside_key es ks ≡ y → Way GivesUp text (a.separation ++ t.rest) (chosen false [] (k ∷ ks) base)
-      by None i = way_of text _ _ (a.completes true false [] (subst (λ z. MayChoose true false z t.held.position t.rest) (sym i) tt)).0
+      by None i = way_of text _ _ (a.completes true false [] (rw i tt)).0
       by (Some x) i = of x.required refl
         where
           of : (b : Bool) → x.required ≡ b → Way GivesUp text (a.separation ++ t.rest) (chosen false [] (k ∷ ks) base)
           of true m = way_but_for_key text (a.separation ++ t.rest) x.position (chosen false [] (k ∷ ks) base) (a.carries [] x i m refl some)
-          of false m = way_of text _ _ (a.completes true false [] (subst (λ z. MayChoose true false z t.held.position t.rest) (sym i) m)).0
+          of false m = way_of text _ _ (a.completes true false [] (rw i m)).0
 
 -- ---- a row of a text goes through each place that a way leads to, at an account that is like the way's; and so through the place after a step that was read there
 
@@ -144,11 +144,11 @@ walk J R keeps vs ws after last x y a i h leads row e clean = by (meet J Same R 
     by : Meet J Same R a end.account after last → Walked R a after
     by (same_place like holds e) = record { account = end.account; is_like = like; holds = holds; steps = []; last = last; is_row = (end.is_filled, end.may); spells = sym e; is_clean = clean_after vs after clean }
     by (first_on n) = absurd (at_end n.account n.step last (spelled n.steps after) end.is_filled n.is_written (sym n.spells))
-    by (second_on n) = record { account = n.account; is_like = n.is_like; holds = n.holds; steps = n.step ∷ n.steps; last = last; is_row = (n.is_written, subst (λ o. IsRowFrom o n.steps last) (sym n.is_past) (leads_row n.steps last (Some n.past) end.account n.leads end.is_filled end.may)); spells = n.spells; is_clean = clean_after vs after clean }
+    by (second_on n) = record { account = n.account; is_like = n.is_like; holds = n.holds; steps = n.step ∷ n.steps; last = last; is_row = (n.is_written, rw n.is_past (leads_row n.steps last (Some n.past) end.account n.leads end.is_filled end.may)); spells = n.spells; is_clean = clean_after vs after clean }
 
 pub row_walks : (J : Account → Account → Type 0) (R : Account → Account → List ℕ → Type 0) → KeepsOn J Same R → (text after : List ℕ) (a : Account) (r : Row) → R first_account first_account (up_to_nul text) → Way J text after a → HasRow text r → Walked R a after
 row_walks J R keeps text after a r p way h =
-    walk J R keeps way.steps r.steps after r.last first_account first_account a (refl, tt, tt) (subst (λ z. R first_account first_account z) (sym way.spells) p) way.leads h.1 (way.spells ∙ sym h.0) (subst (λ z. Holds (has_no_nul z)) (sym way.spells) (clean_up_to_end text))
+    walk J R keeps way.steps r.steps after r.last first_account first_account a (refl, tt, tt) (rw way.spells p) way.leads h.1 (way.spells ∙ sym h.0) (rw way.spells (clean_up_to_end text))
 
 -- ---- past a step
 
@@ -170,5 +170,5 @@ goes_past text a w next way written r h = by g.steps g.is_row g.spells
         to None f k = absurd k
         to (Some b) f k =
             let same : spelled us g.last ≡ next = sym ((same_written a g.account w u next (spelled us g.last) g.is_like written row.0 (sym e) g.holds.1).3) in
-            let there : Begins text next b = subst (λ x. Begins text x b) same (begins_past text before g.account b u (spelled us g.last) (sym e) row.0 f g.holds.0) in
+            let there : Begins text next b = rw (sym same) (begins_past text before g.account b u (spelled us g.last) (sym e) row.0 f g.holds.0) in
             record { account = b; begins = there; steps = us; last = g.last; is_row = k; spells = same }

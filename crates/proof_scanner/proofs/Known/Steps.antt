@@ -1,6 +1,5 @@
 -- What is known of keys that wait, after a step: from what was known before it.
-use Rattle.proof_scanner.proofs.Common.{[], Account, Act, act_of, ap, arith, Begins, begins_free_line, Bool, Entry, eqb-true, false, FlowLevel, free, gives_block_scalar, gives_node, is_empty, is_far, is_in_column, is_in_flow, IsLineHere, IsWritten, Key, KnowsKey, LikeLine, Line, line_by, line_past, line_past_separation, List, must_be_key, nat_tests, None, not, not-true, Option, Outside, outside_key, Position, position_after, refl, same_flow, ScannerState, Site, site_here, Some, Step, subst, sym, taken, Tok, true, up_to_nul, waits, ℕ, ◌++◌, ◌+◌, ◌∙◌, ◌∷◌, ◌≡◌, ◌≤◌, first_account}
-use Rattle.proof_scanner.specs.KnownKeys.{IsAt}
+use Rattle.proof_scanner.proofs.Common.{[], Account, Act, act_of, ap, arith, Begins, begins_free_line, Bool, Entry, eqb-true, false, FlowLevel, free, gives_block_scalar, gives_node, is_empty, is_far, is_in_column, is_in_flow, IsLineHere, IsWritten, Key, KnowsKey, LikeLine, Line, line_by, line_past, line_past_separation, List, nat_tests, None, not, not-true, Option, Outside, outside_key, Position, position_after, refl, same_flow, ScannerState, Site, site_here, Some, Step, subst, sym, taken, Tok, true, up_to_nul, waits, ℕ, ◌++◌, ◌+◌, ◌∙◌, ◌∷◌, ◌≡◌, ◌≤◌, first_account, IsAt}
 use Rattle.proof_scanner.proofs.Sound.Common.{ArrivesBy, index_after, IsDeep, not_before_after, not_before_same, saved, some_rest, with_entries, begins_at_start}
 use Rattle.proof_scanner.proofs.Known.Rows.{begins_whole, Came, came_by, goes_past, way_inside, way_outside}
 use Rattle.proof_scanner.proofs.Known.Made.{begun, inside, kept, Made, made, outside, same_of, still_there, waited, Waits, waits_past}
@@ -20,7 +19,7 @@ known_far text after p k far n = grind arith
 
 -- where a text begins
 pub known_at_start : (text after : List ℕ) (p : Position) → after ≡ up_to_nul text → KnowsKey text after p None
-known_at_start text after p whole = record { waiting = λ b begin g e l i. absurd (cc (ap (λ (x : Account). x.line) (begins_whole text after b whole g) ∙ e)); required = λ b x g e m. absurd (cc e); rows = λ r h. record { account = first_account; begins = subst (λ x. Begins text x first_account) (sym whole) (begins_at_start text); steps = r.steps; last = r.last; is_row = h.1; spells = h.0 ∙ sym whole } }
+known_at_start text after p whole = record { waiting = λ b begin g e l i. absurd (cc (ap (λ (x : Account). x.line) (begins_whole text after b whole g) ∙ e)); required = λ b x g e m. absurd (cc e); rows = λ r h. record { account = first_account; begins = rw whole (begins_at_start text); steps = r.steps; last = r.last; is_row = h.1; spells = h.0 ∙ sym whole } }
 
 -- ---- lines
 
@@ -112,7 +111,7 @@ module _ (text : List ℕ) (s : Site) (l line_here : Line) (allowed : Bool) (k :
       opened true y i j b begin x (begun act f h bs) near_line near_index = place ∙ h
       opened false y i j b begin x (begun act f h bs) near_line near_index = absurd (none_free (begins_free_line s.before w.separation) c k l line_here x.from.line x.line sep_is (grind (arith, line_is)) x.is_like x.sep f)
       opened d y i j b begin x (kept act f bs) near_line near_index =
-          old d y i j (subst (λ z. IsAt z begin) j (n.waiting x.from begin x.begins (waited false (begins_free_line s.before w.separation) x.from.line x.line begin x.sep f).0 near_line near_index))
+          old d y i j (rw (sym j) (n.waiting x.from begin x.begins (waited false (begins_free_line s.before w.separation) x.from.line x.line begin x.sep f).0 near_line near_index))
         where
           old : (d : Bool) (y : Option Key) → allowed ≡ d → k ≡ y → IsAt y begin → IsAt (saved d new y) begin
           old a y i j h = grind arith
@@ -139,7 +138,7 @@ keyless separation piece tok = record { separation = separation; piece = piece; 
 
 module _ (text : List ℕ) (t : ScannerState) (piece next : List ℕ) (tok : Tok) (cut : t.rest ≡ piece ++ next) (q : Position) (gap rest : List ℕ) (place : q ≡ position_after (position_after t.held.position piece next) gap rest) (is_rest : next ≡ gap ++ rest) where
   later : (k : Option Key) → KnowsKey text next t.held.position k → KnowsKey text (gap ++ rest) q k
-  later k n = subst (λ y. KnowsKey text y q k) is_rest (subst (λ x. KnowsKey text next x k) (sym place) (known_past text next (position_after t.held.position piece next) k gap rest (known_past text next t.held.position k piece next n)))
+  later k n = rw (sym is_rest) (rw place (known_past text next (position_after t.held.position piece next) k gap rest (known_past text next t.held.position k piece next n)))
 
   goes_on : not (is_empty piece) ≡ true → is_empty t.rest ≡ false
   goes_on h = some_rest t.rest piece next cut (not-true (is_empty piece) h)
@@ -148,12 +147,11 @@ module _ (text : List ℕ) (t : ScannerState) (piece next : List ℕ) (tok : Tok
       IsWritten (with_entries a.site a.line (e ∷ es)) (keyless a.separation piece tok) next → KnowsKey text (gap ++ rest) q (outside_key es ks)
   knows_inside f fs k ks e es a written =
       later (outside_key es ks) (known_inside text (with_entries a.site a.line (e ∷ es)) (keyless a.separation piece tok) next written t.held.position (outside_key es ks) refl
-      (subst (λ r. Way GivesUp text (a.separation ++ r) (with_entries a.site a.line (e ∷ es))) cut (way_inside text t (goes_on written.1.0) f fs k ks e es a))
-      (subst (λ r. KnowsKey text (a.separation ++ r) t.held.position (outside_key es ks)) cut (a.knows refl)))
+      (rw (sym cut) (way_inside text t (goes_on written.1.0) f fs k ks e es a)) (rw (sym cut) (a.knows refl)))
 
   module _ (k : Option Key) (a : ArrivesBy text t [] (k ∷ []) []) (written : IsWritten (with_entries a.site a.line []) (keyless a.separation piece tok) next) where
     way : (c : Bool) × Way GivesUp text (a.separation ++ (piece ++ next)) (with_entries a.site (line_by c k a.line) [])
-    way = subst (λ r. (c : Bool) × Way GivesUp text (a.separation ++ r) (with_entries a.site (line_by c k a.line) [])) cut (way_outside text t (goes_on written.1.0) k a)
+    way = rw (sym cut) (way_outside text t (goes_on written.1.0) k a)
 
     pub knows_none : begins_key (act_of tok) ≡ false → KnowsKey text (gap ++ rest) q None
     knows_none idle = later None (none_known text (with_entries a.site (line_by way.0 k a.line) []) (keyless a.separation piece tok) next written t.held.position refl idle way.1)
@@ -163,5 +161,4 @@ module _ (text : List ℕ) (t : ScannerState) (piece next : List ℕ) (tok : Tok
         let here : t.held.position ≡ position_after a.site.position a.separation (piece ++ next) = a.position_is ∙ ap (λ r. position_after a.site.position a.separation r) cut in
         later (saved t.held.key_allowed (new_key t) k) (known_saved text a.site a.line a.line_here t.held.key_allowed k (new_key t) (keyless a.separation piece tok) next written keyed
         (line_node text t k a out deep (goes_on written.1.0) t.held.position t.rest (not_before_same t.held.position)) a.is_line way.0 way.1 t.held.position here
-        (subst (λ x. must_be_key t.held ≡ is_in_column x.col (site_here false x a.site).blocks) here (must_be_here text t k a out deep))
-        (subst (λ r. KnowsKey text (a.separation ++ r) t.held.position k) cut n))
+        (rw (sym here) (must_be_here text t k a out deep)) (rw (sym cut) n))

@@ -47,18 +47,18 @@ spelled_append (v ∷ vs) ws after = ap (λ r. v.separation ++ (v.piece ++ r)) (
 given_up_on : (vs ws : List Step) (after : List ℕ) (o : Option Account) (a b : Account) (begin : Position) → Leads o vs (spelled ws after) a → a.line ≡ waits begin → is_in_column begin.col a.site.blocks ≡ true → Leads (Some (record { site = a.site; line = taken; entries = a.entries })) ws after b →
     LeadsBy GivesUp o (vs ++ ws) after b
 given_up_on vs ws after None a b begin h waiting must k = absurd h
-given_up_on [] [] after (Some x) a b begin h waiting must k = given_up begin (ap (λ (z : Account). z.line) h ∙ waiting) (subst (λ (z : Account). is_in_column begin.col z.site.blocks ≡ true) (sym h) must) (ap (λ (z : Account). let y : Account = record { site = z.site; line = taken; entries = z.entries } in y) h ∙ k)
+given_up_on [] [] after (Some x) a b begin h waiting must k = given_up begin (ap (λ (z : Account). z.line) h ∙ waiting) (rw h must) (ap (λ (z : Account). let y : Account = record { site = z.site; line = taken; entries = z.entries } in y) h ∙ k)
 given_up_on [] (w ∷ ws) after (Some x) a b begin h waiting must k = (
   record { site = x.site; line = taken; entries = x.entries },
-  given_up begin (ap (λ (z : Account). z.line) h ∙ waiting) (subst (λ (z : Account). is_in_column begin.col z.site.blocks ≡ true) (sym h) must) refl,
-  subst (λ (z : Account). IsWritten (record { site = z.site; line = taken; entries = z.entries }) w (spelled ws after)) (sym h) k.0,
-  loosely ws after (account_past (record { site = x.site; line = taken; entries = x.entries }) w (spelled ws after)) b (subst (λ (z : Account). Leads (account_past (record { site = z.site; line = taken; entries = z.entries }) w (spelled ws after)) ws after b) (sym h) k.1),
+  given_up begin (ap (λ (z : Account). z.line) h ∙ waiting) (rw h must) refl,
+  rw h k.0,
+  loosely ws after (account_past (record { site = x.site; line = taken; entries = x.entries }) w (spelled ws after)) b (rw h k.1),
 )
 given_up_on (v ∷ vs) ws after (Some x) a b begin h waiting must k = (
   x,
   stays refl,
-  subst (λ r. IsWritten x v r) (sym (spelled_append vs ws after)) h.0,
-  subst (λ r. LeadsBy GivesUp (account_past x v r) (vs ++ ws) after b) (sym (spelled_append vs ws after)) (given_up_on vs ws after (account_past x v (spelled vs (spelled ws after))) a b begin h.1 waiting must k),
+  rw (spelled_append vs ws after) h.0,
+  rw (spelled_append vs ws after) (given_up_on vs ws after (account_past x v (spelled vs (spelled ws after))) a b begin h.1 waiting must k),
 )
 
 -- A way to an account, before the rest of the text.
@@ -133,7 +133,7 @@ module _ (J K : Account → Account → Type 0) (R : Account → Account → Lis
       like = keeps.first_like x y h.0 h.1 i
 
       rest : R h.0 b after2
-      rest = subst (λ z. R h.0 b z) e (keeps.second h.0 y b (spelled (v ∷ vs) after1) like k (keeps.first x y h.0 (spelled (v ∷ vs) after1) i h.1 r))
+      rest = rw (sym e) (keeps.second h.0 y b (spelled (v ∷ vs) after1) like k (keeps.first x y h.0 (spelled (v ∷ vs) after1) i h.1 r))
 
       to : (o : Option Account) → account_past h.0 v (spelled vs after1) ≡ o → LeadsBy J o vs after1 a → Meet J K R a b after1 after2
       to None f l = absurd l
@@ -159,5 +159,5 @@ module _ (J K : Account → Account → Type 0) (R : Account → Account → Lis
       to : (g f : Option Account) → account_past h.0 v n ≡ g → account_past k.0 w m ≡ f → LeadsBy J g vs after1 a → LeadsBy K f ws after2 b → Stepped IsLike ((h.0 ≡ k.0) × (v ≡ w)) g f
           → ((g f : Account) → IsLike g f → R g f n → LeadsBy J (Some g) vs after1 a → LeadsBy K (Some f) ws after2 b → Meet J K R a b after1 after2) → Meet J K R a b after1 after2
       to (Some g) (Some f) ge fe l o s on =
-          on g f s.0 (keeps.both h.0 k.0 g f v w.key n like rest h.2 (subst (λ z. IsWritten k.0 (With v w.key) z) (sym same.3) (subst (λ z. IsWritten k.0 z m) (moved w v (sym same.0) (sym same.1) (sym same.2)) k.2)) ge (subst (λ z. account_past k.0 (With v w.key) z ≡ Some f) (sym same.3) (subst (λ z. account_past k.0 z m ≡ Some f) (moved w v (sym same.0) (sym same.1) (sym same.2)) fe))) l o
+          on g f s.0 (keeps.both h.0 k.0 g f v w.key n like rest h.2 (rw same.3 (subst (λ z. IsWritten k.0 z m) (moved w v (sym same.0) (sym same.1) (sym same.2)) k.2)) ge (rw same.3 (subst (λ z. account_past k.0 z m ≡ Some f) (moved w v (sym same.0) (sym same.1) (sym same.2)) fe))) l o
       to g f ge fe l o s on = absurd (grind arith)

@@ -1,11 +1,9 @@
 -- What may follow a scalar in quotes is not refused.
-use Rattle.proof_scanner.proofs.Common.{[], ap, append_assoc, arith, At, begins_with, Bool, check_after_quoted, ends_spaces, Err, false, Fault, glued, has_break, HasSpaces, held_of, if◌then◌else◌, in_flow, is_blank, is_blanks, is_blanks_and_comment, is_break, is_on_line, is_rest_of_line, is_separation, IsGlued, leading, lexed, line_is_done, List, may_follow_quoted, nat_tests, Ok, or_left, peek, Position, position_after, quoted_may_end, Read, refl, Result, ScannerState, skip_spaces, space, spaces_are_passed, subst, sym, true, Whitespace, Yes, ℕ, ◌++◌, ◌==◌, ◌>>=◌, ◌∙◌, ◌∷◌, ◌≡◌, eqb-true, ContentAfterQuoted, EndsAs}
+use Rattle.proof_scanner.proofs.Common.{[], ap, append_assoc, arith, At, begins_with, Bool, check_after_quoted, ends_spaces, Err, false, Fault, glued, has_break, HasSpaces, held_of, if◌then◌else◌, in_flow, is_blank, is_blanks, is_blanks_and_comment, is_break, is_on_line, is_rest_of_line, is_separation, IsGlued, leading, lexed, line_is_done, List, may_follow_quoted, nat_tests, Ok, or_left, peek, Position, position_after, quoted_may_end, Read, refl, Result, ScannerState, skip_spaces, space, spaces_are_passed, true, Whitespace, Yes, ℕ, ◌++◌, ◌==◌, ◌∙◌, ◌∷◌, ◌≡◌, eqb-true, ContentAfterQuoted, EndsAs}
 use Rattle.proof_lexers.specs.Ends as ends
 use Rattle.yaml_chars.specs.Class as model_classes
 use Rattle.proof_lexers.specs.PlainEnds as plains
-use Rattle.proof_scanner.proofs.Cut.Passes.{Spaced, spaces_skipped}
-use Rattle.proof_scanner.proofs.Sound.Passed.{same_has_break}
-use Rattle.proof_scanner.proofs.Sound.QuotedEnds.{same_line, blanks_alone, after_blanks, not_at_end}
+use Rattle.proof_scanner.proofs.Refusals.Common.{Spaced, after_blanks, blanks_alone, not_at_end, same_has_break, same_line, spaces_skipped}
 
 -- a step of the model that is not refused, and what it leaves
 pub record Left (P : ScannerState → Type 0) (r : Result ScannerState Fault) : Type 0 where
@@ -63,4 +61,4 @@ unfolding check_after_quoted
 check_passes p piece t is may =
     let checked : ScannerState → Result ScannerState Fault = λ u. (if may_follow_quoted (in_flow u.held) (p.line == u.held.position.line) (peek u.rest) then Ok u else Err (At ContentAfterQuoted u.held.position)) in
     let u : Left (Spaced Yes t) (skip_spaces Yes t) = skipped t (unglued (in_flow t.held) piece t.rest may) in
-    subst (λ y. Left (λ z. Unit {0}) (y >>= checked)) (sym u.is) (grind (arith, nat_tests, eqb-true, append_assoc, same_line, same_has_break, follows))
+    rw u.is (grind (arith, nat_tests, eqb-true, append_assoc, same_line, same_has_break, follows))

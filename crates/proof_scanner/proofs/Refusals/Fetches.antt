@@ -2,10 +2,7 @@
 use Rattle.proof_scanner.proofs.Common.{ap, are_marks, arith, Arrives, At, before_by, before_past, begins_document_at, begins_with, columns, eqb-true, false, fetch_content, fetch_here, fetch_stream_end, fetch_token, has_open_level, has_required, inl, inr, is_adjacent, is_document_marker, is_empty, List, may_not_stand, nat_le, nat_lt, nat_tests, next_line, not, peek, refl, ScannerState, site_here, subst, sym, Tok, true, ℕ, ◌&&◌, ◌+◌, ◌==◌, ◌||◌, ◌∙◌, ◌≡◌, ◌≤◌, cases_Bool, [], and_parts, AreLevels, Bool, if◌then◌else◌, Indent, innermost, is_deeper, IsNotRight, IsTopLevel, not_ended, ◌-◌, ◌∷◌, InvalidIndentation, KeyExpected, UnexpectedAt, UnexpectedBacktick, UnexpectedPercent}
 use Rattle.model_scanner.specs.declared.kind.Collection.TheVariants.{Sequence, Mapping}
 use Rattle.model_scanner.specs.State.{after}
-use Rattle.proof_scanner.proofs.Cut.Nodes.{IsDeep}
-use Rattle.proof_scanner.proofs.Cut.Dispatch.{token_holds, content_holds}
-use Rattle.proof_scanner.proofs.Cut.Fetched.{no_end, goes_on_here}
-use Rattle.proof_scanner.proofs.Refusals.Places.{Faults, fault, tried, either, IsRowless, Said, IsWhy, LiesDeep, rowless_told, none_here, stuck_by}
+use Rattle.proof_scanner.proofs.Refusals.Common.{Faults, IsDeep, IsRowless, IsWhy, LiesDeep, Said, content_holds, either, fault, goes_on_here, no_end, none_here, rowless_told, stuck_by, token_holds, tried}
 use Rattle.proof_scanner.proofs.Refusals.Nodes.{name_told, tag_told, quoted_told}
 use Rattle.proof_scanner.proofs.Refusals.Plains.{plain_told}
 use Rattle.proof_scanner.proofs.Refusals.Blocks.{block_told}

@@ -1,32 +1,24 @@
 -- Faults of indicators, markers and directives.
-use Rattle.proof_scanner.proofs.Common.{[], allow_key, and_false, and_parts, ap, append_assoc, AreEntries, arith, Arrives, At, begin_flow, begin_key, begin_keyless_mapping, begin_keyless_value, begin_line, begin_pair, begins_entry, begins_free_line, begins_with, begins_with_alpha, begins_with_space_or_break, blanks_and_comment, Bool, check_after_tab, check_block_entry, check_dash, check_document_end, check_key_space, check_value_space, chosen, closed_key, Collection, colon_may_precede, deepened_flow, directive_of, directives_end, end_entry, end_flow, ended_flow, entries_by, Entry, eqb-true, Err, false, Fault, fetch_block_entry, fetch_directive, fetch_document_end, fetch_document_marker, fetch_flow_collection_end, fetch_flow_collection_start, fetch_flow_entry, fetch_key, fetch_value, flow_level, FlowLevel, followed_first, free, further, go_on, has, has_no_break, HasNoKey, HasSpaces, Held, held_of, Holds, if◌then◌else◌, in_flow, increase_flow_level, inl, inr, insert_key, is_alphanumeric, is_at_gap, is_blank, is_blank_or_breakz, is_breakz, is_empty, is_free, is_full, is_one_of, is_required, is_separation, is_taken, is_taken_line, is_value, is_value_here, IsDirectiveRefusal, IsFollowed, IsLookedAt, IsPlace, Key, leading, length, lexed, line_by, line_past_separation, List, may_ask, may_not_stand, MayChoose, nat_le, nat_lt, nat_tests, next_entry, No, no_key, None, not, not-false, not-true, Ok, on_held, opens, opens_pair, Option, or_true, OutOfMemory, outside_key, paired, pass_indicator, past, past_blanks_and_comment, past_line_rest, peek, Position, position_after, Problem, Read, read_as, refl, refused_as, remove_implicit_key, Result, roll_entry, roll_indent, roll_one_col_indent, same_alpha, ScannerState, skip_indicator, skip_yaml_whitespace, slice_index, Some, space, spaces_are_passed, subst, suc, sym, taken, takes_pair, Tok, top_key, true, try_held, unroll_indent, waits, white, Whitespace, Yes, ℕ, ◌&&◌, ◌++◌, ◌-◌, ◌==◌, ◌||◌, ◌∙◌, ◌∷◌, ◌≡◌, ◌≤◌, ◌⊎◌, append-nil, comment_of, is_break, is_decimal_digit, is_letter, is_on_line, past_comment, deepen, drop_open_level, in_block, Indent, level, ◌+◌, BlockEntryInFlow, BlockEntryNotAllowed, ColonMisplaced, CommentNotSeparated, ContentAfterDocumentEnd, FlowTooDeep, KeyExpected, KeyNotAllowed, TabAfterColon, TabAfterDash, TabAfterKey, ValueNotAllowed, WhitespaceExpected}
+use Rattle.proof_scanner.proofs.Common.{GoesOn, with_top, [], allow_key, and_false, and_parts, ap, append_assoc, AreEntries, arith, Arrives, At, begin_flow, begin_key, begin_keyless_mapping, begin_keyless_value, begin_line, begin_pair, begins_entry, begins_free_line, begins_with, begins_with_alpha, begins_with_space_or_break, blanks_and_comment, Bool, check_after_tab, check_block_entry, check_dash, check_document_end, check_key_space, check_value_space, chosen, closed_key, Collection, colon_may_precede, deepened_flow, directive_of, directives_end, end_entry, end_flow, ended_flow, entries_by, Entry, eqb-true, false, Fault, fetch_block_entry, fetch_directive, fetch_document_end, fetch_document_marker, fetch_flow_collection_end, fetch_flow_collection_start, fetch_flow_entry, fetch_key, fetch_value, FlowLevel, followed_first, free, further, go_on, has, has_no_break, Held, held_of, Holds, if◌then◌else◌, in_flow, increase_flow_level, inl, inr, insert_key, is_alphanumeric, is_at_gap, is_blank, is_blank_or_breakz, is_breakz, is_empty, is_free, is_full, is_one_of, is_required, is_separation, is_taken, is_taken_line, is_value, is_value_here, IsDirectiveRefusal, IsFollowed, Key, leading, length, lexed, line_by, line_past_separation, List, may_ask, may_not_stand, MayChoose, nat_le, nat_lt, nat_tests, next_entry, No, no_key, None, not, not-false, not-true, Ok, on_held, opens, opens_pair, Option, or_true, OutOfMemory, outside_key, paired, pass_indicator, past, past_blanks_and_comment, past_line_rest, peek, Position, position_after, Problem, Read, refl, refused_as, remove_implicit_key, roll_entry, roll_indent, roll_one_col_indent, same_alpha, ScannerState, skip_indicator, skip_yaml_whitespace, slice_index, Some, space, subst, suc, sym, taken, takes_pair, Tok, top_key, true, try_held, unroll_indent, waits, white, Whitespace, Yes, ℕ, ◌&&◌, ◌++◌, ◌-◌, ◌==◌, ◌||◌, ◌∙◌, ◌∷◌, ◌≡◌, ◌≤◌, ◌⊎◌, append-nil, comment_of, is_break, is_decimal_digit, is_letter, is_on_line, past_comment, deepen, drop_open_level, in_block, Indent, level, ◌+◌, BlockEntryInFlow, BlockEntryNotAllowed, ColonMisplaced, CommentNotSeparated, ContentAfterDocumentEnd, FlowTooDeep, KeyExpected, KeyNotAllowed, TabAfterColon, TabAfterDash, TabAfterKey, ValueNotAllowed, WhitespaceExpected}
 use Rattle.yaml_chars.specs.Class.{is_alpha}
 use Rattle.model_scanner.specs.Directive.{directive}
 use Rattle.model_scanner.specs.State.{after}
 use Rattle.model_scanner.specs.Block.{value_of}
-use Rattle.proof_scanner.proofs.Sound.Stales.{no_entries}
+use Rattle.proof_scanner.proofs.Refusals.Common.{knowing, known_turn, held_exactly, Spaced, begins_here, gap_here, no_entries, no_tab_in, not_at_end, past_white, past_white_space, same_has_break, saved_is, saved_keys, spaced, spaces_skipped, value_is, white_cut, white_exactly, white_first, white_of, white_or_missed}
 use Rattle.proof_scanner.proofs.Sound.DocumentLines.{line_begun}
-use Rattle.proof_scanner.proofs.Cut.Dispatch.{gap_here, value_is}
 use Rattle.proof_scanner.proofs.Cut.Blocks.{key_removed}
-use Rattle.proof_scanner.proofs.Cut.Passes.{Spaced, spaced, spaces_skipped}
-use Rattle.proof_scanner.proofs.Sound.QuotedEnds.{not_at_end}
 use Rattle.proof_scanner.proofs.Sound.Blanks.{same_in_line, line_rest_in_line, line_rest_cut, line_rest_fills, found_in, spaced_parted}
-use Rattle.proof_scanner.proofs.Sound.Passed.{same_has_break}
-use Rattle.proof_scanner.proofs.Cut.Saved.{saved_keys, saved_is}
-use Rattle.proof_scanner.proofs.Refusals.Places.{Faults, fault, goes, read, in_turn, tried, checked, either, kept, IsRowless, Said, IsWhy, LiesDeep, rowless_told, account_by, place, many_levels, IsAllowed, stuck, in_flow_is, looked_at, none_begins, followed_stuck, white_goes, space_told, spaces_told, no_comment, no_comment_left, solid_past}
+use Rattle.proof_scanner.proofs.Refusals.Places.{Faults, fault, goes, read, in_turn, tried, checked, either, kept, IsRowless, Said, LiesDeep, rowless_told, account_by, place, many_levels, IsAllowed, stuck, in_flow_is, looked_at, none_begins, followed_stuck, white_goes, space_told, spaces_told, no_comment, no_comment_left, solid_past}
 use Rattle.proof_scanner.proofs.Refusals.KeysThatWait.{not_required, line_rowless, closing_rowless, none_waits}
-use Rattle.proof_scanner.proofs.Sound.WhiteSpaces.{white_of, past_white, white_cut, past_white_space, white_exactly, white_first, no_tab_in, white_or_missed}
-use Rattle.proof_scanner.proofs.Sound.ColonSpaces.{colon_spaced}
-use Rattle.proof_scanner.proofs.Cut.Fetched.{begins_here}
+use Rattle.proof_scanner.proofs.Sound.ColonSpaces.{past_colon, colon_spaced}
 use Rattle.proof_scanner.proofs.Sound.FlowMarks.{flow_over, entry_over}
 use Rattle.proof_scanner.proofs.Refusals.PiecesRefused.{among}
 use Rattle.defs_text.specs.Classes as classes
 use Rattle.defs_text.specs.Tags as tags
 use Rattle.defs_token.specs.FlowEntry as entry
 use Rattle.model_scanner.proofs.Holds as holds
+use Rattle.proof_scanner.proofs.Sound.Questions.{entry_checked as entry_outside}
 use Rattle.proof_lexers.specs.DirectiveEnds as directives
-use Rattle.proof_lexers.specs.PlainEnds as plain_ends
-use Rattle.proof_lexers.specs.Separations as separations
 use Rattle.proof_scanner.proofs.Sound.Arrivals as arrivals
 use Rattle.proof_scanner.specs.NoPiece as none
 use Rattle.proof_scanner.specs.Failing as defs
@@ -80,7 +72,7 @@ line_told text s rowless = kept closed_key (λ e. refl) (λ x. goes) (remove_tol
 -- ---- positions
 
 line_stays : (t : ScannerState) → Holds (λ u. (u.rest ≡ t.rest) × (u.held.position ≡ t.held.position)) (try_held begin_line t)
-line_stays t = holds.tried t (begin_line t.held) (line_begun t.held (unroll_indent 0 t.held) refl) (λ s k. (refl, ap (λ h. h.position) k.1 ∙ (unrolled_stays 0 t.held).0))
+line_stays t = holds.tried t (begin_line t.held) (line_begun t.held (unroll_indent 0 t.held) refl) (λ s k. (refl, ap (λ h. h.position) k.0 ∙ (unrolled_stays 0 t.held).0))
 
 module _ (text : List ℕ) (t : ScannerState) (a : Arrives text t) (some : is_empty t.rest ≡ false) (lies : LiesDeep t) where
   -- ---- lines for the document
@@ -92,8 +84,7 @@ module _ (text : List ℕ) (t : ScannerState) (a : Arrives text t) (some : is_em
   pub directive_told : (more : List ℕ) → t.rest ≡ 37 ∷ more → t.held.position.col ≡ 0 → Faults (Said text) (fetch_directive t)
   unfolding fetch_directive
   directive_told more e col =
-      in_turn (tried t (line_told text t.held (line_rowless text t a some col))) (λ u k.
-      let s : (u.rest ≡ t.rest) × (u.held.position ≡ t.held.position) = held_of u (line_stays t) k in
+      knowing (line_stays t) (tried t (line_told text t.held (line_rowless text t a some col))) (λ u s.
       read u.held (directive u.rest u.held.position) _
       (λ f j. by f (refused_as (ap (λ r. directive r t.held.position) (sym (s.0 ∙ e)) ∙ (ap (λ q. directive u.rest q) (sym s.1) ∙ j)) (directives_end more t.held.position))) (λ x j. goes))
     where
@@ -114,7 +105,7 @@ module _ (text : List ℕ) (t : ScannerState) (a : Arrives text t) (some : is_em
   -- a fault at the end of what was passed on the line
   followed_at : (why : Problem) (q : Position) (p : Position) (passed content : List ℕ) → q ≡ position_after p passed content
       → (x : IsFollowed (in_flow t.held) t.held.position t.rest why (position_after p passed content)) → HasFirst why (position_after p passed content) x → Said text (At why q)
-  followed_at why q p passed content e x first = λ _. subst (λ z. IsWhy text why z) (sym e) (followed_stuck text t a some lies why (position_after p passed content) x first)
+  followed_at why q p passed content e x first = λ _. rw e (followed_stuck text t a some lies why (position_after p passed content) x first)
 
   marked_state : (tok : Tok) (c : ℕ) (more : List ℕ) → t.rest ≡ c ∷ c ∷ c ∷ more → Holds (λ u. (u.rest ≡ more) × (u.held.position ≡ further 3 t.held.position)) (fetch_document_marker tok t)
   unfolding fetch_document_marker
@@ -131,8 +122,8 @@ module _ (text : List ℕ) (t : ScannerState) (a : Arrives text t) (some : is_em
   pub document_end_told : (more : List ℕ) → t.rest ≡ 46 ∷ 46 ∷ 46 ∷ more → is_at_gap more ≡ true → t.held.position.col ≡ 0 → Faults (Said text) (fetch_document_end t)
   unfolding fetch_document_end
   document_end_told more e gap col =
-      in_turn (marker_told Tok.document_end col) (λ u k. in_turn (spaces_told text Yes u (λ h. absurd (cc (h, ap (λ r. begins_with 35 r) (held_of u (marked_state Tok.document_end 46 more e) k).0, no_comment more gap)))) (λ v i.
-      end_checked u v more e gap col (held_of u (marked_state Tok.document_end 46 more e) k) (held_of v (spaces_skipped Yes u) i)))
+      knowing (marked_state Tok.document_end 46 more e) (marker_told Tok.document_end col) (λ u m.
+      knowing (spaces_skipped Yes u) (spaces_told text Yes u (λ h. absurd (cc (h, ap (λ r. begins_with 35 r) m.0, no_comment more gap)))) (λ v s. end_checked u v more e gap col m s))
 
   -- ---- what may begin
 
@@ -171,37 +162,34 @@ module _ (text : List ℕ) (t : ScannerState) (a : Arrives text t) (some : is_em
       record { fails = may_not_stand (defs.dash_not_free more e gap (in_flow_is text t a some c [] ∙ o) (line_taken c [] may (is_outside o) (not-true t.held.key_allowed n))); is_first = looked_at text t a some lies c [] })) (λ _. goes))
 
   -- a character of a text stands in it with more after it
-  has_more : (b c : List ℕ) → has 9 b ≡ true → has 9 (b ++ c) ≡ true
+  has_more : (b c : List ℕ) → is_one_of b 9 ≡ true → has 9 (b ++ c) ≡ true
   has_more [] c h = absurd (cc h)
   has_more (d ∷ b) c h = grind (arith, has_more b c)
 
-  -- what a check of the line after an indicator sees
-  first_after : (r : List ℕ) (c : ℕ) → (slice_index r 0 == c) ≡ true → (0 == c) ≡ false → (m : List ℕ) × (r ≡ c ∷ m)
-  first_after [] c h n = absurd (cc (h, n))
-  first_after (d ∷ m) c h n = (m, ap (λ x. x ∷ m) (eqb-true d c h))
+  -- what stands on the line after an indicator
+  line_goes_on : (more : List ℕ) → GoesOn more (blanks_and_comment more) (past_blanks_and_comment more)
+  line_goes_on more = record { is_text = line_rest_cut more; is_filled = line_rest_fills more; is_on_line = same_has_break (blanks_and_comment more) ∙ ap not (line_rest_in_line more) }
+
+  line_place : (p : Position) (more : List ℕ) → p ≡ past t.held.position → past_line_rest p more ≡ position_after (further 1 t.held.position) (blanks_and_comment more) (past_blanks_and_comment more)
+  line_place p more place = same_in_line p (blanks_and_comment more) [] (past_blanks_and_comment more) (line_rest_in_line more) ∙ ap (λ q. position_after q (blanks_and_comment more) (past_blanks_and_comment more)) place
+
+  line_read : (more : List ℕ) (p : Position) (x : Read Whitespace) → begins_with 35 more ≡ false → space Yes more p ≡ Ok x → record { rest = past_blanks_and_comment more; position = past_line_rest p more; value = found_in (leading is_blank more) } ≡ x
+  line_read more p x none k = let exact = spaced_parted more p none in cc (exact, k)
+
+  begins_entry_here : (r : List ℕ) → (slice_index r 0 == 45) ≡ true → is_blank_or_breakz (slice_index r 1) ≡ true → begins_entry r ≡ true
+  begins_entry_here [] h i = absurd (cc h)
+  begins_entry_here (c ∷ r) h i = rw (eqb-true c 45 h) (sym (gap_here r) ∙ i)
 
   dash_checked : (more : List ℕ) → t.rest ≡ 45 ∷ more → is_at_gap more ≡ true → in_flow t.held ≡ false → t.held.key_allowed ≡ true → (h : Held) → h.position ≡ past t.held.position → (x : Read Whitespace) → space Yes more h.position ≡ Ok x → Faults (Said text) (check_dash x.value (go_on x h))
   unfolding check_dash
-  dash_checked more e gap outside allowed h place x k = by x (read_as k (spaces_are_passed Yes more h.position))
-    where
-      reason : (blanks comment rest : List ℕ) → more ≡ blanks ++ (comment ++ rest) → is_separation false (blanks ++ comment) rest ≡ true → plain_ends.has_break (blanks ++ comment) ≡ false
-          → (has 9 blanks && (slice_index rest 0 == 45) && is_blank_or_breakz (slice_index rest 1)) ≡ true → Said text (At TabAfterDash (position_after h.position (blanks ++ comment) rest))
-      reason blanks comment rest cut fills line all =
-          let second = and_parts (has 9 blanks && (slice_index rest 0 == 45)) (is_blank_or_breakz (slice_index rest 1)) all in
-          let first = and_parts (has 9 blanks) (slice_index rest 0 == 45) second.0 in
-          let d = first_after rest 45 first.1 refl in
-          let gap2 : is_at_gap d.0 ≡ true = sym (gap_here d.0) ∙ (ap (λ l. is_blank_or_breakz (slice_index l 1)) (sym d.1) ∙ second.1) in
-          followed_at TabAfterDash _ (further 1 t.held.position) (blanks ++ comment) rest (ap (λ q. position_after q (blanks ++ comment) rest) place)
-          (none.tab_after_dash more (blanks ++ comment) rest outside e gap (record { is_text = cut ∙ sym (append_assoc blanks comment rest); is_filled = fills; is_on_line = line })
-          (has_more blanks comment first.0) (ap begins_entry d.1 ∙ gap2)) (λ c may. line_not_taken c [] may (is_outside outside) allowed)
-
-      by : (y : Read Whitespace) → HasSpaces Yes h.position more y → Faults (Said text) (if y.value.found_tabs && (slice_index y.rest 0 == 45) && is_blank_or_breakz (slice_index y.rest 1) then Err (At TabAfterDash y.position) else Ok (go_on y h))
-      by y (separations.spaces blanks comment rest cut are fills line ends) =
-          checked (has 9 blanks && (slice_index rest 0 == 45) && is_blank_or_breakz (slice_index rest 1)) (At TabAfterDash (position_after h.position (blanks ++ comment) rest)) (reason blanks comment rest cut fills line) (λ _. goes)
-
-  entry_outside : Holds (λ s. (in_flow t.held ≡ false) × (t.held.key_allowed ≡ true) × (s ≡ t.held)) (check_block_entry t.held)
-  unfolding check_block_entry
-  entry_outside = grind (arith, nat_tests, eqb-true, holds.checked, in_flow, not, holds.went, not-false)
+  dash_checked more e gap outside allowed h place x k =
+      let rest : List ℕ = past_blanks_and_comment more in
+      rw (sym (line_read more h.position x (no_comment more gap) k))
+      (checked (is_one_of (leading is_blank more) 9 && (slice_index rest 0 == 45) && is_blank_or_breakz (slice_index rest 1)) (At TabAfterDash (past_line_rest h.position more)) (λ all.
+      let second = and_parts (is_one_of (leading is_blank more) 9 && (slice_index rest 0 == 45)) (is_blank_or_breakz (slice_index rest 1)) all in
+      let first = and_parts (is_one_of (leading is_blank more) 9) (slice_index rest 0 == 45) second.0 in
+      followed_at TabAfterDash _ (further 1 t.held.position) (blanks_and_comment more) rest (line_place h.position more place)
+      (none.tab_after_dash more (blanks_and_comment more) rest outside e gap (line_goes_on more) (has_more (leading is_blank more) _ first.0) (begins_entry_here rest first.1 second.1)) (λ c may. line_not_taken c [] may (is_outside outside) allowed)) (λ _. goes))
 
   -- no comment stands after what was passed behind a dash
   dash_spaced : (u : ScannerState) → Holds (λ v. (begins_with 35 v.rest ≡ false) × (v.held.keys ≡ u.held.keys)) (lexed (space Yes u.rest u.held.position) u.held check_dash)
@@ -211,19 +199,15 @@ module _ (text : List ℕ) (t : ScannerState) (a : Arrives text t) (some : is_em
   pub dash_told : (more : List ℕ) → t.rest ≡ 45 ∷ more → is_at_gap more ≡ true → Faults (Said text) (fetch_block_entry t)
   unfolding fetch_block_entry roll_entry
   dash_told more e gap =
-      in_turn (tried t (entry_checked more e gap)) (λ u i.
-      let was : (u.rest ≡ t.rest) × (in_flow t.held ≡ false) × (t.held.key_allowed ≡ true) × (u.held ≡ t.held) =
-      held_of {P = λ v. (v.rest ≡ t.rest) × (in_flow t.held ≡ false) × (t.held.key_allowed ≡ true) × (v.held ≡ t.held)} u (holds.tried t (check_block_entry t.held) entry_outside (λ s k. (refl, k.0, k.1, k.2))) i in
-      let rolled : ScannerState = on_held (roll_indent t.held.position.col None Tok.block_sequence_start t.held.position) (skip_indicator u) in
-      let stays = rolled_stays t.held.position.col None Tok.block_sequence_start t.held.position (skip_indicator u).held in
-      let place : rolled.held.position ≡ past t.held.position = stays.0 ∙ ap (λ h. past h.position) was.3 in
-      let left : rolled.rest ≡ more = ap after (was.0 ∙ e) in
-      in_turn (read rolled.held (space Yes rolled.rest rolled.held.position) check_dash (λ f k. space_told text Yes rolled.rest rolled.held.position (λ h. absurd (cc (h, ap (λ r. begins_with 35 r) left, no_comment more gap))) f k)
-      (λ x k. dash_checked more e gap was.1 was.2 rolled.held place x (ap (λ r. space Yes r rolled.held.position) (sym left) ∙ k))) (λ v j.
-      let spaced_on = held_of v (dash_spaced rolled) j in
-      in_turn (spaces_told text No v (λ h. absurd (cc (h, spaced_on.0)))) (λ w k.
-      let keys : (roll_entry w).held.keys ≡ t.held.keys = (grind (arith, rolled_one_is)) ∙ (ap (λ h. h.keys) (held_of w (spaces_skipped No v) k).is_held ∙ (spaced_on.1 ∙ (stays.1 ∙ ap (λ h. h.keys) was.3))) in
-      in_turn (tried (roll_entry w) (remove_told text (roll_entry w).held (λ must. absurd (cc (must, ap (λ ks. is_required (top_key ks)) keys, not_required text t a some (ap (λ b. in_flow t.held || b) was.2 ∙ or_true (in_flow t.held))))))) (λ x l. goes))))
+      known_turn _ (held_exactly t (entry_outside t.held)) (tried t (entry_checked more e gap)) (λ was.
+      let rolled : ScannerState = on_held (roll_indent t.held.position.col None Tok.block_sequence_start t.held.position) (skip_indicator t) in
+      let stays = rolled_stays t.held.position.col None Tok.block_sequence_start t.held.position (skip_indicator t).held in
+      let left : rolled.rest ≡ more = ap after e in
+      knowing (dash_spaced rolled) (read rolled.held (space Yes rolled.rest rolled.held.position) check_dash (λ f k. space_told text Yes rolled.rest rolled.held.position (λ h. absurd (cc (h, ap (λ r. begins_with 35 r) left, no_comment more gap))) f k)
+      (λ x k. dash_checked more e gap was.0 was.1 rolled.held stays.0 x (ap (λ r. space Yes r rolled.held.position) (sym left) ∙ k)))
+      (λ v spaced_on. knowing (spaces_skipped No v) (spaces_told text No v (λ h. absurd (cc (h, spaced_on.0)))) (λ w skipped.
+      let keys : (roll_entry w).held.keys ≡ t.held.keys = (grind (arith, rolled_one_is)) ∙ (ap (λ h. h.keys) skipped.is_held ∙ (spaced_on.1 ∙ stays.1)) in
+      in_turn (tried (roll_entry w) (remove_told text (roll_entry w).held (λ must. absurd (cc (must, ap (λ ks. is_required (top_key ks)) keys, not_required text t a some (ap (λ b. in_flow t.held || b) was.1 ∙ or_true (in_flow t.held))))))) (λ x l. goes))))
 
   key_begun : (more : List ℕ) → t.rest ≡ 63 ∷ more → is_at_gap more ≡ true → Faults (Said text) (begin_key t.held)
   unfolding begin_key
@@ -240,9 +224,9 @@ module _ (text : List ℕ) (t : ScannerState) (a : Arrives text t) (some : is_em
   white_told : (in_flow t.held || t.held.key_allowed) ≡ true → (more : List ℕ) → t.rest ≡ 63 ∷ more → is_at_gap more ≡ true → (u : ScannerState) → u.rest ≡ more → u.held.position ≡ past t.held.position → Faults (Said text) (skip_yaml_whitespace u)
   unfolding skip_yaml_whitespace
   white_told asked more e gap u left place = elim (white_or_missed more u.held gap) [
-    | inl begins ↦ subst (λ x. Faults (Said text) x) (sym (white_goes u (ap begins_with_space_or_break left ∙ begins))) goes
+    | inl begins ↦ rw (white_goes u (ap begins_with_space_or_break left ∙ begins)) goes
     | inr m ↦
-        subst (λ x. Faults (Said text) x) (sym (ap (λ r. white false false r u.held) left ∙ m.is_refused)) (fault {f = At WhitespaceExpected u.held.position}
+        rw (ap (λ r. white false false r u.held) left ∙ m.is_refused) (fault {f = At WhitespaceExpected u.held.position}
         (followed_at WhitespaceExpected u.held.position (further 1 t.held.position) [] more place
         (none.no_space more [] more e gap (record { is_text = refl; is_filled = refl; is_on_line = refl }) m.no_space m.ends) (λ c may. (asks asked c may, refl))))
   ]
@@ -257,25 +241,21 @@ module _ (text : List ℕ) (t : ScannerState) (a : Arrives text t) (some : is_em
       let begins : begins_with_space_or_break more ≡ true = held_of w (white_first more u.held gap) (ap (λ r. white false false r u.held) (sym left) ∙ k) in
       let separation : List ℕ = white_of false u.rest in
       let rest : List ℕ = past_white false u.rest in
-      subst (λ (z : ScannerState). Faults (Said text) (if peek z.rest == 9 then Err (At TabAfterKey z.held.position) else Ok z)) (sym exact.0)
-      (checked (peek rest == 9) (At TabAfterKey (position_after u.held.position separation rest)) (λ tab.
+      rw exact.0 (checked (peek rest == 9) (At TabAfterKey (position_after u.held.position separation rest)) (λ tab.
       let first : rest ≡ 9 ∷ after rest = tab_first rest tab in
       followed_at TabAfterKey (position_after u.held.position separation rest) (further 1 t.held.position) separation (9 ∷ after rest)
       (ap (λ q. position_after q separation rest) place ∙ ap (λ r. position_after (further 1 t.held.position) separation r) first)
-      (none.tab_after_question more separation (after rest) e gap (sym left ∙ (white_cut false u.rest ∙ ap (λ r. separation ++ r) first)) (subst (λ r. is_separation false separation r ≡ true) first exact.1))
+      (none.tab_after_question more separation (after rest) e gap (sym left ∙ (white_cut false u.rest ∙ ap (λ r. separation ++ r) first)) (rw (sym first) exact.1))
       (λ c may. (asks asked c may, begins, no_tab_in false u.rest))) (λ _. goes))
 
   pub question_told : (more : List ℕ) → t.rest ≡ 63 ∷ more → is_at_gap more ≡ true → Faults (Said text) (fetch_key t)
   unfolding fetch_key
   question_told more e gap =
-      in_turn (tried t (key_begun more e gap)) (λ u i.
-      let first : (u.rest ≡ t.rest) × Stays u.held t.held × ((in_flow t.held || t.held.key_allowed) ≡ true) =
-      held_of {P = λ v. (v.rest ≡ t.rest) × Stays v.held t.held × ((in_flow t.held || t.held.key_allowed) ≡ true)} u (holds.tried t (begin_key t.held) key_place (λ s k. (refl, k.0, k.1))) i in
-      in_turn (tried u (remove_told text u.held (λ must. absurd (cc (must, ap (λ ks. is_required (top_key ks)) first.1.1, not_required text t a some first.2))))) (λ v j.
-      let second : (v.rest ≡ u.rest) × (v.held.position ≡ u.held.position) = held_of {P = λ x. (x.rest ≡ u.rest) × (x.held.position ≡ u.held.position)} v (holds.tried u (remove_implicit_key u.held) (key_removed u.held) (λ s k. (refl, ap (λ h. h.position) k))) j in
-      let here : ScannerState = skip_indicator (on_held (λ s. allow_key (not (in_flow s)) s) v) in
-      let left : here.rest ≡ more = ap after (second.0 ∙ (first.0 ∙ e)) in
-      let place : here.held.position ≡ past t.held.position = ap past (second.1 ∙ first.1.0) in
+      knowing {P = λ v. (v.rest ≡ t.rest) × Stays v.held t.held × ((in_flow t.held || t.held.key_allowed) ≡ true)} (holds.tried t (begin_key t.held) key_place (λ s k. (refl, k.0, k.1))) (tried t (key_begun more e gap)) (λ u first.
+      known_turn _ (held_exactly u (key_removed u.held)) (tried u (remove_told text u.held (λ must. absurd (cc (must, ap (λ ks. is_required (top_key ks)) first.1.1, not_required text t a some first.2))))) (λ _.
+      let here : ScannerState = skip_indicator (on_held (λ s. allow_key (not (in_flow s)) s) (record u { held = record u.held { keys = with_top None u.held.keys } })) in
+      let left : here.rest ≡ more = ap after (first.0 ∙ e) in
+      let place : here.held.position ≡ past t.held.position = ap past first.1.0 in
       in_turn (white_told first.2 more e gap here left place) (λ w k.
       in_turn (space_checked first.2 more e gap here w left place k) (λ x l. goes))))
 
@@ -303,12 +283,12 @@ module _ (text : List ℕ) (t : ScannerState) (a : Arrives text t) (some : is_em
       let out : is_empty t.held.flow ≡ true = is_outside o in
       let none_in : a.base.entries ≡ [] = no_entries t.held.key_allowed _ t.held.flow t.held.keys a.base.entries out a.are_entries in
       let key_is : outside_key a.base.entries t.held.keys ≡ None = ap (λ es. outside_key es t.held.keys) none_in ∙ top in
-      let may : MayChoose true false (outside_key a.base.entries t.held.keys) t.held.position t.rest = subst (λ k. MayChoose true false k t.held.position t.rest) (sym key_is) tt in
+      let may : MayChoose true false (outside_key a.base.entries t.held.keys) t.held.position t.rest = rw key_is tt in
       record {
         stands = λ h. absurd (cc h);
-        is_stuck = no_key (account_by text t a some false []) a.separation more t.held.position (subst (λ r. IsPlace text (account_by text t a some false []) a.separation r t.held.position) e (place text t a some false [] may)) (value_here more e i false []) (in_flow_is text t a some false [] ∙ o)
-            (line_taken false [] (λ _. may) out allowed) (subst (λ r. HasNoKey text a.separation r t.held.position) e (none_waits text t a some top out))
-            (subst (λ r. IsLookedAt (account_by text t a some false []) a.separation t.held.position r) e (looked_at text t a some lies false [])) apart;
+        is_stuck = no_key (account_by text t a some false []) a.separation more t.held.position (rw (sym e) (place text t a some false [] may)) (value_here more e i false []) (in_flow_is text t a some false [] ∙ o)
+            (line_taken false [] (λ _. may) out allowed) (rw (sym e) (none_waits text t a some top out))
+            (rw (sym e) (looked_at text t a some lies false [])) apart;
       }
 
   mapping_told : (more : List ℕ) → t.rest ≡ 58 ∷ more → colon_may_precede more ≡ true → is_value t ≡ true → top_key t.held.keys ≡ None → (s : Held) → in_flow s ≡ in_flow t.held → s.key_allowed ≡ t.held.key_allowed → Faults (Said text) (begin_keyless_mapping t.held.position s)
@@ -319,18 +299,14 @@ module _ (text : List ℕ) (t : ScannerState) (a : Arrives text t) (some : is_em
   tab_checked : (more : List ℕ) → t.rest ≡ 58 ∷ more → begins_with 9 more ≡ true → (h : Held) → h.position ≡ past t.held.position → (x : Read Whitespace) → space Yes more h.position ≡ Ok x → Faults (Said text) (check_after_tab x.value (go_on x h))
   unfolding check_after_tab is_alpha is_alphanumeric
   tab_checked more e tab h place x k =
-      let exact = spaced_parted more h.position (grind arith) in
-      let exactly : Read Whitespace = record { rest = past_blanks_and_comment more; position = past_line_rest h.position more; value = found_in (leading is_blank more) } in
-      let same : exactly ≡ x = cc (exact, k) in
       let letter : (r : List ℕ) → ((peek r == 45) || is_alpha (peek r)) ≡ true → begins_with_alpha r ≡ true = λ r f. grind (arith, same_alpha) in
-      subst (λ (z : Read Whitespace). Faults (Said text) (if not z.value.has_valid_yaml_ws && ((peek z.rest == 45) || is_alpha (peek z.rest)) then Err (At TabAfterColon z.position) else Ok (go_on z h))) same
+      rw (sym (line_read more h.position x (grind arith) k))
       (checked (not (is_one_of (leading is_blank more) 32) && ((peek (past_blanks_and_comment more) == 45) || is_alpha (peek (past_blanks_and_comment more)))) (At TabAfterColon (past_line_rest h.position more)) (λ all.
       let first = and_parts (not (is_one_of (leading is_blank more) 32)) ((peek (past_blanks_and_comment more) == 45) || is_alpha (peek (past_blanks_and_comment more))) all in
       let alpha : begins_with_alpha (past_blanks_and_comment more) ≡ true = letter (past_blanks_and_comment more) first.1 in
       followed_at TabAfterColon _ (further 1 t.held.position) (blanks_and_comment more) (past_blanks_and_comment more)
-      (same_in_line h.position (blanks_and_comment more) [] (past_blanks_and_comment more) (line_rest_in_line more) ∙ ap (λ q. position_after q (blanks_and_comment more) (past_blanks_and_comment more)) place)
-      (none.tab_after_colon more (blanks_and_comment more) (past_blanks_and_comment more) e tab
-      (record { is_text = line_rest_cut more; is_filled = line_rest_fills more; is_on_line = same_has_break (blanks_and_comment more) ∙ ap not (line_rest_in_line more) })
+      (line_place h.position more place)
+      (none.tab_after_colon more (blanks_and_comment more) (past_blanks_and_comment more) e tab (line_goes_on more)
       (no_space (leading is_blank more) (tags.after is_blank more) (not-true (is_one_of (leading is_blank more) 32) first.0) alpha) alpha) (λ c may. tt)) (λ _. goes))
 
   value_checked : (more : List ℕ) → t.rest ≡ 58 ∷ more → (u : ScannerState) → u.rest ≡ more → u.held.position ≡ past t.held.position → Faults (Said text) (check_value_space u)
@@ -340,11 +316,6 @@ module _ (text : List ℕ) (t : ScannerState) (a : Arrives text t) (some : is_em
       either (peek u.rest == 9) (λ tab. read u.held (space Yes u.rest u.held.position) check_after_tab (λ f k. space_told text Yes u.rest u.held.position (λ h. absurd (not_both u.rest tab h)) f k)
       (λ x k. tab_checked more e (sym (begins_here 9 more refl) ∙ (ap (λ r. peek r == 9) (sym left) ∙ tab)) u.held place x (ap (λ r. space Yes r u.held.position) (sym left) ∙ k))) (λ _. goes)
 
-  -- only the position is another
-  value_held : (u : ScannerState) → Holds (λ w. w.held ≡ record u.held { position = w.held.position }) (check_value_space u)
-  unfolding check_value_space check_after_tab
-  value_held u = grind (arith, nat_tests, eqb-true, holds.either, peek, holds.read, space, check_after_tab, holds.checked, not, is_alpha, TabAfterColon, holds.went)
-
   pub colon_told : (more : List ℕ) → t.rest ≡ 58 ∷ more → is_value t ≡ true → Faults (Said text) (fetch_value t)
   unfolding fetch_value insert_key begin_keyless_value begin_pair
   colon_told more e is =
@@ -352,10 +323,8 @@ module _ (text : List ℕ) (t : ScannerState) (a : Arrives text t) (some : is_em
       → Faults (Said text) (value_of (top_key u.held.keys) t.held.position (opens_pair t.held.flow) u.held) =
       λ more e apart u keys flow allowed. (grind (arith, nat_tests, eqb-true, opens_pair, in_turn, mapping_told, goes, opens, checked, nat_lt, misplaced, (sym (ap top_key keys)))) in
       let first : ScannerState = skip_indicator (on_held (λ s. record s { flow = paired s.flow }) t) in
-      in_turn (value_checked more e first (ap after e) refl) (λ u k.
-      let h = held_of u (value_held first) k in
-      let apart = held_of u (holds.weakened (λ v k. ap colon_may_precede (sym (ap after e)) ∙ k.1) (colon_spaced first.rest first.held)) k in
-      in_turn (tried u (value_told_by more e apart u (ap (λ s. s.keys) h) (ap (λ s. not (is_empty s.flow)) h ∙ ap not (grind arith)) (ap (λ s. s.key_allowed) h))) (λ v i. goes))
+      known_turn _ (colon_spaced first.rest first.held) (value_checked more e first (ap after e) refl) (λ apart.
+      in_turn (tried (past_colon first.rest first.held) (value_told_by more e (ap colon_may_precede (sym (ap after e)) ∙ apart) (past_colon first.rest first.held) refl (ap not (grind arith)) refl)) (λ v i. goes))
 
   -- ---- brackets and commas
 
@@ -382,14 +351,10 @@ module _ (text : List ℕ) (t : ScannerState) (a : Arrives text t) (some : is_em
   unfolding begin_flow increase_flow_level
   begun_here kind = grind (arith, nat_tests, eqb-true, saved_is, rolled_one_is, holds.refused, holds.went)
 
-  is_here : (f : Held → Result Held Fault) (u : ScannerState) → Holds (λ s. s.position ≡ t.held.position) (f t.held) → try_held f t ≡ Ok u → IsHere u
-  is_here f u h i = held_of {P = IsHere} u (holds.tried t (f t.held) h (λ s k. (refl, k))) i
-
   flow_begun : (kind : Collection) (bracket : ℕ) (more : List ℕ) → t.rest ≡ bracket ∷ more → (bracket ≡ 91) ⊎ (bracket ≡ 123) → Faults (Said text) (begin_flow kind t.held)
   unfolding begin_flow increase_flow_level
   flow_begun kind bracket more e is =
-      subst (λ s. Faults (Said text) (deepened_flow (if nat_le 255 (length s.flow) then Err (At FlowTooDeep s.position) else Ok (record s { keys = None ∷ s.keys; flow = flow_level kind ∷ s.flow }))))
-      (sym (ap roll_one_col_indent (saved_is t.held) ∙ rolled_one_is (record t.held { keys = saved_keys t.held })))
+      rw (ap roll_one_col_indent (saved_is t.held) ∙ rolled_one_is (record t.held { keys = saved_keys t.held }))
       (kept deepened_flow (λ e. refl) (λ x. goes) (checked (nat_le 255 (length t.held.flow)) (At FlowTooDeep t.held.position) (λ full _.
       stuck text t a some [] FlowTooDeep t.held.position (λ c may.
       let room : 255 ≤ length t.held.flow = grind (arith, nat_tests, full) in
@@ -399,16 +364,18 @@ module _ (text : List ℕ) (t : ScannerState) (a : Arrives text t) (some : is_em
   unfolding fetch_flow_collection_start
   opening_told kind bracket more e is =
       let by : (c : ℕ) → (c ≡ 91) ⊎ (c ≡ 123) → none.is_flow_indicator c ≡ true = λ c a. grind arith in
-      in_turn (tried t (flow_begun kind bracket more e is)) (λ u i.
-      in_turn (indicator_passed bracket more e (by bracket is)
-      (ap (λ b. opens bracket && b) (held_of {P = λ v. nat_le 255 (length t.held.flow) ≡ false} u (holds.tried t (begin_flow kind t.held) (begun_here kind) (λ s k. k.1)) i) ∙ and_false (opens bracket)) u (is_here (begin_flow kind) u (holds.weakened (λ s k. k.0) (begun_here kind)) i)) (λ v j. goes))
+      knowing {P = λ u. IsHere u × (nat_le 255 (length t.held.flow) ≡ false)} (holds.tried t (begin_flow kind t.held) (begun_here kind) (λ s k. ((refl, k.0), k.1))) (tried t (flow_begun kind bracket more e is)) (λ u h.
+      in_turn (indicator_passed bracket more e (by bracket is) (ap (λ b. opens bracket && b) h.1 ∙ and_false (opens bracket)) u h.0) (λ v j. goes))
 
   pub closing_told : (kind : Collection) (c : ℕ) (more : List ℕ) → t.rest ≡ c ∷ more → (c ≡ 93) ⊎ (c ≡ 125) → Faults (Said text) (fetch_flow_collection_end kind t)
   unfolding fetch_flow_collection_end end_flow
   closing_told kind c more e is =
       let closes : (c : ℕ) → (c ≡ 93) ⊎ (c ≡ 125) → (none.is_flow_indicator c ≡ true) × (opens c ≡ false) = λ c a. grind arith in
-      in_turn (tried t (kept ended_flow (λ e. refl) (λ x. goes) (remove_told text t.held (closing_rowless text t a some c more e (inr is))))) (λ u i. in_turn (indicator_passed c more e (closes c is).0 (ap (λ b. b && nat_le 255 (length t.held.flow)) (closes c is).1) u (is_here end_flow u (holds.weakened (λ s k. ap (λ h. h.position) k.1) (flow_over t.held)) i)) (λ v j. goes))
+      known_turn _ (held_exactly t (flow_over t.held)) (tried t (kept ended_flow (λ e. refl) (λ x. goes) (remove_told text t.held (closing_rowless text t a some c more e (inr is))))) (λ _.
+      in_turn (indicator_passed c more e (closes c is).0 (ap (λ b. b && nat_le 255 (length t.held.flow)) (closes c is).1) _ (refl, refl)) (λ v j. goes))
 
   pub comma_told : (more : List ℕ) → t.rest ≡ 44 ∷ more → Faults (Said text) (fetch_flow_entry t)
   unfolding fetch_flow_entry end_entry
-  comma_told more e = in_turn (tried t (kept next_entry (λ e. refl) (λ x. goes) (remove_told text t.held (closing_rowless text t a some 44 more e (inl refl))))) (λ u i. in_turn (indicator_passed 44 more e refl refl u (is_here end_entry u (holds.weakened (λ s k. ap (λ h. h.position) k.1) (entry_over t.held)) i)) (λ v j. goes))
+  comma_told more e =
+      known_turn _ (held_exactly t (entry_over t.held)) (tried t (kept next_entry (λ e. refl) (λ x. goes) (remove_told text t.held (closing_rowless text t a some 44 more e (inl refl))))) (λ _.
+      in_turn (indicator_passed 44 more e refl refl _ (refl, refl)) (λ v j. goes))

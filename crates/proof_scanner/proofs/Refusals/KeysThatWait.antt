@@ -1,21 +1,11 @@
 -- A key that must be one waits in each row of the text; and while it waits no line ends. So no row goes on where a beginning has only gone on over a line's end by making no key of it.
-use Rattle.proof_scanner.proofs.Common.{cases_Bool, [], Account, account_past, Act, act_of, ap, arith, begins_free_line, begins_separation, BeginsButForKey, blocks_at, Bool, Entry, fails, false, first_account, free, gives_node, has_break, HasRow, inl, inr, is_empty, is_in_column, is_in_flow, is_marker, is_separation, is_waiting, IsRowFrom, IsWritten, key_waits, length, LikeEntries, LikeLine, Line, line_past, line_past_separation, List, no_key, no_nul_after, None, not, not-true, not_ended, Outside, Position, position_after, position_in_line, previous_by, refl, Row, same_flow, Site, site_at, Some, spelled, Step, subst, sym, taken, TextsWithARowAreNotStuck, Tok, true, waits, ℕ, ◌&&◌, ◌++◌, ◌+◌, ◌<◌, ◌∙◌, ◌∷◌, ◌≡◌, ◌≤◌, ◌⊎◌, eqb-true, nat_tests, append-nil, append_assoc, append_cancel_right, AreAround, AreEntries, Arrives, Begins, comma, context_of, first_position, FlowLevel, gives_closing, gives_comma, GoesThrough, has_no_nul, has_required, HasNoKey, in_flow, is_blank, is_blank_or_end, is_break, is_far, is_flow, is_nul, is_required, IsNear, IsPositionIn, Key, Leads, mapping_closing, MayChoose, Option, outside_key, position_append, ScannerState, sequence_closing, Stands, suc, top_key, Whole, ◌||◌}
-use Rattle.proof_scanner.proofs.Sound.Sides.{with_entries}
+use Rattle.proof_scanner.proofs.Common.{cases_Bool, [], Account, account_past, Act, act_of, ap, arith, begins_free_line, begins_separation, BeginsButForKey, blocks_at, Bool, Entry, fails, false, first_account, free, gives_node, has_break, HasRow, inl, inr, is_empty, is_in_column, is_in_flow, is_marker, is_separation, is_waiting, IsRowFrom, IsWritten, key_waits, length, LikeEntries, LikeLine, Line, line_past, line_past_separation, List, no_key, no_nul_after, None, not, not-true, not_ended, Outside, Position, position_after, position_in_line, previous_by, refl, Row, same_flow, Site, site_at, Some, spelled, Step, subst, sym, taken, TextsWithARowAreNotStuck, Tok, true, waits, ℕ, ◌&&◌, ◌++◌, ◌+◌, ◌<◌, ◌∙◌, ◌∷◌, ◌≡◌, ◌≤◌, ◌⊎◌, eqb-true, nat_tests, append-nil, append_assoc, append_cancel_right, AreAround, AreEntries, Arrives, Begins, comma, context_of, first_position, FlowLevel, gives_closing, gives_comma, GoesThrough, has_no_nul, has_required, HasNoKey, in_flow, is_blank, is_blank_or_end, is_break, is_far, is_flow, is_nul, is_required, IsNear, IsPositionIn, Key, Leads, mapping_closing, MayChoose, Option, outside_key, position_append, ScannerState, sequence_closing, Stands, suc, top_key, Whole, ◌||◌, IsAt}
+use Rattle.proof_scanner.proofs.Refusals.Common.{IsRowless, Same, Walked, With, account_by, at_end, cut_position, in_flow_is, index_after, no_entries, not_before_after, not_none, piece_ends, place, stands_cut, step_here, strictly, walk, whole_text, with_entries}
 use Rattle.proof_scanner.proofs.Refusals.PiecesRefused.{marker_begins, acct, whole_by}
 use Rattle.proof_scanner.proofs.Known.Made.{same_of, waited, still_there, like_past, Waits, begun, kept, waits_past, Made, outside, inside, made}
-use Rattle.proof_scanner.proofs.Known.Rows.{Walked, walk}
-use Rattle.proof_scanner.proofs.Known.Ways.{Same, With, strictly}
-use Rattle.proof_scanner.proofs.Known.Places.{step_here, piece_ends, at_end}
 use Rattle.proof_scanner.proofs.Refusals.OtherRows.{none_ends, goes_near, Keeps, keeps_on, row_begins, StepAt, RowAt, row_at, BeginsWith, begins_with_part}
 use Rattle.proof_scanner.proofs.Refusals.NoRows.{failing_places_have_no_row, no_keyless_colon}
 use Rattle.proof_row.proofs.CutColumns.{unbroken}
-use Rattle.proof_scanner.proofs.Sound.Arrivals.{not_none}
-use Rattle.proof_scanner.proofs.Cut.Documents.{whole_text}
-use Rattle.proof_scanner.proofs.Cut.Positions.{not_before_after, index_after}
-use Rattle.proof_scanner.proofs.Sound.CutsSoFar.{stands_cut, cut_position}
-use Rattle.proof_scanner.proofs.Sound.Stales.{no_entries}
-use Rattle.proof_scanner.specs.KnownKeys.{IsAt}
-use Rattle.proof_scanner.proofs.Refusals.Places.{IsRowless, account_by, in_flow_is, place}
 
 -- ---- columns
 
@@ -153,23 +143,23 @@ below_after s l m ds es w c next a b i j f below e1 e2 q wt tk = by (made s l ds
     both : (n o : Line) (u v : Outside) → LikeLine n o → line_past_separation false broken l ≡ Some n → line_past_separation false broken m ≡ Some o
         → line_past (is_in_column at.position.col at.blocks) at.position at.blocks (act_of w.shown) c o ≡ Some v → v.line ≡ taken → Waits (is_in_column at.position.col at.blocks) at.position at.blocks (act_of w.shown) n u q → AllBelow q.col u.blocks
     both n o u v k sep1 sep2 past tk (begun act fr h bs) = elim (taken_past _ _ _ c o v (ap (λ x. line_past (is_in_column at.position.col at.blocks) at.position at.blocks x c o) (sym act) ∙ past) tk) [
-      | inl p ↦ subst (λ x. AllBelow q.col x) (sym bs) (subst (λ (x : Position). AllBelow x.col at.blocks) h (grind (arith, below_here)))
+      | inl p ↦ rw bs (subst (λ (x : Position). AllBelow x.col at.blocks) h (grind (arith, below_here)))
       | inr t ↦ absurd (grind arith)
     ]
     both n o u v k sep1 sep2 past tk (kept act is bs) =
         let was : (l ≡ waits q) × (broken ≡ false) = waited false broken l n q sep1 is in
         elim (taken_past _ _ _ c o v (ap (λ x. line_past (is_in_column at.position.col at.blocks) at.position at.blocks x c o) (sym act) ∙ past) tk) [
           | inl p ↦ absurd (grind arith)
-          | inr t ↦ subst (λ x. AllBelow q.col x) (sym bs) (below_at q.col false (act_of w.shown) at.position.col s.blocks (below q was.0 (same_of m o (subst (λ x. line_past_separation false x m ≡ Some o) was.1 sep2) ∙ t)))
+          | inr t ↦ rw bs (below_at q.col false (act_of w.shown) at.position.col s.blocks (below q was.0 (same_of m o (subst (λ x. line_past_separation false x m ≡ Some o) was.1 sep2) ∙ t)))
         ]
 
     by : Made s l ds w next a → Made s m es (With w c) next b → AllBelow q.col a.site.blocks
     by (outside n u n1 sep1 past1 line1 site1 one1) (outside o v n2 sep2 past2 line2 site2 one2) =
-        subst (λ (x : Site). AllBelow q.col x.blocks) (sym site1) (both n o u v (like_past false broken l m n o i sep1 sep2) sep1 sep2 past2 (sym line2 ∙ tk) (waits_past _ _ _ (act_of w.shown) w.key n u q past1 (sym line1 ∙ wt)))
+        rw site1 (both n o u v (like_past false broken l m n o i sep1 sep2) sep1 sep2 past2 (sym line2 ∙ tk) (waits_past _ _ _ (act_of w.shown) w.key n u q past1 (sym line1 ∙ wt)))
     by (outside n u n1 sep1 past1 line1 site1 one1) (inside some sep2 site2 one2) = absurd (cc (sym (ap is_in_flow n1) ∙ same_flow ds es j ∙ some))
     by (inside some sep1 site1 one1) (outside o v n2 sep2 past2 line2 site2 one2) = absurd (cc (sym some ∙ same_flow ds es j ∙ ap is_in_flow n2))
     by (inside some1 sep1 site1 one1) (inside some2 sep2 site2 one2) =
-        subst (λ (x : Site). AllBelow q.col x.blocks) (sym site1) (below q (waited true broken l a.line q sep1 wt).0 (was_taken_inside broken m b.line sep2 tk))
+        rw site1 (below q (waited true broken l a.line q sep1 wt).0 (was_taken_inside broken m b.line sep2 tk))
 
 -- while none waits in the beginning and one in the row, this stays so
 apart_after : (s : Site) (ds es : List Entry) (w : Step) (c : Bool) (next : List ℕ) (a b : Account) (q : Position) → LikeEntries ds es → account_past (with_entries s taken ds) w next ≡ Some a → account_past (with_entries s (waits q) es) (With w c) next ≡ Some b
@@ -200,7 +190,7 @@ apart_after s ds es w c next a b q j e1 e2 = by (made s taken ds w next a e1) (m
 pub together_keeps : Keeps (λ x y _. Together x y)
 together_keeps x y a b v c next i p k e f = record {
   falls = falls_after x.site x.line x.entries v next a p.falls e;
-  below = below_after x.site x.line y.line x.entries y.entries v c next a b i.1 i.2 p.falls p.below e (subst (λ s. account_past (with_entries s y.line y.entries) (With v c) next ≡ Some b) (sym i.0) f);
+  below = below_after x.site x.line y.line x.entries y.entries v c next a b i.1 i.2 p.falls p.below e (rw i.0 f);
   on = waiting_past y.site y.line y.entries (With v c) next b p.on k f;
 }
 
@@ -209,7 +199,7 @@ apart_keeps q x y a b v c next i p k e f =
     let own : Waiting y.line y.site = λ z e. subst (λ u. OnLine u y.site) (cc (sym p.one ∙ e)) p.on in
     let lines : (a.line ≡ taken) × (b.line ≡ waits q) = apart_after x.site x.entries y.entries v c next a b q i.2
     (subst (λ l. account_past (with_entries x.site l x.entries) v next ≡ Some a) p.none e)
-    (subst (λ l. account_past (with_entries x.site l y.entries) (With v c) next ≡ Some b) p.one (subst (λ s. account_past (with_entries s y.line y.entries) (With v c) next ≡ Some b) (sym i.0) f)) in
+    (subst (λ l. account_past (with_entries x.site l y.entries) (With v c) next ≡ Some b) p.one (rw i.0 f)) in
     record { none = lines.0; one = lines.1; on = waiting_past y.site y.line y.entries (With v c) next b own k f q lines.1 }
 
 pub first_together : Together first_account first_account
@@ -227,7 +217,7 @@ key_on_its_line text separation rest begin here a r g filled here_is late some s
     first = row_begins (λ x y _. Together x y) together_keeps text (spelled g.steps after) g.account r first_together g.begins row
 
     like : LikeLine (waits begin) first.account.line
-    like = subst (λ l. LikeLine l first.account.line) g.line_is first.is_like.1
+    like = rw (sym g.line_is) first.is_like.1
 
     by : (l : Line) → first.account.line ≡ l → ⊥
     by (waits q) e = ends second.steps second.is_row second.spells
@@ -236,7 +226,7 @@ key_on_its_line text separation rest begin here a r g filled here_is late some s
         none = record { site = g.account.site; line = taken; entries = g.account.entries }
 
         second : Walked (λ x y _. Apart q x y) a after
-        second = walk Same (λ x y _. Apart q x y) (keeps_on (λ x y _. Apart q x y) (apart_keeps q)) g.steps first.steps after first.last none first.account a (first.is_like.0, subst (λ l. LikeLine taken l) (sym e) tt, first.is_like.2)
+        second = walk Same (λ x y _. Apart q x y) (keeps_on (λ x y _. Apart q x y) (apart_keeps q)) g.steps first.steps after first.last none first.account a (first.is_like.0, rw e tt, first.is_like.2)
             (record { none = refl; one = e; on = first.holds.on q e }) (strictly g.steps after (Some none) a g.leads) first.is_row (sym first.spells) first.is_clean
 
         z : Account
@@ -264,7 +254,7 @@ some_past : (o : Option Account) (ws : List Step) (after : List ℕ) (b : Accoun
 some_past o ws after b h = grind (arith, nat_tests, eqb-true)
 
 leads_waiting : (ws : List Step) (after : List ℕ) (a b : Account) → Waiting a.line a.site → Leads (Some a) ws after b → Waiting b.line b.site
-leads_waiting [] after a b on e = subst (λ (x : Account). Waiting x.line x.site) e on
+leads_waiting [] after a b on e = rw (sym e) on
 leads_waiting (w ∷ ws) after a b on h =
     let c = some_past (account_past a w (spelled ws after)) ws after b h.1 in
     leads_waiting ws after c.0 b (waiting_past a.site a.line a.entries w (spelled ws after) c.0 on h.0 c.1) c.2
@@ -329,7 +319,7 @@ none_at_end text separation rest q g waiting filled none = by g.steps g.is_row g
   where
     by : (ws : List Step) → IsRowFrom (Some g.account) ws g.last → spelled ws g.last ≡ separation ++ rest → ⊥
     by [] row e = none_ends g.account q waiting row.1
-    by (w ∷ ws) row e = at_end g.account w separation (spelled ws g.last) (subst (λ x. is_separation false separation x ≡ true) none filled) row.0 (sym (append-nil separation) ∙ (ap (λ x. separation ++ x) (sym none) ∙ sym e))
+    by (w ∷ ws) row e = at_end g.account w separation (spelled ws g.last) (rw (sym none) filled) row.0 (sym (append-nil separation) ∙ (ap (λ x. separation ++ x) (sym none) ∙ sym e))
 
 -- ---- open keys
 

@@ -1,13 +1,7 @@
 -- Faults of names, tags and scalars: no such piece begins with the text.
-use Rattle.proof_scanner.proofs.Common.{anchor_name, and_parts, ap, are_single, Arrives, context, false, Fault, fetch_anchor, fetch_flow_scalar, fetch_tag, has_no_nul, in_flow, is_empty, is_nul, List, mark_of, NameKind, names_end, node_start, not, Ok, quoted, Quotes, Read, refused_as, ScannerState, subst, sym, tags_end, true, ℕ, ◌∙◌, ◌∷◌, ◌≡◌, [], append_assoc, begins_with, Bool, check_after_quoted, closed_first, columns, Context, has_break, has_open_level, held_of, inr, is_indented_by_spaces, is_separation, IsQuoted, may_not_stand, no_nul_after, Position, position_after, position_append, quoted_scalar, site_at_place, skip_to_next_token, ◌++◌, arith, eqb-true, nat_tests, AnchorName, TabInBlockIndentation, Alias, Anchor}
-use Rattle.proof_scanner.proofs.Cut.Nodes.{IsDeep}
-use Rattle.proof_scanner.proofs.Cut.Saved.{saved_is}
-use Rattle.proof_scanner.proofs.Sound.QuotedKeeps.{QuotedAs, quoted_as, in_line}
-use Rattle.proof_scanner.proofs.Refusals.Places.{Faults, goes, read, in_turn, mapped, Said, LiesDeep, none_here, IsWhy, account_by, stuck, blocks_by, awaits_by, least_by, looked_at}
+use Rattle.proof_scanner.proofs.Common.{anchor_name, and_parts, ap, are_single, Arrives, context, false, Fault, fetch_anchor, fetch_flow_scalar, fetch_tag, has_no_nul, in_flow, is_empty, is_nul, List, mark_of, NameKind, names_end, node_start, not, Ok, quoted, Quotes, Read, refused_as, ScannerState, subst, sym, tags_end, true, ℕ, ◌∙◌, ◌∷◌, ◌≡◌, [], append_assoc, Bool, check_after_quoted, columns, Context, has_break, has_open_level, held_of, inr, is_indented_by_spaces, is_separation, may_not_stand, no_nul_after, Position, position_after, position_append, quoted_scalar, site_at_place, skip_to_next_token, ◌++◌, arith, eqb-true, nat_tests, AnchorName, TabInBlockIndentation, Alias, Anchor}
+use Rattle.proof_scanner.proofs.Refusals.Common.{Checked, Faults, IsDeep, LiesDeep, QuotedAs, Said, account_by, awaits_by, blocks_by, goes, in_line, in_turn, least_by, least_is, looked_at, mapped, none_here, quoted_as, quoted_checked, read, same_has_break, saved_is, separation_append, stuck}
 use Rattle.proof_scanner.proofs.Refusals.Quotes.{after_told, refused_told, closed, piece, is, fits}
-use Rattle.proof_scanner.proofs.Cut.Pieces.Separations.{separation_append}
-use Rattle.proof_scanner.proofs.Sound.Passed.{least_is, same_has_break}
-use Rattle.proof_scanner.proofs.Sound.QuotedEnds.{Checked, quoted_checked}
 use Rattle.proof_scanner.proofs.Refusals.AfterQuoted.{unglued}
 use Rattle.proof_scanner.proofs.Refusals.Passing.{TabStands, skip_refused}
 use Rattle.model_scanner.specs.Tag as tags
@@ -42,18 +36,18 @@ module _ (text : List ℕ) (t : ScannerState) (a : Arrives text t) (some : is_em
     tab_stuck d =
         let gap : List ℕ = spaces ++ d.passed in
         let cut : x.rest ≡ gap ++ d.rest = c.spaces.is_rest ∙ (sym (append_assoc c.spaces.blanks c.spaces.comment v.rest) ∙ (ap (λ r. spaces ++ r) d.cut ∙ sym (append_assoc spaces d.passed d.rest))) in
-        let is_filled : is_separation false gap d.rest ≡ true = separation_append false spaces d.passed d.rest (subst (λ r. is_separation false spaces r ≡ true) d.cut c.spaces.is_filled) d.is_filled in
+        let is_filled : is_separation false gap d.rest ≡ true = separation_append false spaces d.passed d.rest (rw (sym d.cut) c.spaces.is_filled) d.is_filled in
         let end : Position = position_after t.held.position scalar (gap ++ d.rest) in
         let place : position_after v.held.position d.passed d.rest ≡ position_after end gap d.rest =
         ap (λ p. position_after p d.passed d.rest) (ap (λ h. h.position) c.spaces.is_held ∙ ap (λ r. position_after x.position spaces r) d.cut) ∙
         (sym (position_append x.position spaces d.passed d.rest) ∙ ap (λ p. position_after p gap d.rest) (q.end_is ∙ ap (λ r. position_after t.held.position scalar r) cut)) in
-        subst (λ g. Said text g) (sym d.is_fault) (λ _. subst (λ p. IsWhy text TabInBlockIndentation p) (sym place)
+        rw d.is_fault (λ _. rw place
         (stuck text t a some [] TabInBlockIndentation (position_after end gap d.rest) (λ k may.
         record {
-          fails = may_not_stand (defs.tab_after_quoted single scalar gap d.rest (q.cut ∙ ap (λ r. scalar ++ r) cut) (subst (λ r. (IsQuoted single scalar r)) cut (is text t a some lies single ctx x q same)) is_filled d.goes_on d.is_solid
+          fails = may_not_stand (defs.tab_after_quoted single scalar gap d.rest (q.cut ∙ ap (λ r. scalar ++ r) cut) (rw (sym cut) (is text t a some lies single ctx x q same)) is_filled d.goes_on d.is_solid
               (ap (λ bs. is_indented_by_spaces quoted_scalar bs (site_at_place (account_by text t a some k []) t.held.position).awaits gap) (blocks_by text t a some k []) ∙
               (ap (λ w. is_indented_by_spaces quoted_scalar blocks w gap) (awaits_by text t a some k []) ∙ d.is_indented_by_tab)));
-          is_first = (looked_at text t a some lies k [], subst (λ n. closed_first single n scalar) (sym (least_by text t a some k [])) (fits text t a some lies single ctx x q same), subst (λ r. begins_with 35 r ≡ false) cut (unglued (in_flow own.held) scalar x.rest c.may_end));
+          is_first = (looked_at text t a some lies k [], rw (least_by text t a some k []) (fits text t a some lies single ctx x q same), rw (sym cut) (unglued (in_flow own.held) scalar x.rest c.may_end));
         })))
 
     told : Faults (Said text) (skip_to_next_token v)
@@ -92,7 +86,7 @@ module _ (text : List ℕ) (t : ScannerState) (a : Arrives text t) (some : is_em
       let same : (context (node_start t.held)).indent ≡ t.held.indent = ap (λ h. h.indent) (saved_is t.held) in
       let clean : has_no_nul more ≡ true = (and_parts (not (is_nul (none.quote_of (are_single quotes)))) (has_no_nul more) (subst (λ r. has_no_nul r ≡ true) e a.is_clean)).1 in
       let read_as : (x : Read (List ℕ)) → quoted (are_single quotes) (context (node_start t.held)) t.rest t.held.position ≡ Ok x → QuotedAs (are_single quotes) (context (node_start t.held)) t.held.position t.rest x = λ x k.
-      subst (λ r. QuotedAs (are_single quotes) (context (node_start t.held)) t.held.position r x) (sym e)
+      rw e
       (quoted_as quotes (context (node_start t.held)) t.held.position more x clean (subst (λ r. quoted (are_single quotes) (context (node_start t.held)) r t.held.position ≡ Ok x) e k)) in
       read (node_start t.held) (quoted (are_single quotes) (context (node_start t.held)) t.rest t.held.position) _
       (λ f k. refused_told text t a some lies deep (are_single quotes) (context (node_start t.held)) same more e clean f (ap (λ r. quoted (are_single quotes) (context (node_start t.held)) r t.held.position) (sym e) ∙ k))

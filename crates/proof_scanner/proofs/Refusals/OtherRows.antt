@@ -1,14 +1,8 @@
 -- A row of a text goes through each place that a beginning of a row leads to, at an account that is like the beginning's; and its next piece stands there.
 use Rattle.proof_scanner.proofs.Common.{[], Account, account_past, ap, append-nil, Begins, begins_free_line, begins_separation, Bool, false, first_account, further_lines_stand, has_no_nul, HasRow, if◌then◌else◌, is_deep_enough, is_empty, is_gap, is_in_flow, is_indented_by_spaces, is_renewed, is_separation, IsLike, IsPlace, IsRowFrom, IsWritten, least_for, line_past_separation, List, may_precede, no_nul_after, None, on_one_line, past_piece, plain_scalar, Position, position_after, refl, Row, separations, Some, spelled, Step, subst, sym, true, up_to_nul, ℕ, ◌&&◌, ◌++◌, ◌∙◌, ◌∷◌, ◌≡◌, arith, eqb-true, nat_tests, act_of, and_parts, ends_separation, inl, inr, is_break, is_in_column, line_past, longer, may_end, not, Option, same_head, Site, site_at, waits, ◌+◌, ◌==◌, ◌≤◌, ◌⊎◌}
 use Rattle.proof_row.proofs.Written.{At}
-use Rattle.proof_scanner.proofs.Known.Ways.{With, KeepsOn, Same, strict_way}
-use Rattle.proof_scanner.proofs.Sound.Completed.{begins_at_start, begins_past}
-use Rattle.proof_scanner.proofs.Known.Places.{ends_before, step_here}
-use Rattle.proof_scanner.proofs.Known.Rows.{Walked, row_walks}
-use Rattle.proof_scanner.proofs.Cut.Pieces.Separations.{gap_is_separation}
+use Rattle.proof_scanner.proofs.Refusals.Common.{KeepsOn, Made, Same, Walked, With, begins_at_start, begins_past, ends_before, gap_is_separation, index_after, inside, made, outside, row_walks, step_here, still_there, strict_way}
 use Rattle.proof_row.proofs.Separations.{over}
-use Rattle.proof_scanner.proofs.Cut.Positions.{index_after}
-use Rattle.proof_scanner.proofs.Known.Made.{still_there, Made, outside, inside, made}
 
 -- ---- a key that waits outside flow is near as long as a row goes on: its colon is still to come, on its line, at most 1024 characters after its start
 
@@ -169,6 +163,6 @@ row_at text separation rest a here r p solid some h = by g.steps g.is_row g.spel
         record {
           begins = g.holds;
           is_clear = λ gap content cut fills solid_there some_there.
-              clear_on c.0 ws g.last gap content c.2 cut fills solid_there some_there (no_nul_after gap content (subst (λ n. has_no_nul n ≡ true) cut (no_nul_after w.piece (spelled ws g.last) (subst (λ n. has_no_nul n ≡ true) (sym (step_here g.account w (spelled ws g.last) separation rest row.0 e p.is_filled solid clean).1) clean))));
+              clear_on c.0 ws g.last gap content c.2 cut fills solid_there some_there (no_nul_after gap content (rw (sym cut) (no_nul_after w.piece (spelled ws g.last) (subst (λ n. has_no_nul n ≡ true) (sym (step_here g.account w (spelled ws g.last) separation rest row.0 e p.is_filled solid clean).1) clean))));
           step_at = step_from a g.account c.0 separation rest (spelled ws g.last) here w g.is_like row.0 c.1 e p.is_filled solid clean p.is_here;
         }

@@ -1,15 +1,8 @@
 -- Faults on the way to the next token, from a state between two fetches.
-use Rattle.proof_scanner.proofs.Common.{[], and_parts, ap, append-nil, append_assoc, arith, Begins, begins_white, BeginsButForKey, Bool, chained, chosen, drop_stale, either, eqb-true, Err, fails, false, Fault, fetch, fetch_here, fetch_next, follows_plain, Held, Holds, in_flow, is_empty, is_far, is_indented_by_spaces, is_one_of, is_renewed, is_separation, IsPlace, IsReadOn, IsStuck, Key, key_waits, List, map, may_not_stand, MayChoose, not, Ok, on_held, or_right, outside_key, Position, position_after, position_append, Previous, refl, refused, Result, ScannerState, skip_to_next_token, Some, stale, Stands, still, subst, sym, top_key, tried, true, unroll_indent, went, ℕ, ◌++◌, ◌+◌, ◌<◌, ◌==◌, ◌∙◌, ◌∷◌, ◌≡◌, nat_tests, cases_Bool, inl, inr, TabInBlockIndentation, At, begins_line, begins_separation, between, fills_blank, Gap, has_tab_within, is_before_indent, is_blanks, IsTabRefusal, last_line, least_column, length, not-true, same_blank, same_break, separations_are_passed, skip, suc, ◌&&◌, ◌||◌, ◌≤◌, EndsAs, reads, refuses}
-use Rattle.proof_scanner.proofs.Cut.Pieces.Separations.{separation_append}
-use Rattle.proof_scanner.proofs.Cut.Positions.{not_before_after, index_after}
-use Rattle.proof_scanner.proofs.Sound.Passed.{least_is, skip_stays, Exact}
-use Rattle.proof_scanner.proofs.Sound.Stales.{no_entries}
-use Rattle.proof_scanner.proofs.Sound.ToToken.{is_in}
-use Rattle.proof_scanner.proofs.Sound.StreamEnds.{same_flow}
+use Rattle.proof_scanner.proofs.Common.{[], and_parts, ap, append-nil, append_assoc, arith, begins_white, Bool, chained, chosen, drop_stale, either, eqb-true, Err, fails, false, Fault, fetch, fetch_here, fetch_next, follows_plain, Held, Holds, in_flow, is_empty, is_far, is_indented_by_spaces, is_one_of, is_renewed, is_separation, IsPlace, IsReadOn, IsStuck, Key, key_waits, List, map, may_not_stand, MayChoose, not, Ok, on_held, or_right, outside_key, Position, position_after, position_append, Previous, refl, refused, Result, ScannerState, skip_to_next_token, Some, stale, Stands, still, sym, top_key, tried, true, unroll_indent, went, ℕ, ◌++◌, ◌+◌, ◌<◌, ◌==◌, ◌∙◌, ◌∷◌, ◌≡◌, nat_tests, cases_Bool, inl, inr, TabInBlockIndentation, At, begins_line, begins_separation, between, fills_blank, Gap, has_tab_within, is_before_indent, is_blanks, IsTabRefusal, last_line, least_column, length, not-true, same_blank, same_break, separations_are_passed, skip, suc, ◌&&◌, ◌||◌, ◌≤◌, EndsAs, reads, refuses, tab_left}
+use Rattle.proof_scanner.proofs.Refusals.Common.{Exact, index_after, is_in, last_more, least_is, no_entries, not_before_after, same_flow, separation_append, skip_stays}
 use Rattle.proof_scanner.proofs.Refusals.Places.{Faults, mapped, entries_alike, Said, IsWhy, Where, placed, behind, where_is, fault, goes}
 use Rattle.yaml_chars.specs.Class.{is_break}
-use Rattle.proof_scanner.proofs.Sound.LastLines.{last_more}
-use Rattle.proof_lexers.specs.Separations.{tab_left}
 use Rattle.proof_scanner.proofs.Sound.Skips.{line_more, IsLeast, IsAt, IsIn, IsPassed, skip_tells}
 use Rattle.proof_scanner.specs.Failing as defs
 use Rattle.defs_text.specs.Classes as classes
@@ -51,7 +44,7 @@ module _ (before : Previous) (least : ℕ) where
     cut = ap (λ y. c ∷ y) x.cut;
     is_fault = x.is_fault;
     index_is = let i = x.index_is in omega (arith, i, next);
-    tabbed = subst (λ y. IsTabbed y) (append_assoc g (c ∷ []) x.passed) x.tabbed;
+    tabbed = rw (sym (append_assoc g (c ∷ []) x.passed)) x.tabbed;
   })
   one_more g a c s u r next goes = goes
 
@@ -71,7 +64,7 @@ module _ (before : Previous) (least : ℕ) where
     arrives = λ g a c s at. goes;
     tab = tab_here;
     blank = blank_after;
-    fails = λ g a c s h. fault (record { passed = []; rest = c ∷ a; place = s.position; cut = refl; is_fault = refl; index_is = omega arith; tabbed = subst (λ y. IsTabbed y) (sym (append-nil g)) h });
+    fails = λ g a c s h. fault (record { passed = []; rest = c ∷ a; place = s.position; cut = refl; is_fault = refl; index_is = omega arith; tabbed = rw (append-nil g) h });
   })
 
 -- ---- what is said of it
@@ -110,7 +103,7 @@ pub skip_refused : (before : Previous) (bs : List ℕ) (awaits : Bool) (separati
 unfolding skip_to_next_token classes.is_blank
 skip_refused before bs awaits separation t l known = elim (cases_Bool (begins_separation t.rest)) [
   | inl h ↦ told h (skip between t.rest t.held) (separations_are_passed t.held t.rest) (tabs_tell before least t.rest between separation t.held l (known h))
-  | inr h ↦ subst (λ r. Faults Own r) (sym (skip_stays t.rest t.held h)) goes
+  | inr h ↦ rw (skip_stays t.rest t.held h) goes
 ]
   where
     least : ℕ
@@ -141,7 +134,7 @@ skip_refused before bs awaits separation t l known = elim (cases_Bool (begins_se
           is_solid = grind (arith, not-true);
           is_fault = fault_of e;
           is_indented_by_tab = tabbed_is before bs awaits (separation ++ (first ++ 9 ∷ blanks))
-              (subst (λ y. begins_line before (separation ++ y) ≡ true) passed_is d.tabbed.0) (subst (λ y. has_tab_within least (last_line (separation ++ y)) ≡ true) passed_is d.tabbed.1);
+              (rw (sym passed_is) d.tabbed.0) (rw (sym passed_is) d.tabbed.1);
         })
       where
         fault_of : {g : Fault} → ◌≡◌ {A = Result ScannerState Fault} (Err f) (Err g) → f ≡ g
@@ -176,13 +169,13 @@ far_behind k p h late = grind arith
 module _ (text : List ℕ) (t : ScannerState) (s : Stands text t) (near : HasNear t.held) where
   -- a TAB indents the line of what comes next
   tab_stuck : {f : Fault} → TabStands s.base.site.blocks s.base.site.awaits s.base.site.before s.separation t.rest t.held.position f → Said text f
-  tab_stuck d = subst (λ g. Said text g) (sym d.is_fault) (λ _. by (where_is (outside_key s.base.entries t.held.keys) t.held.position t.rest d.is_some))
+  tab_stuck d = rw d.is_fault (λ _. by (where_is (outside_key s.base.entries t.held.keys) t.held.position t.rest d.is_some))
     where
       here : Position
       here = position_after t.held.position d.passed d.rest
 
       filled : is_separation false (s.separation ++ d.passed) d.rest ≡ true
-      filled = separation_append false s.separation d.passed d.rest (subst (λ r. is_separation false s.separation r ≡ true) d.cut s.is_filled) d.is_filled
+      filled = separation_append false s.separation d.passed d.rest (rw (sym d.cut) s.is_filled) d.is_filled
 
       here_is : here ≡ position_after s.base.site.position (s.separation ++ d.passed) d.rest
       here_is = ap (λ p. position_after p d.passed d.rest) (s.position_is ∙ ap (position_after s.base.site.position s.separation) d.cut) ∙ sym (position_append s.base.site.position s.separation d.passed d.rest)
@@ -202,7 +195,7 @@ module _ (text : List ℕ) (t : ScannerState) (s : Stands text t) (near : HasNea
 
       place : (c : Bool) → MayChoose true c (outside_key s.base.entries t.held.keys) t.held.position t.rest → IsPlace text (chosen c [] t.held.keys s.base) (s.separation ++ d.passed) d.rest here
       place c may = record {
-        begins = subst (λ r. Begins text r (chosen c [] t.held.keys s.base)) (ap (λ r. s.separation ++ r) d.cut ∙ sym (append_assoc s.separation d.passed d.rest)) (s.completes true c [] may).0;
+        begins = rw (sym (ap (λ r. s.separation ++ r) d.cut ∙ sym (append_assoc s.separation d.passed d.rest))) (s.completes true c [] may).0;
         is_filled = filled;
         is_here = here_is;
       }
@@ -220,7 +213,7 @@ module _ (text : List ℕ) (t : ScannerState) (s : Stands text t) (near : HasNea
             let later = (not_before_after t.held.position d.passed d.rest).0 in
             let inside : is_empty s.base.entries ≡ false = sym (same_flow t.held.key_allowed (is_renewed s.base.site.before s.separation) t.held.flow t.held.keys s.base.entries s.are_entries) ∙ i in
             said (key_waits (chosen false [] t.held.keys s.base) (s.separation ++ d.passed) d.rest TabInBlockIndentation x.position here here
-            (subst (λ r. BeginsButForKey text r x.position (chosen false [] t.held.keys s.base)) (ap (λ r. s.separation ++ r) d.cut ∙ sym (append_assoc s.separation d.passed d.rest)) (s.carries [] x e must inside d.is_some))
+            (rw (sym (ap (λ r. s.separation ++ r) d.cut ∙ sym (append_assoc s.separation d.passed d.rest))) (s.carries [] x e must inside d.is_some))
             (ap not (entries_alike [] t.held.keys s.base.entries ∙ inside)) filled here_is (omega (arith, later, late)) d.goes_on d.is_solid (record { fails = may_not_stand (defs.tab_indents d.is_indented_by_tab); is_first = no_plain }))
       ]
 

@@ -1,15 +1,11 @@
 -- Where a piece may not stand at its column, or before what follows it, no row of the text goes on.
-use Rattle.proof_scanner.proofs.Common.{row, [], Account, act_of, and_parts, ap, are_empty, arith, begins_document_at, begins_entry, begins_separation, begins_with, begins_with_alpha, block_entry, block_may_end, block_position, block_read, BlockRead, blocks_at, BlockStyle, Bool, colon_may_precede, content_position, dash_may_precede, document_end, double_quoted, Entry, eqb-true, false, folded, gives_block_scalar, GoesOn, has, has_no_nul, if◌then◌else◌, innermost, innermost_column, is_alpha, is_at_end, is_at_gap, is_at_line_end, is_blank, is_blank_or_end, is_blanks, is_break, is_decimal_digit, is_empty, is_in_flow, is_letter, is_marker, is_nul, is_one_of, is_separation, IsPiece, IsQuoted, IsWritten, leading, leading_spaces, least_column, least_for, level_of, List, literal, map, may_precede, nat_le, nat_lt, nat_tests, None, not, Option, or_left, Position, position_after, quoted_may_end, refl, same_flow, same_piece, scalar, seen, shown_position, single_quoted, Site, site_at, site_at_place, Some, split, Step, sym, Tok, true, value, ℕ, ◌&&◌, ◌++◌, ◌||◌, ◌∙◌, ◌∷◌, ◌≡◌, ◌≤◌, alias_name, all_of, context_of, dash, Directive, directive_line, directive_token, flow_mapping_start, flow_sequence_start, goes_on_with_name, inl, inr, is_adjacent, is_flow, is_name, kind_at, length, LikeEntries, mapping_opening, not_empty, sequence_opening, subst, suc, Whole, ◌==◌, ◌⊎◌, dash_marks, directive_begins, directive_of, dot_marks, is_document_marker, Kind, or_true, peek, piece_of, texts_begin, ◌≢◌, account_past, awaits_past, before_by, before_past, begins_free_line, begins_white_space, begins_with_space_or_break, colon, comma, entries_past, flow_entry, flow_mapping_end, flow_sequence_end, further_lines_stand, gives_colon, gives_dash, gives_node, gives_question, has_tab_before_piece, is_deep_enough, is_flow_indicator, is_indented_by_spaces, is_near, is_renewed, is_taken, is_taken_line, is_value_here, is_value_indicator, Line, line_past_separation, mapping_closing, may_stand, on_one_line, past_inside, past_piece, previous_by, question, quoted_scalar, sequence_closing, site_past, takes_pair, waits, ◌<◌, neither}
+use Rattle.proof_scanner.proofs.Common.{row, [], Account, act_of, and_parts, ap, are_empty, arith, begins_document_at, begins_entry, begins_separation, begins_with, begins_with_alpha, block_entry, block_may_end, block_position, block_read, BlockRead, blocks_at, BlockStyle, Bool, colon_may_precede, content_position, dash_may_precede, document_end, double_quoted, Entry, eqb-true, false, folded, gives_block_scalar, GoesOn, has, has_no_nul, if◌then◌else◌, innermost, innermost_column, is_alpha, is_at_end, is_at_gap, is_at_line_end, is_blank, is_blank_or_end, is_blanks, is_break, is_decimal_digit, is_empty, is_in_flow, is_letter, is_marker, is_nul, is_one_of, is_separation, IsPiece, IsQuoted, IsWritten, leading, leading_spaces, least_column, least_for, level_of, List, literal, map, may_precede, nat_le, nat_lt, nat_tests, None, not, Option, or_left, Position, position_after, quoted_may_end, refl, same_flow, same_piece, scalar, seen, shown_position, single_quoted, Site, site_at, site_at_place, Some, split, Step, sym, Tok, true, value, ℕ, ◌&&◌, ◌++◌, ◌||◌, ◌∙◌, ◌∷◌, ◌≡◌, ◌≤◌, alias_name, all_of, context_of, dash, Directive, directive_line, directive_token, flow_mapping_start, flow_sequence_start, goes_on_with_name, inl, inr, is_adjacent, is_flow, is_name, kind_at, length, LikeEntries, mapping_opening, not_empty, sequence_opening, subst, suc, Whole, ◌==◌, ◌⊎◌, dash_marks, directive_begins, directive_of, dot_marks, is_document_marker, Kind, or_true, peek, piece_of, texts_begin, ◌≢◌, account_past, awaits_past, before_by, before_past, begins_free_line, begins_white_space, begins_with_space_or_break, colon, comma, entries_past, flow_entry, flow_mapping_end, flow_sequence_end, further_lines_stand, gives_colon, gives_dash, gives_node, gives_question, has_tab_before_piece, is_deep_enough, is_flow_indicator, is_indented_by_spaces, is_near, is_renewed, is_taken, is_taken_line, is_value_here, is_value_indicator, Line, line_past_separation, mapping_closing, may_stand, on_one_line, past_inside, past_piece, previous_by, question, quoted_scalar, sequence_closing, site_past, takes_pair, waits, ◌<◌, neither, length-map}
 use Rattle.proof_scanner.proofs.Refusals.AfterQuoted.{not_done}
-use Rattle.proof_scanner.proofs.Sound.QuotedEnds.{blanks_alone, after_blanks}
+use Rattle.proof_scanner.proofs.Refusals.Common.{Made, after_blanks, blanks_alone, made, same_innermost, waited, with_entries}
 use Rattle.proof_row.proofs.Written.{At}
 use Rattle.proof_scanner.proofs.Refusals.OtherRows.{StepAt, IsClearAfter}
-use Rattle.proof_scanner.proofs.Sound.PlainKeeps.{same_innermost}
 use Rattle.proof_row.specs.Ends.{anchor_name}
-use Rattle.std.proofs.lemmas.List.{length-map}
 use Rattle.proof_lexers.specs.PlainEnds.{has_break}
-use Rattle.proof_scanner.proofs.Known.Made.{waited, Made, made}
-use Rattle.proof_scanner.proofs.Sound.Sides.{with_entries}
 use Rattle.defs_token.specs.Token as tokens
 use Rattle.defs_token.specs.Account as pieces
 use Rattle.proof_row.proofs.Written as written
@@ -390,7 +386,7 @@ module _ {a : Account} {separation rest : List ℕ} {here : Position} (s : StepA
       (ap (λ es. past_piece (there s) s.step.piece s.step.shown s.next (is_renewed s.account.site.before s.step.separation) s.step.key (line_past_separation (is_in_flow es) (begins_free_line s.account.site.before s.step.separation) s.account.line) es) (no_entries out) ∙
       none_ends (there s) s.step.piece s.step.shown s.next (is_renewed s.account.site.before s.step.separation) s.step.key _ (ap act_of w.2) (taken_there line) (λ q i near.
       let was = waited false (begins_free_line s.account.site.before s.step.separation) s.account.line (waits q) q i refl in
-      none q was.0 (subst (λ f. begins_free_line s.account.site.before f ≡ false) s.separation_is was.1) (subst (λ p. is_near q p ≡ true) s.position_is near))) s.is_past
+      none q was.0 (rw (sym s.separation_is) was.1) (rw (sym s.position_is) near))) s.is_past
 
   -- no TAB indents the line of the row's piece
   pub spaces_indent : is_indented_by_spaces s.account.site.before s.account.site.blocks s.account.site.awaits separation ≡ true
@@ -400,7 +396,7 @@ module _ {a : Account} {separation rest : List ℕ} {here : Position} (s : StepA
   no_late_colon more begin e es cut is are takes had late =
       let flowing : (fs : List Entry) → s.account.entries ≡ fs → may_stand (is_in_flow fs) s.account.site (At s.account s.step s.next) s.step.separation s.step.piece s.step.shown s.next ≡ may_stand (is_in_flow s.account.entries) s.account.site (there s) s.step.separation s.step.piece s.step.shown s.next =
       λ fs i. ap (λ z. may_stand (is_in_flow z) s.account.site (there s) s.step.separation s.step.piece s.step.shown s.next) (sym i) in
-      by s.account.entries refl (subst (λ ds. LikeEntries ds s.account.entries) are s.is_like.2)
+      by s.account.entries refl (rw (sym are) s.is_like.2)
     where
       by : (fs : List Entry) → s.account.entries ≡ fs → LikeEntries (e ∷ es) fs → ⊥
       by [] i like = like

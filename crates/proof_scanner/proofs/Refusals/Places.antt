@@ -6,6 +6,7 @@ use Rattle.proof_scanner.specs.Failing.{followed}
 use Rattle.proof_scanner.proofs.Sound.Arrivals.{many_around}
 use Rattle.proof_scanner.proofs.Sound.WhiteSpaces.{white_of, past_white, past_white_space, white_exactly}
 use Rattle.proof_scanner.proofs.Cut.Faults.Shown as shown
+use Rattle.model_scanner.proofs.Holds as holds
 use Rattle.yaml_chars.specs.Class as model_classes
 use Rattle.proof_lexers.specs.PlainEnds as ends
 
@@ -23,6 +24,15 @@ fault_is f goes e = absurd (cc)
 pub in_turn : {F : Fault → Type 0} {A B : Type 0} {r : Result A Fault} {k : A → Result B Fault} → Faults F r → ((x : A) → r ≡ Ok x → Faults F (k x)) → Faults F (r >>= k)
 in_turn (fault p) h = fault p
 in_turn goes h = h _ refl
+
+-- where something holds of what a step leaves
+pub knowing : {F : Fault → Type 0} {A B : Type 0} {P : A → Type 0} {r : Result A Fault} {k : A → Result B Fault} → holds.Holds P r → Faults F r → ((x : A) → P x → Faults F (k x)) → Faults F (r >>= k)
+knowing (holds.went p) goes h = h _ p
+knowing holds.refused (fault q) h = fault q
+
+-- where what it leaves is known
+pub known_turn : {F : Fault → Type 0} {A B C : Type 0} {x : A} {r : Result A Fault} (k : A → Result B Fault) → holds.Holds (λ u. (u ≡ x) × C) r → Faults F r → (C → Faults F (k x)) → Faults F (r >>= k)
+known_turn {F = F} k h f g = knowing h f (λ u d. rw d.0 (g d.1))
 
 -- of a step that may only refuse as the one before it
 pub kept : {F : Fault → Type 0} {A B : Type 0} {r : Result A Fault} (f : Result A Fault → Result B Fault) → ((e : Fault) → f (Err e) ≡ Err e) → ((x : A) → Faults F (f (Ok x))) → Faults F r → Faults F (f r)

@@ -1,14 +1,10 @@
 -- Faults of plain scalars.
-use Rattle.proof_scanner.proofs.Common.{[], after_plain, allow_key, ap, arith, Arrives, before_by, before_past, begins_left, collection_of, columns, comes_plain, Context, context, false, Fault, fetch_plain_scalar, goes_on, goes_over, HasNoPlainFault, HasTab, in_flow, innermost, is_adjacent, is_empty, IsPlainFault, IsPlainRefusal, least_column, lexed, List, nat_le, nat_lt, nat_tests, no_plain, Ok, on_held, Option, plain_first, Position, position_after, Problem, push, refused_as, ScannerState, scans_end, Style, subst, sym, Tok, true, unroll_non_block_indents, without_open, ℕ, ◌++◌, ◌∙◌, ◌∷◌, ◌≡◌, eqb-true, FlowIndentation, PlainDashInFlow, PlainTab}
+use Rattle.proof_scanner.proofs.Common.{[], allow_key, ap, arith, Arrives, before_by, before_past, begins_left, collection_of, columns, comes_plain, Context, false, Fault, fetch_plain_scalar, goes_on, goes_over, HasNoPlainFault, HasTab, in_flow, innermost, is_adjacent, is_empty, IsPlainFault, IsPlainRefusal, least_column, List, nat_le, nat_lt, nat_tests, no_plain, Option, plain_first, Position, position_after, Problem, refused_as, ScannerState, scans_end, sym, true, unroll_non_block_indents, without_open, ℕ, ◌++◌, ◌∙◌, ◌∷◌, ◌≡◌, eqb-true, FlowIndentation, PlainDashInFlow, PlainTab}
 use Rattle.defs_token.specs.Plain.{inside}
 use Rattle.model_scanner.specs.Plain.{plain}
 use Rattle.proof_lexers.specs.PlainEnds as plains
-use Rattle.proof_scanner.proofs.Cut.Nodes.{IsDeep, less_or}
-use Rattle.proof_scanner.proofs.Cut.Saved.{saved_keys, saved_is}
-use Rattle.proof_scanner.proofs.Sound.WithoutOpen.{AreClosed, without_is}
+use Rattle.proof_scanner.proofs.Refusals.Common.{AreClosed, Faults, IsDeep, IsWhy, LiesDeep, Said, goes, less_or, looked_at, read, saved_is, saved_keys, solid_text, stuck_by, without_is}
 use Rattle.proof_scanner.specs.NoPiece as none
-use Rattle.proof_scanner.proofs.Refusals.Places.{Faults, goes, read, Said, IsWhy, LiesDeep, looked_at, stuck_by}
-use Rattle.proof_scanner.proofs.Sound.PlainKeeps.{solid_text}
 
 -- ---- texts
 
@@ -65,7 +61,6 @@ module _ (text : List ℕ) (t : ScannerState) (a : Arrives text t) (some : is_em
   pub plain_told : Faults (Said text) (fetch_plain_scalar t)
   unfolding fetch_plain_scalar unroll_non_block_indents
   plain_told =
-      subst (λ h. Faults (Said text) (lexed (plain (context (unroll_non_block_indents (allow_key false h))) t.rest t.held.position) (unroll_non_block_indents (allow_key false h))
-      (λ r u. Ok (on_held (λ v. push t.held.position (Tok.scalar Style.plain r.text) (after_plain r.leading v)) u)))) (sym (saved_is t.held))
+      rw (saved_is t.held)
       (read (unroll_non_block_indents (allow_key false (record t.held { keys = saved_keys t.held }))) (plain ctx t.rest t.held.position) _ (λ f k. refused f (refused_as k
       (scans_end ctx t.rest t.held.position a.is_clean (solid_text t.rest some a.is_solid) (less_or (in_flow t.held) ctx.indent t.held.position.col (omega (arith, deep, closed.not_deeper)))))) (λ x k. goes))

@@ -1,5 +1,5 @@
 -- The scan of a quoted scalar reads one, or refuses the text for what is wrong with it first.
-use Rattle.proof_scanner.proofs.Common.{position_append, [], cases_Bool, inl, inr, after_element, after_escaped, after_gap, after_quote, along, along_more, and_false, and_parts, ap, append-nil, arith, At, at_start, begins_further, begins_marked, Begun, begun, blank, Bool, break_further, content, Context, drop, element_of, ends_before, eqb-true, Err, escape, escaped_break, false, Fault, first_is_gap, first_fails, Folded, gap, in_gap, inside, is_document_marker, is_marked, is_some, append_cancel_right, ◌++◌, quoted_lines_fit, joined, line_break, LineStand, List, list_all, marked, Mode, nat_lt, nat_tests, None, not, not-true, nothing, off_margin, Ok, Option, OutOfMemory, past, past_element, past_escaped, past_is, Position, position_after, position_past, Problem, quoted, Read, refl, Result, scan, shallow, Some, Spelled, step, StepOf, steps, subst, suc, sym, take, true, white_stands, with_break, with_escaped_break, within, zero, ℕ, ◌&&◌, ◌+◌, ◌==◌, ◌∙◌, ◌∷◌, ◌≡◌, ◌≤◌, past_elements, QuotedDocumentMarker, QuotedEnd, QuotedIndentation, TabAsIndentation}
+use Rattle.proof_scanner.proofs.Common.{position_append, [], cases_Bool, inl, inr, after_element, after_escaped, after_gap, after_quote, along, along_more, and_false, and_parts, ap, append-nil, arith, At, at_start, begins_further, begins_marked, Begun, begun, blank, Bool, break_further, content, Context, drop, element_of, ends_before, eqb-true, Err, escape, escaped_break, false, Fault, first_is_gap, first_fails, Folded, gap, in_gap, inside, is_document_marker, is_marked, is_some, append_cancel_right, ◌++◌, quoted_lines_fit, joined, line_break, LineStand, List, list_all, marked, Mode, nat_lt, nat_tests, None, not, not-true, nothing, off_margin, Ok, Option, OutOfMemory, past, past_element, past_escaped, past_is, Position, position_after, position_past, Problem, quoted, Read, refl, Result, scan, shallow, Some, Spelled, step, StepOf, steps, subst, suc, sym, take, true, white_stands, with_break, with_escaped_break, within, zero, ℕ, ◌&&◌, ◌+◌, ◌==◌, ◌∙◌, ◌∷◌, ◌≡◌, ◌≤◌, past_elements, QuotedDocumentMarker, QuotedEnd, QuotedIndentation, TabAsIndentation, break_leads}
 use Rattle.yaml_chars.specs.Class.{is_break, is_blank}
 use Rattle.model_scanner.specs.Quoted.{after}
 use Rattle.model_scanner.specs.Quoted as model
@@ -9,7 +9,6 @@ use Rattle.proof_lexers.proofs.Quoted.Turns.{spelled, begins, Step, is_shallow}
 use Rattle.proof_scanner.proofs.Sound.QuotedBreaks.{Kind, has_content, has_blank, has_line, has_escaped, is_white, quote_white, slash_white, body_between}
 use Rattle.proof_scanner.specs.NoPiece.{quote_of}
 use Rattle.proof_scanner.proofs.Refusals.QuotedReasons.{quote_no_break, after_quote_at, no_quote, solid_here, past_line, past_two, after_it, kind_of, content_after, stands, by_end, by_escape, by_column, by_tab, by_marker, placed, arrived, stepped, Reason, Closed, parted, all_stand, before_quote, lines_close}
-use Rattle.model_scanner.proofs.PlainLemmas.{break_leads}
 
 -- the faults of further lines
 abbrev pub is_of_lines : Fault → Bool
@@ -115,7 +114,7 @@ module _ (single : Bool) (ctx : Context) (start : Position) (least : ℕ) (limit
           let further : p.col ≤ (along (c ∷ take k b) p).col = along_more (c ∷ take k b) p in
           let place : q ≡ after_it single c b (spelled (content code) k) is p = at ∙ sym (content_after single c b code k is p) in
           let still : nat_lt q.col least ≡ false = ap (λ (z : Position). nat_lt z.col least) at ∙ grind (arith, nat_tests, further, deep) in
-          ends_grown c b (spelled (content code) k) is s p here _ i (deep_stands s p.col deep) none (subst (λ z. Ends within z (drop k b) (scan single ctx start (drop k b) gap q now)) place (later within q gap now (in_line still)))
+          ends_grown c b (spelled (content code) k) is s p here _ i (deep_stands s p.col deep) none (rw (sym place) (later within q gap now (in_line still)))
 
       go : ((p.col == 0) && is_document_marker (c ∷ b)) ≡ false → nat_lt p.col least ≡ false → Step single ctx start c b [] p t (spelled (content code) k) → Ends s p (c ∷ b) here
       go none deep (steps _ q at in_gap full unmarked marks j) =
@@ -156,7 +155,7 @@ module _ (single : Bool) (ctx : Context) (start : Position) (least : ℕ) (limit
       open_line : (s : LineStand) → begins_further s false ≡ true → past_element s (blank c) ≡ at_start → t.leading ≡ true → Ends s p (c ∷ b) here
       open_line s further next leads = elim (cases_Bool (t.leading && (c == 9) && nat_lt (p.col + 1) ctx.indent)) [
         | inl h ↦ tabbed s further h
-        | inr h ↦ on s (ap (λ x. not (x && (c == 9) && nat_lt p.col least)) further ∙ no_tab leads h) h (subst (λ x. Stood (past p) (after_element (blank c) t) x gap) (sym next) (begins_here (still leads)))
+        | inr h ↦ on s (ap (λ x. not (x && (c == 9) && nat_lt p.col least)) further ∙ no_tab leads h) h (rw next (begins_here (still leads)))
       ]
 
       by : (s : LineStand) (m : Mode) → Stood p t s m → Ends s p (c ∷ b) here
@@ -214,8 +213,8 @@ module _ (single : Bool) (ctx : Context) (start : Position) (least : ℕ) (limit
   unclosed_ends s p m t stood = refused QuotedEnd start (arrived (placed _ _ (and_false (p.col == 0)) (by_end refl))) (grind arith)
 
   none_ends : (c : ℕ) (b : List ℕ) → NoElement single c b → Later (c ∷ b)
-  none_ends c b (closing e ended) = subst (λ x. Later (x ∷ b)) (sym e) (closed_ends b ended)
-  none_ends c b (slash double e bad) = subst (λ x. Later (x ∷ b)) (sym e) (bad_ends double b bad)
+  none_ends c b (closing e ended) = rw e (closed_ends b ended)
+  none_ends c b (slash double e bad) = rw e (bad_ends double b bad)
 
   -- ---- each text
 
@@ -226,8 +225,8 @@ module _ (single : Bool) (ctx : Context) (start : Position) (least : ℕ) (limit
   by_kind c b e is (has_escaped d a double same_c same_b f) s p m t stood later =
       let slashed : (c : ℕ) (b : List ℕ) → c ≡ 92 → b ≡ d ∷ a → element_of single c b ≡ Some (spelled escaped_break (suc (break_further d a))) → Later (drop (suc (break_further d a)) b) → Ends s p (c ∷ b) (scan single ctx start (c ∷ b) gap p t) = λ c b same_c same_b is later.
       let there : element_of single 92 (d ∷ a) ≡ Some (spelled escaped_break (suc (break_further d a))) = ap (λ x. element_of single x (d ∷ a)) (sym same_c) ∙ (ap (λ y. element_of single c y) (sym same_b) ∙ is) in
-      subst (λ x. Ends s p (x ∷ b) (scan single ctx start (x ∷ b) gap p t)) (sym same_c)
-      (subst (λ y. Ends s p (92 ∷ y) (scan single ctx start (92 ∷ y) gap p t)) (sym same_b) (escaped_ends d a double there f s p m t stood (subst (λ y. Later (drop (suc (break_further d a)) y)) same_b later))) in
+      rw same_c
+      (rw same_b (escaped_ends d a double there f s p m t stood (subst (λ y. Later (drop (suc (break_further d a)) y)) same_b later))) in
       slashed c b same_c same_b is later
 
   by_element : (c : ℕ) (b : List ℕ) (o : Option Spelled) → element_of single c b ≡ o → (c == 0) ≡ false → ((n : ℕ) → Later (drop n b)) → Later (c ∷ b)

@@ -1,10 +1,9 @@
 -- Why the text after an opening quote is refused, told of the text from an element on.
-use Rattle.proof_scanner.proofs.Common.{past, [], after_own, and_false, ap, append_assoc, are_indented, arith, at_start, begins_further, begins_solid, begins_with, begun_with, blank, Bool, content, drop, Element, element_of, elements, escaped_break, false, further_lines_fit, has_more, is_document_marker, IsBadEscape, line_break, Lines, lines_fit, lines_of, LineStand, List, local, LocalOf, marked_from, nat_lt, nat_tests, not, past_element, past_elements, past_escaped, past_is, Position, position_after, position_append, Problem, refl, replicate, Some, Spelled, subst, suc, sym, take, take-append-drop, true, within, zero, ℕ, ◌&&◌, ◌++◌, ◌+◌, ◌==◌, ◌∙◌, ◌∷◌, ◌≡◌, eqb-true, or-false, after_chars, along, along_more, append-nil, break_further, digit_value, double_quoted_element, escape, escape_by, feed_is_no_marker, has_marker, hexadecimal, in_line_position, is_cr_lf, is_in_line, line_position, None, numeric_escape, Option, past_break, plain_element, position_past, same_blank, same_break, same_feed, single_quoted_element, ◌*◌, ◌≤◌, QuotedDocumentMarker, QuotedEnd, QuotedIndentation, TabAsIndentation, and_parts, drop-append-le, ends_before, inl, inr, length, length-take, Local, lookup, number_at, numbered, numeric_escapes, take-append-le, cases_Bool, ◌||◌, ◌⊎◌, is_empty, if◌then◌else◌, EscapedCode, HexadecimalDigit, UnknownEscape}
+use Rattle.proof_scanner.proofs.Common.{past, [], after_own, and_false, ap, append_assoc, are_indented, arith, at_start, begins_further, begins_solid, begins_with, begun_with, blank, Bool, content, drop, Element, element_of, elements, escaped_break, false, further_lines_fit, has_more, is_document_marker, IsBadEscape, line_break, Lines, lines_fit, lines_of, LineStand, List, local, LocalOf, marked_from, nat_lt, nat_tests, not, past_element, past_elements, past_escaped, past_is, Position, position_after, position_append, Problem, refl, replicate, Some, Spelled, subst, suc, sym, take, take-append-drop, true, within, zero, ℕ, ◌&&◌, ◌++◌, ◌+◌, ◌==◌, ◌∙◌, ◌∷◌, ◌≡◌, eqb-true, or-false, after_chars, along, along_more, append-nil, break_further, digit_value, double_quoted_element, escape, escape_by, feed_is_no_marker, has_marker, hexadecimal, in_line_position, is_cr_lf, is_in_line, line_position, None, numeric_escape, Option, past_break, plain_element, position_past, same_blank, same_break, same_feed, single_quoted_element, ◌*◌, ◌≤◌, QuotedDocumentMarker, QuotedEnd, QuotedIndentation, TabAsIndentation, and_parts, drop-append-le, ends_before, inl, inr, length, length-take, Local, lookup, number_at, numbered, numeric_escapes, take-append-le, cases_Bool, ◌||◌, ◌⊎◌, is_empty, if◌then◌else◌, EscapedCode, HexadecimalDigit, UnknownEscape, feed_past}
 use Rattle.proof_scanner.proofs.Sound.QuotedBreaks.{Kind, has_content, has_blank, has_line, has_escaped, fits_from, lines_from, lines_here, empty_here, KindOf, kind, is_white}
 use Rattle.proof_scanner.specs.NoPiece.{quote_of}
 use Rattle.yaml_chars.specs.Class.{is_break, is_blank}
 use Rattle.proof_lexers.proofs.Quoted.Turns.{spelled}
-use Rattle.proof_lexers.proofs.Blocks.Positions.{feed_past}
 use Rattle.defs_text.specs.Classes as classes
 use Rattle.proof_lexers.specs.QuotedEnds as bad
 
@@ -285,7 +284,7 @@ module _ (single : Bool) (least : ℕ) (start : Position) where
         are = more c b e is x.body x.rest x.es x.is_text x.are;
         fits = λ last h. rw fit (columns_are c b e is s p (x.es ++ last) ∙ x.fits last (ap (λ (q : Position). all_stand least (past_elements (past_element s e.element) x.es) q.col last) (sym end) ∙ h));
         marks = marks_grown c b e is p none x.body x.rest x.is_text ∙ (x.marks ∙ ap (λ q. is_marked q x.rest) (sym end));
-        holds = subst (λ q. E (past_elements (past_element s e.element) x.es) q x.rest) (sym end) x.holds;
+        holds = rw end x.holds;
       }
 
 -- ---- along a body
@@ -451,7 +450,7 @@ module _ (single : Bool) (least : ℕ) (start : Position) where
   meet E F x y s p text (stepped c b e is fit none v) (arrived a) = absurd (y s p c b e is fit none a)
   meet E F x y s p text (stepped c b e is fit none v) (stepped _ _ e2 is2 fit2 none2 w) =
       let same : e2 ≡ e = cc (is, is2) in
-      meet E F x y _ _ _ v (subst (λ (z : Spelled). Walk single least start F (past_element s z.element) (position_after p (c ∷ take z.further b) (drop z.further b)) (drop z.further b)) same w)
+      meet E F x y _ _ _ v (rw (sym same) w)
 
   -- ---- two reasons at one place
 
@@ -500,4 +499,4 @@ module _ (single : Bool) (least : ℕ) (start : Position) where
       by : {t : LineStand} {q : Position} {y : List ℕ} (why : Problem) (at : Position) → (why ≡ QuotedDocumentMarker → ⊥) → Wrong single least start t q y why at → Ends t q y → ⊥
       by why at unlike (by_marker h) z = unlike refl
       by why at unlike (placed _ _ none h) (inl i) = cc (none, i)
-      by {t = t} {q = q} why at unlike (placed _ _ none h) (inr i) = at_quote t q why at i.1 (subst (λ y. Place single least start t q y why at) i.0 h)
+      by {t = t} {q = q} why at unlike (placed _ _ none h) (inr i) = at_quote t q why at i.1 (rw (sym i.0) h)

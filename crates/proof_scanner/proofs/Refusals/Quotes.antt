@@ -1,19 +1,13 @@
 -- Faults of quoted scalars: a further line is not indented, or what stands after the scalar may not follow it.
-use Rattle.proof_scanner.proofs.Common.{inr, inl, cases_Bool, [], ap, append-nil, append_assoc, are_indented, AreNotIndented, arith, Arrives, At, begins_separation, begins_with, bodies_are_read, Bool, check_after_quoted, closed_first, content, Context, element_of, elements, ends_before, ends_spaces, Err, false, Fault, go_on, has_marker, has_no_nul, held_of, in_flow, is_breakz, is_document_marker, is_empty, IsBadEscape, IsQuoted, IsQuotedFault, lines_first, List, may_follow_quoted, nat_lt, no_quoted, node_start, not-true, off_margin, Ok, on_held, past, past_elements, peek, Position, position_after, Problem, quote_of, quoted, quoted_lines_fit, quoted_may_end, Read, refl, Result, ScannerState, skip_spaces, Some, subst, sym, tab, true, unled, value_of, within, Yes, ℕ, ◌++◌, ◌+◌, ◌-◌, ◌==◌, ◌∙◌, ◌∷◌, ◌≡◌, further_lines_fit, lines_of, eqb-true, nat_tests, and_parts, CommentNotSeparated, ContentAfterQuoted, QuotedDocumentMarker, QuotedEnd, QuotedIndentation, TabAsIndentation, neither}
+use Rattle.proof_scanner.proofs.Common.{inr, inl, cases_Bool, [], ap, append-nil, append_assoc, are_indented, AreNotIndented, arith, Arrives, At, begins_separation, begins_with, bodies_are_read, Bool, check_after_quoted, closed_first, content, Context, element_of, ends_before, ends_spaces, Err, false, Fault, go_on, has_marker, has_no_nul, held_of, in_flow, is_breakz, is_document_marker, is_empty, IsBadEscape, IsQuoted, IsQuotedFault, lines_first, List, may_follow_quoted, nat_lt, no_quoted, node_start, not-true, off_margin, Ok, on_held, past, past_elements, peek, Position, position_after, Problem, quote_of, quoted, quoted_lines_fit, quoted_may_end, Read, refl, Result, ScannerState, skip_spaces, Some, sym, tab, true, unled, value_of, within, Yes, ℕ, ◌++◌, ◌+◌, ◌-◌, ◌==◌, ◌∙◌, ◌∷◌, ◌≡◌, further_lines_fit, lines_of, eqb-true, nat_tests, and_parts, CommentNotSeparated, ContentAfterQuoted, QuotedDocumentMarker, QuotedEnd, QuotedIndentation, TabAsIndentation, neither}
 use Rattle.proof_lexers.specs.QuotedScan as scans
-use Rattle.proof_scanner.proofs.Cut.Nodes.{IsDeep}
-use Rattle.proof_scanner.proofs.Cut.Pieces.Quoted.{some_chars}
-use Rattle.proof_scanner.proofs.Cut.Passes.{Spaced, spaces_skipped}
-use Rattle.proof_scanner.proofs.Cut.Saved.{saved_is}
+use Rattle.proof_scanner.proofs.Refusals.Common.{Faults, IsDeep, IsWhy, LiesDeep, QuotedAs, Said, Spaced, either, fault, followed_stuck, goes, in_turn, looked_at, none_here, piece_of, saved_is, solid_past, some_chars, spaces_skipped, spaces_told, stuck_by, unglued}
 use Rattle.proof_scanner.proofs.Sound.QuotedBreaks.{same_limit, has_elements, body_between}
-use Rattle.proof_scanner.proofs.Sound.QuotedEnds.{unglued}
-use Rattle.proof_scanner.proofs.Sound.QuotedKeeps.{QuotedAs, piece_of}
 use Rattle.proof_scanner.proofs.Refusals.AfterQuoted.{check_passes}
 use Rattle.proof_scanner.proofs.Refusals.QuotedReasons.{not_closed, after_quote_at, all_stand, indented_are, is_marked, by_end, by_escape, by_column, by_tab, by_marker, placed, Wrong, Reason, Parted, parted, lines_close}
 use Rattle.proof_scanner.specs.NoPiece as none
 use Rattle.proof_scanner.specs.QuotedLines as lines
 use Rattle.proof_scanner.proofs.Refusals.QuotedLines.{is_of_lines, refused, reads, quoted_ends}
-use Rattle.proof_scanner.proofs.Refusals.Places.{Faults, fault, goes, in_turn, either, Said, IsWhy, LiesDeep, looked_at, none_here, followed_stuck, stuck_by, spaces_told, solid_past}
 
 -- ---- texts
 
@@ -68,7 +62,7 @@ module _ (text : List ℕ) (t : ScannerState) (a : Arrives text t) (some : is_em
   -- a comment right after the quote
   glued : begins_with 35 x.rest ≡ true → Said text (At CommentNotSeparated x.position)
   glued h =
-      λ _. subst (λ p. IsWhy text CommentNotSeparated p) (sym q.end_is)
+      λ _. rw q.end_is
       (followed_stuck text t a some lies CommentNotSeparated (position_after t.held.position piece x.rest) (none.glued_to_quoted single piece x.rest q.cut is h) (λ c may. fits))
 
   refuses : (v : ScannerState) → skip_spaces Yes closed ≡ Ok v → may_follow_quoted (in_flow v.held) (t.held.position.line == v.held.position.line) (peek v.rest) ≡ false
@@ -88,7 +82,7 @@ module _ (text : List ℕ) (t : ScannerState) (a : Arrives text t) (some : is_em
       let end : Position = position_after t.held.position piece x.rest in
       let passed : List ℕ = s.blanks ++ s.comment in
       let place : v.held.position ≡ position_after end passed v.rest = ap (λ h. h.position) s.is_held ∙ ap (λ p. position_after p passed v.rest) q.end_is in
-      λ _. subst (λ p. IsWhy text ContentAfterQuoted p) (sym place)
+      λ _. rw place
       (followed_stuck text t a some lies ContentAfterQuoted (position_after end passed v.rest)
       (none.after_quoted single piece x.rest passed v.rest q.cut is (may_not_end v e n) (record { is_text = s.is_rest ∙ sym (append_assoc s.blanks s.comment v.rest); is_filled = s.is_filled; is_on_line = s.no_break })
       (solid_left (in_flow v.held) (t.held.position.line == v.held.position.line) v.rest s.ends n)) (λ c may. (fits, held_of v (unglued Yes closed) e)))
@@ -123,7 +117,7 @@ module _ (text : List ℕ) (t : ScannerState) (a : Arrives text t) (some : is_em
 
     module _ (f : Fault) (fails : quoted single ctx (none.quote_of single ∷ more) here ≡ Err f) where
       none_there : is_of_lines f ≡ false → none.HasNoQuoted single t.rest
-      none_there told = subst (λ r. none.HasNoQuoted single r) (sym e) (none_quoted single ctx more here f fails told)
+      none_there told = rw e (none_quoted single ctx more here f fails told)
 
       -- nor one whose lines are indented
       none_fits : (why : Problem) (at : Position) → (why ≡ QuotedDocumentMarker → ⊥) → Reason single least here within (past here) more why at → AreNotIndented single least t.rest
@@ -133,7 +127,7 @@ module _ (text : List ℕ) (t : ScannerState) (a : Arrives text t) (some : is_em
             let es = has_elements single b.body b.value b.value_is in
             let whole : quoted_lines_fit least (element_of single) (none.quote_of single ∷ (b.body ++ none.quote_of single ∷ [])) ≡ true = ap (quoted_lines_fit least (element_of single)) (sym b.piece_is) ∙ i in
             let fit : further_lines_fit least (lines_of es.0) ≡ true = rw (body_between (none.quote_of single) b.body, es.1) at whole in
-            absurd (not_closed single least here within (past here) b.body next es.0 b.ends es.1 (sym (lines_close least (past here).col es.0) ∙ fit) why at unlike (subst (λ r. Reason single least here within (past here) r why at) b.is_text x))
+            absurd (not_closed single least here within (past here) b.body next es.0 b.ends es.1 (sym (lines_close least (past here).col es.0) ∙ fit) why at unlike (rw (sym b.is_text) x))
         | inr i ↦ i
       ]
 
@@ -158,7 +152,7 @@ module _ (text : List ℕ) (t : ScannerState) (a : Arrives text t) (some : is_em
               of why at is w (placed _ _ free (by_end ends)) =
                   let all : more ≡ x.body = x.is_text ∙ (ap (λ r. x.body ++ r) ends ∙ append-nil x.body) in
                   none_here text t a some lies QuotedEnd
-                  (none.unquoted single more QuotedEnd e (none_there (ap is_of_lines (sym is))) (none.by_end (x.es, subst (λ b. elements (element_of single) 0 b ≡ Some x.es) (sym all) x.are)))
+                  (none.unquoted single more QuotedEnd e (none_there (ap is_of_lines (sym is))) (none.by_end (x.es, rw all x.are)))
                   (ap (λ b. has_marker b []) all ∙ (ap (λ r. has_marker x.body r) (sym ends) ∙ marks false free), indented)
               of why at is w (placed _ _ free (by_escape next _ double cut bad may)) =
                   none_here text t a some lies why
@@ -170,7 +164,7 @@ module _ (text : List ℕ) (t : ScannerState) (a : Arrives text t) (some : is_em
                   (marks false free, indented)
               of why at is w (placed _ _ free (by_tab next cut further low)) =
                   let same_place : position_after (past here) x.body x.rest ≡ position_after here (none.quote_of single ∷ x.body) (tab ∷ next) = sym (after_quote_at single here x.body x.rest) ∙ ap (λ r. position_after here (none.quote_of single ∷ x.body) r) cut in
-                  subst (λ z. IsWhy text TabAsIndentation z) (sym same_place)
+                  rw same_place
                   (lines_stuck single TabAsIndentation (position_after here (none.quote_of single ∷ x.body) (tab ∷ next)) (none_fits why at (λ k. absurd (cc k)) w)
                   (lines.by_tab x.body next x.es (e ∙ ap (λ r. none.quote_of single ∷ r) (x.is_text ∙ ap (λ r. x.body ++ r) cut)) x.are further (ap (λ (q : Position). nat_lt q.col least) (sym same_place) ∙ low))
                   (ap (λ r. has_marker x.body r) (sym cut) ∙ marks false free, indented))
@@ -178,5 +172,5 @@ module _ (text : List ℕ) (t : ScannerState) (a : Arrives text t) (some : is_em
     pub refused_told : has_no_nul more ≡ true → (f : Fault) → quoted single ctx (none.quote_of single ∷ more) here ≡ Err f → Said text f
     refused_told clean f fails = elim (quoted_ends single ctx here least limit (omega (arith, deep, same)) more (some_chars more clean)) [
       | reads y w i ↦ absurd (cc (i, fails))
-      | refused why at h i ↦ let is : At why at ≡ f = cc (i, fails) in subst (λ g. Said text g) is (λ _. told_by f fails why at is h)
+      | refused why at h i ↦ let is : At why at ≡ f = cc (i, fails) in rw (sym is) (λ _. told_by f fails why at is h)
     ]

@@ -1,19 +1,13 @@
 -- Where the scanner's model refuses a text with a fault of a kind that is told, the text is stuck.
-use Rattle.proof_scanner.proofs.Common.{OutOfMemory, [], ap, Arrives, At, begins, cleared, drop_stale, false, Fares, Fault, fetch, fetch_here, fetch_next, fetch_stream_end, fetch_stream_start, has_no_nul, has_required, held_of, here, Holds, in_flow, inl, inr, is_empty, is_far, is_overdue, IsRefused, Key, List, list_any, map, next_line, not-false, Ok, on_held, Option, outside_key, over, peek, Position, Reaches, refl, RefusedTextsAreStuck, ScannerState, Some, stale, Stands, start, still, sym, there, top_key, true, unroll_indent, ℕ, ◌+◌, ◌==◌, ◌∙◌, ◌∷◌, ◌≡◌, ◌⊎◌, arith, eqb-true, nat_tests, Account, Bool, Fails, fails, IsStuck, key_waits, AnchorIndentation, KeyExpected, KeyWithoutColon}
+use Rattle.proof_scanner.proofs.Common.{OutOfMemory, [], ap, Arrives, At, begins, cleared, drop_stale, false, Fares, Fault, fetch, fetch_here, fetch_next, fetch_stream_end, fetch_stream_start, has_no_nul, has_required, held_of, here, Holds, in_flow, inl, inr, is_empty, is_far, is_overdue, IsRefused, Key, List, list_any, map, next_line, not-false, Ok, on_held, Option, outside_key, over, peek, Position, Reaches, refl, RefusedTextsAreStuck, ScannerState, Some, stale, Stands, start, still, sym, there, top_key, true, unroll_indent, ℕ, ◌+◌, ◌==◌, ◌∙◌, ◌∷◌, ◌≡◌, ◌⊎◌, arith, eqb-true, nat_tests, Account, Bool, Fails, fails, IsStuck, key_waits, AnchorIndentation, KeyExpected, KeyWithoutColon, goes}
 use Rattle.model_scanner.specs.Keys.{with_keys}
-use Rattle.proof_scanner.proofs.Cut.Fetched.{goes_on_here}
-use Rattle.proof_scanner.specs.StandsInRow.{goes}
-use Rattle.proof_scanner.proofs.Sound.Fetches.{content_kept, fetch_keeps}
-use Rattle.proof_scanner.proofs.Sound.Runs.{reached, first_fetch}
-use Rattle.proof_scanner.proofs.Sound.Stales.{no_entries, one_key}
-use Rattle.proof_scanner.proofs.Sound.ToToken.{passed_stands}
+use Rattle.proof_scanner.proofs.Refusals.Common.{Faults, Said, Told, content_kept, either, fault_is, fetch_keeps, first_fetch, goes_on_here, kind, no_entries, one_key, passed_stands, reached, rowless_told, tried}
 use Rattle.proof_scanner.specs.Never.{AnchorIndentationNeverComes}
-use Rattle.proof_scanner.proofs.Refusals.Places.{Faults, fault_is, in_turn, tried, either, Told, Said, kind, rowless_told}
 use Rattle.proof_scanner.proofs.Refusals.Fetches.{here_told}
 use Rattle.proof_scanner.proofs.Refusals.Passing.{HasNear, fetch_near, passing_told}
 use Rattle.proof_scanner.proofs.Refusals.KeysThatWait.{stale_rowless}
 use Rattle.proof_scanner.proofs.Refusals.Indicators.{unrolled_stays}
-use Rattle.proof_scanner.proofs.Refusals.Shortens.{stale_arrives}
+use Rattle.proof_scanner.proofs.Sound.Arriving.{stale_arrives}
 use Rattle.proof_scanner.proofs.Cut.Faults.Shown.{line_neither, tag_neither}
 use Rattle.model_scanner.proofs.Holds as holds
 use Rattle.proof_scanner.proofs.Refusals.Places as faults
@@ -73,7 +67,7 @@ end_cleared t = holds.tried {P = λ h. has_required h.keys ≡ false} t _ (holds
 
 here_stands : (text : List ℕ) (t : ScannerState) → Arrives text t → Holds (StandsOrEnds text) (fetch_here t)
 unfolding fetch_here
-here_stands text t a = holds.either (peek t.rest == 0) (λ _. holds.weakened (λ u x. inr x) (end_cleared t)) (λ e. holds.weakened (λ u x. inl x) (content_kept text t a (goes_on_here t.rest e)))
+here_stands text t a = holds.either (peek t.rest == 0) (λ _. holds.weakened (λ u x. inr x) (end_cleared t)) (λ e. holds.weakened (λ u x. inl x.stands) (content_kept text t a (goes_on_here t.rest e)))
 
 left_told : (text : List ℕ) → has_no_nul text ≡ true → (t : ScannerState) → StandsOrEnds text t → Faults (Said text) (stale t.held)
 unfolding stale drop_stale
@@ -85,13 +79,9 @@ left_told text nul t (inr none) =
 next_told : (text : List ℕ) → has_no_nul text ≡ true → (t : ScannerState) → Stands text t → HasNear t.held → Faults (Said text) (fetch_next t)
 unfolding fetch_next
 next_told text nul t s near =
-    in_turn (passing_told text t s near) (λ u e.
-    let a = held_of u (passed_stands text t s) e in
-    in_turn (tried u (stale_told text nul u a.0)) (λ v f.
-    let here : ScannerState = on_held (λ h. unroll_indent (h.position.col + 1) h) v in
-    let b : Arrives text here = held_of v (stale_arrives text u a.0 a.1) f in
-    in_turn (here_told text here b) (λ w i.
-    tried w (left_told text nul w (held_of w (here_stands text here b) i)))))
+    faults.knowing (passed_stands text t s) (passing_told text t s near) (λ u a.
+    faults.knowing (stale_arrives text u a.0 a.1) (tried u (stale_told text nul u a.0)) (λ v b.
+    faults.knowing (here_stands text (on_held (λ h. unroll_indent (h.position.col + 1) h) v) b.0) (here_told text (on_held (λ h. unroll_indent (h.position.col + 1) h) v) b.0) (λ w s. tried w (left_told text nul w s))))
 
 fetch_told : (text : List ℕ) → has_no_nul text ≡ true → (t : ScannerState) → Stands text t → HasNear t.held → Faults (Said text) (fetch t)
 unfolding fetch

@@ -12,7 +12,7 @@ use Rattle.proof_row.proofs.Written as written
 use Rattle.proof_scanner.specs.NoPiece.{quote_of}
 use Rattle.proof_scanner.proofs.Refusals.OtherRows.{StepAt}
 use Rattle.proof_scanner.proofs.Refusals.PiecesRefused.{acct, whole_by, rest_of, flow_is, no_lines as no_lines_there, no_end as no_end_here}
-use Rattle.proof_scanner.proofs.Cut.Pieces.Blocks.{end_no_text}
+use Rattle.proof_scanner.proofs.Refusals.Common.{end_no_text}
 
 -- ---- tags
 

@@ -1,6 +1,5 @@
 -- What lets a piece stand: four tests, and its column in flow.
-use Rattle.proof_scanner.proofs.Common.{[], After, ap, append-nil, AreAround, AreLevels, AreNumbered, arith, awaits_past, begins_free_line, begins_separation, Bool, chosen, columns, Entry, false, FlowLevel, has_break, Held, in_flow, Indent, innermost, is_break, is_deep_enough, is_empty, is_in_column, is_waiting, IsLive, IsNotRight, IsOpenHere, IsOpenOutside, Key, least_column, least_for, length, Line, line_by, line_past_separation, List, MayChoose, must_be_key, nat_le, None, not, not_ended, NotBefore, Option, or_true, outside_key, Position, position_after, Previous, ScannerState, Site, SoFar, Some, subst, suc, sym, taken, Tok, tokens_up_to, true, ℕ, ◌&&◌, ◌++◌, ◌+◌, ◌==◌, ◌∙◌, ◌∷◌, ◌≡◌, ◌≤◌, Act, act_of, begun_by, previous_by, shown_position, further_lines_stand, may_precede}
-use Rattle.defs_token.specs.Indentation.{awaits_in_block, awaits_in_flow}
+use Rattle.proof_scanner.proofs.Common.{[], After, ap, append-nil, AreAround, AreLevels, AreNumbered, arith, awaits_past, begins_free_line, begins_separation, Bool, chosen, columns, Entry, false, FlowLevel, has_break, Held, in_flow, Indent, innermost, is_break, is_deep_enough, is_empty, is_in_column, is_waiting, IsLive, IsNotRight, IsOpenHere, IsOpenOutside, Key, least_column, least_for, length, Line, line_by, line_past_separation, List, MayChoose, must_be_key, nat_le, None, not, not_ended, NotBefore, Option, or_true, outside_key, Position, position_after, Previous, ScannerState, Site, SoFar, Some, subst, suc, sym, taken, Tok, tokens_up_to, true, ℕ, ◌&&◌, ◌++◌, ◌+◌, ◌==◌, ◌∙◌, ◌∷◌, ◌≡◌, ◌≤◌, Act, act_of, begun_by, previous_by, shown_position, further_lines_stand, may_precede, awaits_in_block, awaits_in_flow}
 use Rattle.proof_scanner.proofs.Cut.Pieces.Inserted.{no_break_on_line}
 use Rattle.proof_scanner.proofs.Cut.Nodes.{IsDeep}
 use Rattle.proof_scanner.proofs.Sound.Sides.{ArrivesBy, with_entries}
@@ -108,7 +107,7 @@ module _ (text : List ℕ) (t : ScannerState) (f : FlowLevel) (fs : List FlowLev
   tokens_before = a.tokens_are ∙ append-nil a.tokens
 
   last_before : NotBefore a.site.position t.held.position
-  last_before = subst (λ x. NotBefore a.site.position x) (sym a.position_is) (not_before_after a.site.position a.separation t.rest)
+  last_before = rw a.position_is (not_before_after a.site.position a.separation t.rest)
 
   around_of : (x : Key) → outside_key es ks ≡ Some x → After x.position a.site.position × (IsLive x t.held.position t.rest → IsOpenHere x t.held.position a.site.blocks)
   around_of x i = subst (λ y. IsOpenOutside y a.site.position t.held.position t.rest a.site.blocks) i a.is_open

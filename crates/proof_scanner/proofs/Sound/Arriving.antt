@@ -1,10 +1,8 @@
 -- The block collections that end where a piece begins: the levels that go on are those of the row, and each end has its token.
-use Rattle.proof_scanner.proofs.Common.{[], ap, append-nil, append_assoc, AreCollections, AreLevels, arith, Arrives, before_by, before_past, begins_free_line, begins_separation, begins_token, block_end, blocks, Bool, chained, columns, end_level, ends_at, ends_here, false, Fault, free, has_open_level, Held, Holds, if◌then◌else◌, Indent, is_adjacent, is_at_comment_or_end, is_deeper, is_empty, is_indented_by_spaces, IsLine, IsLineHere, IsNear, IsTopLevel, Key, length, Levels, Line, line_past_separation, List, nat_lt, not, not-false, not_ended, on_held, Option, outside_key, Position, put, refl, replicate, Result, ScannerState, site_here, skip_to_next_token, Some, stale, Stands, subst, suc, sym, taken, Token, tried, true, try_held, unroll_indent, unrolled, with_levels, ℕ, ◌&&◌, ◌++◌, ◌+◌, ◌-◌, ◌==◌, ◌>>=◌, ◌∙◌, ◌∷◌, ◌≡◌}
-use Rattle.proof_scanner.proofs.Sound.Common.{shorter, unrolled_in_flow, unrolled_outside}
-use Rattle.proof_scanner.proofs.Sound.Stales.{Nearer, stale_stands}
+use Rattle.proof_scanner.proofs.Common.{[], ap, append-nil, append_assoc, AreCollections, AreLevels, arith, Arrives, before_by, before_past, begins_free_line, begins_separation, begins_token, block_end, blocks, Bool, chained, columns, end_level, ends_at, ends_here, false, Fault, free, has_open_level, Held, Holds, if◌then◌else◌, Indent, is_adjacent, is_at_comment_or_end, is_deeper, is_empty, is_indented_by_spaces, IsLine, IsLineHere, IsNear, IsTopLevel, Key, length, Levels, Line, line_past_separation, List, nat_lt, not, not-false, not_ended, on_held, Option, outside_key, Position, put, refl, replicate, Result, ScannerState, site_here, skip_to_next_token, Some, stale, Stands, subst, suc, sym, taken, Token, tried, true, try_held, unroll_indent, unrolled, with_levels, ℕ, ◌&&◌, ◌++◌, ◌+◌, ◌-◌, ◌==◌, ◌>>=◌, ◌∙◌, ◌∷◌, ◌≡◌, ◌≤◌, both_hold, length-append, ArrivesAmong}
+use Rattle.proof_scanner.proofs.Sound.Steps.{Nearer, exact, shorter, stale_stands, unrolled_in_flow, unrolled_outside}
 use Rattle.proof_scanner.proofs.Sound.ToToken.{passed_stands}
 use Rattle.proof_row.proofs.Inserted.{before_again}
-use Rattle.proof_scanner.specs.Arrives.{ArrivesAmong}
 
 -- what goes on, of levels whose columns are these, and the tokens with the ends
 pub record Ended (p : Position) (cols : List ℕ) (awaits : Bool) (ts : List Token) (u : Levels) : Type 0 where
@@ -139,14 +137,14 @@ arrives_now text v s solid near = by (is_empty v.held.flow) refl
 
     by : (out : Bool) → is_empty v.held.flow ≡ out → Arrives text (on_held (λ s. unroll_indent (s.position.col + 1) s) v)
     by false e =
-        subst (λ h. Arrives text (record v { held = h })) (sym (unrolled_in_flow (p.col + 1) v.held e))
+        rw (unrolled_in_flow (p.col + 1) v.held e)
         (arrives_with text v s solid near (record { indent = v.held.indent; indents = v.held.indents; tokens = v.held.tokens })
         (ap (λ b. (site_here (not b) p s.base.site).blocks) e ∙ s.blocks_are) (ap (λ b. (site_here (not b) p s.base.site).awaits) e ∙ s.awaits_is) s.are_levels
         (sym (append-nil v.held.tokens) ∙ ap (λ b. v.held.tokens ++ ends_here (not b) p s.base.site.blocks) (sym e)))
     by true e =
         let u : Levels = unrolled (p.col + 1) p v.held.indent v.held.indents v.held.tokens in
         let z : Ended p s.base.site.blocks s.base.site.awaits v.held.tokens u = rw (s.blocks_are, s.awaits_is) (levels_end p v.held.indent v.held.indents v.held.tokens s.are_levels) in
-        subst (λ h. Arrives text (record v { held = h })) (sym (unrolled_outside (p.col + 1) v.held e))
+        rw (unrolled_outside (p.col + 1) v.held e)
         (arrives_with text v s solid near u (ap (λ b. (site_here (not b) p s.base.site).blocks) e ∙ z.columns_are) (ap (λ b. (site_here (not b) p s.base.site).awaits) e ∙ z.open_is) z.are_levels
         (z.tokens_are ∙ ap (λ b. v.held.tokens ++ ends_here (not b) p s.base.site.blocks) (sym e)))
 
@@ -154,10 +152,16 @@ arrives_now text v s solid near = by (is_empty v.held.flow) refl
 pub near_key : (text : List ℕ) (u : ScannerState) (h : Held) → Nearer text u h → HasNearKey (record u { held = h })
 near_key text u h n out = grind arith
 
+-- where a piece begins, after stale keys
+pub stale_arrives : (text : List ℕ) (u : ScannerState) → Stands text u → begins_separation u.rest ≡ false →
+    Holds (λ v. Arrives text (on_held (λ s. unroll_indent (s.position.col + 1) s) v) × (length v.rest ≡ length u.rest)) (try_held stale u)
+stale_arrives text u s solid = tried u (stale u.held) (stale_stands text u s) (λ h n. (arrives_now text (record u { held = h }) n.stands solid (near_key text u h n), refl))
+
 -- From one fetch to where the next piece begins, or to the text's end: the way to the next token, stale keys, and the ends of block collections.
-pub arrived : (text : List ℕ) (t : ScannerState) (f : ScannerState → Result ScannerState Fault) (P : ScannerState → Type 0) → Stands text t → ((v : ScannerState) → Arrives text v → Holds P (f v)) →
+pub arrived : (text : List ℕ) (t : ScannerState) (f : ScannerState → Result ScannerState Fault) (P : ScannerState → Type 0) → Stands text t → ((v : ScannerState) → Arrives text v → length v.rest ≤ length t.rest → Holds P (f v)) →
     Holds P (skip_to_next_token t >>= λ u. try_held stale u >>= λ v. f (on_held (λ s. unroll_indent (s.position.col + 1) s) v))
 arrived text t f P s go =
-    chained (passed_stands text t s) (λ u a.
-    chained {P = λ v. Arrives text (on_held (λ s. unroll_indent (s.position.col + 1) s) v)}
-    (tried u (stale u.held) (stale_stands text u a.0) (λ h n. (arrives_now text (record u { held = h }) n.stands a.1 (near_key text u h n)))) (λ v b. go (on_held (λ s. unroll_indent (s.position.col + 1) s) v) b))
+    chained (both_hold (passed_stands text t s) (exact t)) (λ u a.
+    chained (stale_arrives text u a.0.0 a.0.1) (λ v b.
+    let k = ap length a.1.cut in let n = length-append a.1.separation u.rest in
+    go (on_held (λ s. unroll_indent (s.position.col + 1) s) v) b.0 (omega (arith, k, n, b.1))))

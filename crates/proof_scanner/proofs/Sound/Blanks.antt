@@ -1,6 +1,6 @@
 -- Blanks and a comment after a piece, within its line: what the model reads there is all of them, and it stands where they end.
 use Rattle.std.proofs.lemmas.List.{append-nil}
-use Rattle.proof_scanner.proofs.Common.{[], after, after_spaces, ap, append_assoc, arith, At, begins_line, begins_with, blanks_and_comment, Bool, comment_after, comment_of, eqb-true, Err, false, Fault, follows_plain, has_no_break, has_tab_within, Holds, if◌then◌else◌, in_line_position, is_blank, is_break, is_indented_by_spaces, is_line, is_on_line, is_one_of, is_separation, last_line, leading, least_column, lexed, List, No, not, Ok, or_false, or_true, pass_indicator, past, past_blanks_and_comment, past_comment, past_line_rest, Position, position_after, position_append, position_in_line, Previous, Read, refl, refused, Result, same_break, ScannerState, skip_indicator, skip_spaces, skip_while, space, space_step, spaces_end, span_cut, subst, sym, true, walk, went, Whitespace, with_found, Yes, ℕ, ◌&&◌, ◌++◌, ◌==◌, ◌||◌, ◌∙◌, ◌∷◌, ◌≡◌}
+use Rattle.proof_scanner.proofs.Common.{[], after, after_spaces, ap, append_assoc, arith, At, begins_line, begins_with, blanks_and_comment, Bool, comment_after, comment_of, eqb-true, Err, false, Fault, follows_plain, has_no_break, has_tab_within, Holds, if◌then◌else◌, in_line_position, is_blank, is_break, is_indented_by_spaces, is_line, is_on_line, is_one_of, is_separation, last_line, leading, least_column, lexed, List, No, not, Ok, or_false, or_true, pass_indicator, past, past_blanks_and_comment, past_comment, past_line_rest, Position, position_after, position_append, position_in_line, Previous, Read, refl, refused, Result, same_break, ScannerState, skip_indicator, skip_spaces, skip_while, space, space_step, span_cut, sym, true, walk, went, Whitespace, with_found, Yes, ℕ, ◌&&◌, ◌++◌, ◌==◌, ◌||◌, ◌∙◌, ◌∷◌, ◌≡◌}
 use Rattle.proof_scanner.proofs.Cut.Pieces.Separations.{no_break_append}
 use Rattle.model_scanner.specs.State.{after as after_first}
 use Rattle.proof_scanner.proofs.Cut.Documents.{past_indicator}
@@ -111,7 +111,7 @@ clear_first b h = grind arith
 
 pub spaced_exactly : (a : List ℕ) (p : Position) → IsSpaced a p (space Yes a p)
 unfolding space
-spaced_exactly a p = subst (λ x. IsSpaced a p (spaces_end x)) (sym (blanks_walked a p (record { found_tabs = false; has_valid_yaml_ws = false }))) (of (after is_blank a) refl)
+spaced_exactly a p = rw (blanks_walked a p (record { found_tabs = false; has_valid_yaml_ws = false })) (of (after is_blank a) refl)
   where
     l : List ℕ
     l = leading is_blank a
@@ -166,7 +166,7 @@ past_it u more = record { rest = past_blanks_and_comment more; held = record u.h
 -- All blanks and a comment after it are read; the comment does not stand directly there.
 pub indicator_passed : (u : ScannerState) (more : List ℕ) → after_first u.rest ≡ more → Holds (λ v. (v ≡ past_it u more) × (begins_with 35 more ≡ false)) (pass_indicator u)
 unfolding pass_indicator
-indicator_passed u more e = subst (λ r. Holds (λ v. (v ≡ past_it u r) × (begins_with 35 r ≡ false)) (pass_indicator u)) e (rest_skipped (skip_indicator u))
+indicator_passed u more e = rw (sym e) (rest_skipped (skip_indicator u))
 
 -- the position after an indicator
 pub past_one : (p : Position) (c : ℕ) (next : List ℕ) → is_break c ≡ false → position_after p (c ∷ []) next ≡ past p

@@ -1,13 +1,12 @@
 -- Block scalars: what holds where one begins holds between two fetches after it. No key waits over it, and after it a key may begin.
-use Rattle.proof_scanner.proofs.Common.{Act, Arrives, Block, BlockStyle, Bool, HasNoTabs, Holds, IsLive, IsPiece, IsReadOn, IsTakenBy, Key, KnowsKey, Levels, Line, List, MayChoose, None, NotBefore, Ok, Option, Outside, Position, Previous, Read, ScannerState, Site, SoFar, Some, Stands, Tok, Token, [], act_of, allow_key, ap, append-nil, append_assoc, arith, awaits_past, before_by, begins_line, begun_by, block, block_may_end, block_position, block_read, block_scalar, block_style, chosen, collection_of, content_position, false, fetch_block_scalar, folded, free, further_lines_stand, further_position, gives_block_scalar, has_break, has_no_nul, has_tab_within, if◌then◌else◌, inl, innermost, inr, is_break, is_empty, is_in_column, is_indented_by_spaces, is_literal, is_one_of, is_separation, least_column, least_for, lexed, line_past, literal, may_precede, may_stand, nat_tests, no_nul_after, not, on_held, position_after, previous_by, push, read, refl, seen, shown_position, site_at, site_here, site_in, site_past, subst, suc, sym, take, taken, token, tokens_up_to, true, unroll_non_block_indents, went, without_open, without_spaces, ℕ, ◌&&◌, ◌++◌, ◌||◌, ◌∙◌, ◌∷◌, ◌≡◌, ◌⊎◌, eqb-true}
+use Rattle.proof_scanner.proofs.Common.{Act, Arrives, Block, BlockStyle, Bool, HasNoTabs, Holds, IsLive, IsPiece, IsReadOn, IsTakenBy, Key, KnowsKey, Levels, Line, List, MayChoose, None, NotBefore, Ok, Option, Outside, Position, Previous, Read, ScannerState, Site, SoFar, Some, Tok, Token, [], act_of, allow_key, ap, append-nil, append_assoc, arith, awaits_past, before_by, begins_line, begun_by, block, block_may_end, block_position, block_read, block_scalar, block_style, chosen, collection_of, content_position, false, fetch_block_scalar, folded, free, further_lines_stand, further_position, gives_block_scalar, has_break, has_no_nul, has_tab_within, if◌then◌else◌, inl, innermost, inr, is_break, is_empty, is_in_column, is_literal, is_one_of, is_separation, least_column, least_for, line_past, literal, may_precede, may_stand, nat_tests, no_nul_after, not, position_after, previous_by, read, refl, seen, shown_position, site_at, site_here, site_in, site_past, subst, suc, sym, take, taken, token, tokens_up_to, true, unroll_non_block_indents, went, without_open, without_spaces, ℕ, ◌&&◌, ◌++◌, ◌||◌, ◌∙◌, ◌∷◌, ◌≡◌, ◌⊎◌, eqb-true}
 use Rattle.model_scanner.specs.declared.kind.BlockStyle as kind
 use Rattle.model_scanner.specs.declared.kind.BlockStyle.TheVariants.{Literal, Folded}
 use Rattle.defs_token.specs.Account as pieces
-use Rattle.proof_scanner.proofs.Sound.Steps.{adjacent_kept, after_piece, AreClosed, by_sides, ArrivesBy, is_of_node, IsDeep, knows_saved, last_whole, no_waiting, not_before_after, not_before_same, not_before_then, outer_completes, outer_then, outer_tokens, Reads, saved, saved_is, saved_keys, some_rest, stands_so, tokens_then, weaker, with_entries, without_is}
+use Rattle.proof_scanner.proofs.Sound.Steps.{AreClosed, ArrivesBy, IsDeep, Onward, Reads, adjacent_kept, after_piece, by_sides, is_of_node, knows_saved, last_whole, no_waiting, none_completes, not_before_after, not_before_same, not_before_then, outer_completes, outer_then, outer_tokens, saved, saved_is, saved_keys, some_rest, stands_so, tokens_then, weaker, with_entries, without_is}
 use Rattle.proof_scanner.proofs.Cut.Pieces.Blocks.{spaces_of, spaces_cut, spaces_fill, spaces_position, some_piece, token_of, IsBelow, below}
 use Rattle.proof_scanner.proofs.Sound.BlockEnds.{IsLeast, BlockAs, block_as, ends_at_margin}
 use Rattle.proof_scanner.proofs.Sound.Outsides.{must_be_here, numbered_past, open_node, new_key, keys_saved}
-use Rattle.proof_scanner.proofs.Sound.Stales.{none_completes}
 use Rattle.proof_scanner.proofs.Sound.PlainKeeps.{same_innermost}
 
 -- ---- spaces
@@ -91,10 +90,10 @@ module _ (text : List ℕ) (t : ScannerState) (k : Option Key) (a : ArrivesBy te
   some = some_rest t.rest r.piece r.next r.is_text is_solid
 
   clean : has_no_nul r.next ≡ true
-  clean = no_nul_after r.piece r.next (subst (λ l. has_no_nul l ≡ true) r.is_text a.is_clean)
+  clean = no_nul_after r.piece r.next (rw (sym r.is_text) a.is_clean)
 
   least : IsLeast w.indent here.blocks
-  least = subst (λ bs. IsLeast w.indent bs) (sym (a.blocks_are ∙ closed.same_columns)) closed.is_least
+  least = rw (a.blocks_are ∙ closed.same_columns) closed.is_least
 
   abbrev seen_here : pieces.Account
   seen_here = seen (with_entries a.site a.line []) here a.separation
@@ -160,7 +159,7 @@ module _ (text : List ℕ) (t : ScannerState) (k : Option Key) (a : ArrivesBy te
   then_rows true true cs (Some y) e may = absurd (dead y (before_it y e) may)
   then_rows false true cs (Some y) e may = absurd may
   then_rows strict false cs (Some y) e may =
-      let q = line_by_allowed strict t.held.key_allowed k refl refl (subst (λ o. MayChoose strict false o end rest) (sym e) may) in
+      let q = line_by_allowed strict t.held.key_allowed k refl refl (rw e may) in
       rows strict q.0 q.1
 
   taken_by : (y : Option Key) → key_now ≡ y → IsTakenBy true end rest y free
@@ -174,11 +173,11 @@ module _ (text : List ℕ) (t : ScannerState) (k : Option Key) (a : ArrivesBy te
   scalar_reads =
       let far = adjacent_kept t after_it (before_by (previous_by tok)) r.piece r.next gap is_solid place a.was_adjacent refl (ap before_by n.before) in
       let no_tabs : HasNoTabs site_then gap rest =
-      inr (subst (λ b. is_indented_by_spaces b here.blocks (awaits_past false tok here.blocks here.awaits r.next) gap ≡ true) (sym n.before) (ap not (ap (λ l. has_tab_within (least_column here.blocks ((awaits_past false tok here.blocks here.awaits r.next) || false)) l)
+      inr (rw n.before (ap not (ap (λ l. has_tab_within (least_column here.blocks ((awaits_past false tok here.blocks here.awaits r.next) || false)) l)
       (last_whole (spaces_of r.next) (spaces_in_line r.next)) ∙ no_tab_in (least_column here.blocks ((awaits_past false tok here.blocks here.awaits r.next) || false)) r.next))) in
       assumption (is_solid, r, spaces_cut r.next, spaces_fill r.next rest, place, (a.blocks_are ∙ closed.same_columns), n.awaits here.blocks here.awaits r.next ∙ sym closed.none_open, no_tabs, sym (ap (λ z. begins_line z gap) n.before), read_on (previous_by tok) n.before, far)
 
-  pub scalar_stands : KnowsKey text (a.separation ++ t.rest) t.held.position k → Stands text after_it
+  pub scalar_stands : KnowsKey text (a.separation ++ t.rest) t.held.position k → Onward text t.rest after_it
   scalar_stands known = stands_so text t after_it r.piece r.next gap [] (key_now ∷ []) (with_entries site_then free []) a.is_clean a.started a.going scalar_reads (record {
     flow_is = within;
     keys_are = keys_saved t k [] keys;
@@ -190,37 +189,35 @@ module _ (text : List ℕ) (t : ScannerState) (k : Option Key) (a : ArrivesBy te
     are_numbered = numbered_past text t k a within deep own t.held.key_allowed;
     carries = λ cs x key m inside some. absurd (cc inside);
     knows = knows_saved text t r.piece r.next tok r.is_text end gap rest place (spaces_cut r.next) k a (
-      (subst (λ l. is_separation false a.separation l ≡ true) r.is_text a.is_filled),
+      (rw (sym r.is_text) a.is_filled),
       (ap not is_solid, subst (λ y. IsPiece (seen (with_entries a.site a.line []) y a.separation) r.piece r.next None (shown_position y r.piece tok r.next) tok) (sym same_site) is_piece),
     ) within deep (ap is_of_node n.act) known;
     completes = λ strict c cs may. then_rows strict c cs key_now refl may;
   })
 
   -- What stands after a block scalar that was read; the spaces after it are the separation.
-  pub block_stands : KnowsKey text (a.separation ++ t.rest) t.held.position k → Stands text (read_state t w style x)
+  pub block_stands : KnowsKey text (a.separation ++ t.rest) t.held.position k → Onward text t.rest (read_state t w style x)
   block_stands known =
-      subst (λ z. Stands text (read_state t w style z)) (sym r.is)
-      (subst (λ ts. Stands text (record after_it { held = record after_it.held { tokens = ts ++ own ∷ [] } })) (sym closed.same_tokens) (scalar_stands known))
+      rw r.is (rw closed.same_tokens (scalar_stands known))
 
 -- ---- the function
 
 -- A block scalar is read as in the row.
-pub block_keeps : (text : List ℕ) (style : kind.BlockStyle) (t : ScannerState) (more : List ℕ) → t.rest ≡ (if is_literal style then 124 else 62) ∷ more → is_empty t.held.flow ≡ true → IsDeep t.held → Arrives text t → Holds (Stands text) (fetch_block_scalar style t)
+pub block_keeps : (text : List ℕ) (style : kind.BlockStyle) (t : ScannerState) (more : List ℕ) → t.rest ≡ (if is_literal style then 124 else 62) ∷ more → is_empty t.held.flow ≡ true → IsDeep t.held → Arrives text t → Holds (Onward text t.rest) (fetch_block_scalar style t)
 unfolding fetch_block_scalar unroll_non_block_indents
 block_keeps text style t more e out deep arrives =
-    subst (λ h. Holds (Stands text) (lexed (block (is_literal style) (unroll_non_block_indents (allow_key true h)).indent t.rest t.held.position) (unroll_non_block_indents (allow_key true h))
-    (λ b u. Ok (on_held (λ v. push b.position (Tok.scalar (block_style style) b.text) (record v { leading = true })) u)))) (sym (saved_is t.held))
+    rw (saved_is t.held)
     (read (unroll_non_block_indents (allow_key true (record t.held { keys = saved_keys t.held }))) (block (is_literal style) w.indent t.rest t.held.position) _ (λ x i. went (of style e x i)))
   where
     w : Levels
     w = without_open t.held.indent t.held.indents t.held.tokens
 
-    by : (style : BlockStyle) (x : Read Block) → BlockAs style w.indent t.held.position t.rest x → Stands text (read_state t w style x)
+    by : (style : BlockStyle) (x : Read Block) → BlockAs style w.indent t.held.position t.rest x → Onward text t.rest (read_state t w style x)
     by style x r =
-        by_sides text t (λ v. is_empty v.held.flow ≡ true → Stands text (read_state v w style x)) arrives
+        by_sides text t (λ v. is_empty v.held.flow ≡ true → Onward text v.rest (read_state v w style x)) arrives
         (λ k a n o. block_stands text _ k a refl refl deep w (without_is t.held.indent t.held.indents t.held.tokens arrives.are_levels) style x r n) (λ f fs k ks y es a o. absurd (cc o)) out
 
     of : (style : kind.BlockStyle) → t.rest ≡ (if is_literal style then 124 else 62) ∷ more → (x : Read Block) → block (is_literal style) w.indent t.rest t.held.position ≡ Ok x →
-        Stands text (record { rest = x.rest; held = record t.held { position = x.position; tokens = w.tokens ++ token x.value.position (Tok.scalar (block_style style) x.value.text) ∷ []; keys = saved_keys t.held; indents = w.indents; indent = w.indent; key_allowed = true; leading = true } })
+        Onward text t.rest (record { rest = x.rest; held = record t.held { position = x.position; tokens = w.tokens ++ token x.value.position (Tok.scalar (block_style style) x.value.text) ∷ []; keys = saved_keys t.held; indents = w.indents; indent = w.indent; key_allowed = true; leading = true } })
     of Literal e x i = by literal x (grind (arith, clean, no_nul_after, block_as))
     of Folded e x i = by folded x (grind (arith, clean, no_nul_after, block_as))

@@ -16,7 +16,7 @@ pub begins_past : (text after : List ℕ) (a b : Account) (w : Step) (next : Lis
 begins_past text after a b w next cut written stands g = record {
   steps = g.steps ++ w ∷ [];
   spells = spelled_append g.steps (w ∷ []) next ∙ ap (λ x. spelled g.steps x) (sym cut) ∙ g.spells;
-  leads = leads_past (Some first_account) g.steps w next a b (subst (λ x. Leads (Some first_account) g.steps x a) cut g.leads) written stands;
+  leads = leads_past (Some first_account) g.steps w next a b (rw (sym cut) g.leads) written stands;
 }
 
 -- over a step that may stand, but for the key

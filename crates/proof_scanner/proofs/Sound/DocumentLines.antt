@@ -1,12 +1,11 @@
 -- Document markers and directives: what holds where they begin holds between two fetches after them.
-use Rattle.proof_scanner.proofs.Common.{[], act_of, and_false, and_parts, ap, append-nil, append_assoc, AreLevels, arith, Arrives, At, awaits_past, before_by, begin_line, begins_free_line, begins_line, begins_with, begun_by, begun_inside, blanks_and_comment, Bool, chained, check_document_end, closed_key, columns, Directive, directive_of, directives_end, either, entries_past, Entry, eqb-true, Err, false, fetch_directive, fetch_document_end, fetch_document_marker, first_break, FlowLevel, further_lines_stand, gives_marker, has_break, has_no_break, has_no_nul, has_open_level, HasNoTabs, Held, Holds, if◌then◌else◌, in_flow, inr, is_at_gap, is_break, is_breakz, is_closed, is_empty, is_in_column, is_indented_by_spaces, is_renewed, is_required, is_separation, IsDirectiveRead, IsLeading, IsPiece, IsReadOn, Key, least_for, length, Levels, line_is_done, List, may_precede, no_nul_after, None, Ok, on_held, Option, or_true, other, pair_position, past, past_blanks_and_comment, past_line_rest, peek, Position, position_after, position_append, previous_by, push, put, read, read_as, refl, refused, remove_implicit_key, replicate-append-replicate, ScannerState, seen, settled, shown_position, Site, site_in, skip_indicator, Some, Stands, subst, sym, taken, takes_pair, Tok, Token, token_of, top_key, tried, true, unroll_indent, went, whole_directive, with_top, ℕ, ◌++◌, ◌∙◌, ◌∷◌, ◌≡◌, ◌≤◌}
-use Rattle.proof_scanner.proofs.Sound.Steps.{adjacent_kept, all_levels, by_sides, ArrivesBy, at_end_of, begins_key, ends_of, goes_inside, is_done, key_gone, line_rest_cut, line_rest_fills, line_rest_in_line, none_indents, past_rest, read_outside, Reads, rest_skipped, same_in_line, shorter, some_rest, three_past, tokens_before, tokens_then, unrolled_in_flow, with_entries, same_has_break}
+use Rattle.proof_scanner.proofs.Common.{[], act_of, and_false, and_parts, ap, append-nil, append_assoc, AreLevels, arith, Arrives, awaits_past, before_by, begin_line, begins_free_line, begins_line, begins_with, begun_by, begun_inside, blanks_and_comment, Bool, check_document_end, columns, Directive, directive_of, directives_end, either, entries_past, Entry, eqb-true, false, fetch_directive, fetch_document_end, fetch_document_marker, first_break, FlowLevel, further_lines_stand, gives_marker, has_break, has_no_break, has_no_nul, has_open_level, HasNoTabs, Held, Holds, in_flow, inr, is_at_gap, is_break, is_breakz, is_closed, is_empty, is_in_column, is_indented_by_spaces, is_renewed, is_required, is_separation, IsDirectiveRead, IsLeading, IsPiece, IsReadOn, Key, least_for, length, Levels, line_is_done, List, may_precede, no_nul_after, None, on_held, Option, or_true, other, pair_position, past, past_blanks_and_comment, past_line_rest, peek, Position, position_after, position_append, previous_by, push, put, read, read_as, refl, refused, remove_implicit_key, replicate-append-replicate, ScannerState, seen, settled, shown_position, Site, site_in, skip_indicator, Some, subst, sym, taken, takes_pair, Tok, Token, token_of, top_key, true, unroll_indent, went, whole_directive, with_top, ℕ, ◌++◌, ◌∙◌, ◌∷◌, ◌≡◌, ◌≤◌}
+use Rattle.proof_scanner.proofs.Sound.Steps.{exactly, held_exactly, Onward, adjacent_kept, all_levels, by_sides, ArrivesBy, at_end_of, begins_key, ends_of, goes_inside, is_done, key_gone, line_rest_cut, line_rest_fills, line_rest_in_line, none_indents, read_outside, Reads, rest_skipped, same_in_line, shorter, some_rest, three_past, tokens_before, tokens_then, unrolled_in_flow, with_entries, same_has_break}
 use Rattle.defs_token.specs.Account.{Account as PieceAccount}
 use Rattle.defs_token.specs.Key.{line_past as line_of_piece}
 use Rattle.model_scanner.specs.Directive.{directive}
 use Rattle.proof_lexers.specs.DirectiveEnds.{ends_line, next_line}
 use Rattle.proof_scanner.proofs.Cut.Pieces.Directives.{break_cut, break_is_separation, percent_in_line, piece_of}
-use Rattle.yaml_tokens.specs.declared.problem.Problem.TheVariants as problem
 use Rattle.model_scanner.specs.Machine as machine
 
 -- What is said of the token of a document marker or a directive.
@@ -57,9 +56,9 @@ line_reads : (t : ScannerState) (d : Read) (h : Held) (y : Site) → IsRead t d 
     t.held.adjacent_value_at ≤ t.held.position.index → (h.adjacent_value_at ≡ t.held.adjacent_value_at) × (h.started ≡ t.held.started) × (h.ended ≡ t.held.ended) → Reads t (line_past t h d) y d.piece (next_of d) d.gap
 line_reads t d h y r here before columns_are awaits levels was same =
     let far = adjacent_kept t (line_past t h d) (before_by y.before) d.piece (next_of d) d.gap r.is_solid r.end_is was same.0 (ap before_by before ∙ r.token.before) in
-    let no_tabs : HasNoTabs y d.gap d.rest = inr (subst (λ b. is_indented_by_spaces b y.blocks y.awaits d.gap ≡ true) (sym before) (r.no_tabs y.blocks y.awaits)) in
+    let no_tabs : HasNoTabs y d.gap d.rest = inr (rw before (r.no_tabs y.blocks y.awaits)) in
     let leads_then : IsLeading d.leading y d.gap d.rest = λ _ more _. r.leads more ∙ ap (λ b. begins_line b d.gap) (sym before) in
-    let read_on : IsReadOn y.before y.position d.gap d.rest = subst (λ b. IsReadOn b y.position d.gap d.rest) (sym before) (r.read_on y.position) in
+    let read_on : IsReadOn y.before y.position d.gap d.rest = rw before (r.read_on y.position) in
     assumption (no_tabs, leads_then, read_on, far, r.end_is ∙ ap (λ q. position_after q d.gap d.rest) (sym here))
 
 -- ---- what begins such a line
@@ -68,9 +67,9 @@ line_reads t d h y r here before columns_are awaits levels was same =
 abbrev pub begun_from : Held → Held
 begun_from u = record u { keys = with_top None u.keys; key_allowed = false }
 
-pub line_begun : (s u : Held) → unroll_indent 0 s ≡ u → Holds (λ v. (is_required (top_key u.keys) ≡ false) × (v ≡ begun_from u)) (begin_line s)
+pub line_begun : (s u : Held) → unroll_indent 0 s ≡ u → Holds (λ v. (v ≡ begun_from u) × (is_required (top_key u.keys) ≡ false)) (begin_line s)
 unfolding begin_line remove_implicit_key
-line_begun s u e = subst (λ (h : Held). Holds (λ v. (is_required (top_key u.keys) ≡ false) × (v ≡ begun_from u)) (closed_key (if is_required (top_key h.keys) then Err (At problem.KeyExpected h.position) else Ok (record h { keys = with_top None h.keys })))) (sym e) (grind (arith, refused, went))
+line_begun s u e = rw e (grind (arith, refused, went))
 
 -- all levels have ended
 abbrev pub all_ended : Held → Held
@@ -82,11 +81,11 @@ unrolled_outside s e a = rw e (ap (λ (u : Levels). record s { indent = u.indent
 
 -- ---- outside flow
 
-line_stands : (text : List ℕ) (t : ScannerState) (d : Read) (a : ArrivesBy text t [] (None ∷ []) []) → IsRead t d → t.held.flow ≡ [] → with_top None t.held.keys ≡ None ∷ [] → Stands text (line_past t (begun_from (all_ended t.held)) d)
+line_stands : (text : List ℕ) (t : ScannerState) (d : Read) (a : ArrivesBy text t [] (None ∷ []) []) → IsRead t d → t.held.flow ≡ [] → with_top None t.held.keys ≡ None ∷ [] → Onward text t.rest (line_past t (begun_from (all_ended t.held)) d)
 line_stands text t d a r flow keys =
     read_outside text t (line_past t (begun_from (all_ended t.held)) d) a d.piece (next_of d) d.gap d.tok (record { line = taken; blocks = [] }) x (ap (λ k. site_in false k t.held.position a.site) r.token.act)
     (line_reads t d (begun_from (all_ended t.held)) _ r refl refl refl (r.token.awaits_outside x.blocks x.awaits (next_of d)) refl a.was_adjacent (refl, refl, refl)) (record { line_is = (inr refl, sym r.not_free, tt); no_key = refl; flow_is = flow; keys_are = keys }) (record {
-      is_piece = subst (λ p. IsPiece (seen (with_entries a.site a.line []) x a.separation) d.piece (next_of d) None p d.tok) (sym (r.token.shown x d.piece (next_of d))) (r.is_piece (seen (with_entries a.site a.line []) x a.separation) r.at_margin refl);
+      is_piece = rw (r.token.shown x d.piece (next_of d)) (r.is_piece (seen (with_entries a.site a.line []) x a.separation) r.at_margin refl);
       stands = rw (a.is_indented (some_rest t.rest d.piece (next_of d) r.cut r.is_solid), r.token.lines (least_for d.tok x) d.piece, r.precedes false x.blocks) refl;
       after_is = ap (λ k. line_of_piece (is_in_column x.position.col x.blocks) x.position x.blocks k false a.line_here) r.token.act ∙ (grind arith);
       begun = r.token.begun;
@@ -109,7 +108,7 @@ line_stands text t d a r flow keys =
 -- ---- in flow
 
 line_goes : (text : List ℕ) (t : ScannerState) (d : Read) (f : FlowLevel) (fs : List FlowLevel) (k : Option Key) (ks : List (Option Key)) (e : Entry) (es : List Entry) (a : ArrivesBy text t (f ∷ fs) (k ∷ ks) (e ∷ es)) → IsRead t d → t.held.flow ≡ f ∷ fs → with_top None t.held.keys ≡ None ∷ ks →
-    Stands text (line_past t (begun_from t.held) d)
+    Onward text t.rest (line_past t (begun_from t.held) d)
 line_goes text t d f fs k ks e es a r flow keys =
     goes_inside text t (line_past t (begun_from t.held) d) f f fs k ks e (record { kind = e.kind; pair = e.pair; had = settled }) es a d.piece (next_of d) d.tok d.gap
     (line_reads t d (begun_from t.held) _ r refl refl a.blocks_are (r.token.awaits_inside a.site.blocks a.site.awaits (next_of d) ∙ a.awaits_is) a.are_levels a.was_adjacent (refl, refl, refl)) (record {
@@ -119,7 +118,7 @@ line_goes text t d f fs k ks e es a r flow keys =
       has_had = (inr refl, sym r.not_renewed);
       in_line = r.in_line;
       begun = r.token.begun;
-      is_piece = subst (λ p. IsPiece (seen (with_entries a.site a.line (e ∷ es)) x a.separation) d.piece (next_of d) None p d.tok) (sym (r.token.shown x d.piece (next_of d))) (r.is_piece (seen (with_entries a.site a.line (e ∷ es)) x a.separation) r.at_margin refl);
+      is_piece = rw (r.token.shown x d.piece (next_of d)) (r.is_piece (seen (with_entries a.site a.line (e ∷ es)) x a.separation) r.at_margin refl);
       stands = rw (a.is_indented (some_rest t.rest d.piece (next_of d) r.cut r.is_solid), r.token.act, r.token.lines (least_for d.tok x) d.piece, r.precedes true x.blocks) refl;
       entry_past = λ xs. ap (λ y. entries_past x.position (is_renewed a.site.before a.separation) y [] false e xs) r.token.act ∙
           (grind arith);
@@ -138,7 +137,7 @@ pub record Begins (text : List ℕ) (t : ScannerState) : Type 0 where
   pub held : Held
   pub rolled : unroll_indent 0 t.held ≡ held
   pub same_position : held.position ≡ t.held.position
-  pub stands : (d : Read) → IsRead t d → is_required (top_key held.keys) ≡ false → Stands text (line_past t (begun_from held) d)
+  pub stands : (d : Read) → IsRead t d → is_required (top_key held.keys) ≡ false → Onward text t.rest (line_past t (begun_from held) d)
 
 pub begins : (text : List ℕ) (t : ScannerState) → is_empty t.rest ≡ false → Arrives text t → Begins text t
 begins text t some a =
@@ -165,14 +164,13 @@ abbrev pub start_read : (more : List ℕ) → Position → Read
 start_read more p = record { tok = Tok.document_start; piece = 45 ∷ 45 ∷ 45 ∷ []; gap = []; rest = more; end = past (past (past p)); leading = false }
 
 -- `---`
-pub document_start_keeps : (text more : List ℕ) (t : ScannerState) → Arrives text t → t.rest ≡ 45 ∷ 45 ∷ 45 ∷ more → is_at_gap more ≡ true → t.held.position.col ≡ 0 → Holds (Stands text) (fetch_document_marker Tok.document_start t)
+pub document_start_keeps : (text more : List ℕ) (t : ScannerState) → Arrives text t → t.rest ≡ 45 ∷ 45 ∷ 45 ∷ more → is_at_gap more ≡ true → t.held.position.col ≡ 0 → Holds (Onward text t.rest) (fetch_document_marker Tok.document_start t)
 unfolding fetch_document_marker is_break
 document_start_keeps text more t a e gap col =
     let b : Begins text t = begins text t (ap is_empty e) a in
-    chained {P = λ u. (is_required (top_key b.held.keys) ≡ false) × (u ≡ record t { held = begun_from b.held })} (tried t (begin_line t.held) (line_begun t.held b.held b.rolled) (λ h d. (d.0, ap (λ y. record t { held = y }) d.1))) (λ u d.
-    went (subst (λ y. Stands text (on_held (push t.held.position Tok.document_start) (skip_indicator (skip_indicator (skip_indicator y))))) (sym d.1)
-    (subst (λ r. Stands text (on_held (push t.held.position Tok.document_start) (skip_indicator (skip_indicator (skip_indicator (record { rest = r; held = begun_from b.held })))))) (sym e)
-    (b.stands (start_read more b.held.position) (assumption (start_token, e, gap, col, ap (λ q. past (past (past q))) b.same_position ∙ three_past t.held.position 45 more refl)) d.0))))
+    exactly _ (held_exactly t (line_begun t.held b.held b.rolled)) (λ optional. went
+    (subst (λ r. Onward text t.rest (on_held (push t.held.position Tok.document_start) (skip_indicator (skip_indicator (skip_indicator (record { rest = r; held = begun_from b.held })))))) (sym e)
+    (b.stands (start_read more b.held.position) (assumption (start_token, e, gap, col, ap (λ q. past (past (past q))) b.same_position ∙ three_past t.held.position 45 more refl)) optional)))
 
 -- ---- `...`
 
@@ -191,20 +189,14 @@ abbrev pub marked : ScannerState → Held → (rest : List ℕ) → ScannerState
 marked t h r = on_held (push t.held.position Tok.document_end) (skip_indicator (skip_indicator (skip_indicator (record { rest = r; held = begun_from h }))))
 
 -- `...`, after which the line holds no more
-pub document_end_keeps : (text more : List ℕ) (t : ScannerState) → Arrives text t → t.rest ≡ 46 ∷ 46 ∷ 46 ∷ more → is_at_gap more ≡ true → t.held.position.col ≡ 0 → Holds (Stands text) (fetch_document_end t)
+pub document_end_keeps : (text more : List ℕ) (t : ScannerState) → Arrives text t → t.rest ≡ 46 ∷ 46 ∷ 46 ∷ more → is_at_gap more ≡ true → t.held.position.col ≡ 0 → Holds (Onward text t.rest) (fetch_document_end t)
 unfolding fetch_document_end fetch_document_marker check_document_end
 document_end_keeps text more t a e gap col =
     let b : Begins text t = begins text t (ap is_empty e) a in
     let clean : has_no_nul more ≡ true = no_nul_after (46 ∷ 46 ∷ 46 ∷ []) more (subst (λ l. has_no_nul l ≡ true) e a.is_clean) in
-    chained {P = λ u. (is_required (top_key b.held.keys) ≡ false) × (u ≡ marked t b.held (46 ∷ 46 ∷ 46 ∷ more))}
-    (chained {P = λ u. (is_required (top_key b.held.keys) ≡ false) × (u ≡ record t { held = begun_from b.held })} (tried t (begin_line t.held) (line_begun t.held b.held b.rolled) (λ h d. (d.0, ap (λ y. record t { held = y }) d.1))) (λ u d.
-    went (d.0, ap (λ y. on_held (push t.held.position Tok.document_end) (skip_indicator (skip_indicator (skip_indicator y)))) d.1 ∙ ap (marked t b.held) e)))
-    (λ u d. chained (rest_skipped u) (λ v s. either (is_breakz (peek v.rest)) (λ yes. went (
-    let is : v ≡ past_rest (marked t b.held (46 ∷ 46 ∷ 46 ∷ more)) = s.0 ∙ ap past_rest d.1 in
-    let ends : is_breakz (peek (past_blanks_and_comment more)) ≡ true = ap (λ y. is_breakz (peek y.rest)) (sym is) ∙ yes in
-    let hash : begins_with 35 more ≡ false = ap (λ y. begins_with 35 y.rest) (sym d.1) ∙ s.1 in
-    subst (Stands text) (sym is) (b.stands (end_read more b.held.position) (end_is_read t more b.held.position b.same_position e gap col (grind (arith, blanks_and_comment, is_done, line_rest_fills, same_has_break, line_rest_in_line, at_end_of, no_nul_after, line_rest_cut, begins_with, eqb-true))) d.0)
-    )) (λ no. refused)))
+    exactly {x = marked t b.held (46 ∷ 46 ∷ 46 ∷ more)} _ (exactly _ (held_exactly t (line_begun t.held b.held b.rolled)) (λ optional. went (ap (marked t b.held) e, optional))) (λ optional.
+    exactly _ (rest_skipped _) (λ hash. either (is_breakz (peek (past_blanks_and_comment more))) (λ ends. went
+    (b.stands (end_read more b.held.position) (end_is_read t more b.held.position b.same_position e gap col (grind (arith, blanks_and_comment, is_done, line_rest_fills, same_has_break, line_rest_in_line, at_end_of, no_nul_after, line_rest_cut, begins_with, eqb-true))) optional)) (λ no. refused)))
 
 -- ---- directives
 
@@ -220,15 +212,13 @@ abbrev pub after_it : ScannerState → machine.Read Tok → Held → ScannerStat
 after_it t x h = record { rest = x.rest; held = record h { position = x.position; leading = true; tokens = (push t.held.position x.value h).tokens } }
 
 -- `%`
-pub directive_keeps : (text more : List ℕ) (t : ScannerState) → Arrives text t → t.rest ≡ 37 ∷ more → t.held.position.col ≡ 0 → Holds (Stands text) (fetch_directive t)
+pub directive_keeps : (text more : List ℕ) (t : ScannerState) → Arrives text t → t.rest ≡ 37 ∷ more → t.held.position.col ≡ 0 → Holds (Onward text t.rest) (fetch_directive t)
 unfolding fetch_directive
 directive_keeps text more t a e col =
     let b : Begins text t = begins text t (ap is_empty e) a in
-    chained {P = λ u. (is_required (top_key b.held.keys) ≡ false) × (u ≡ record t { held = begun_from b.held })} (tried t (begin_line t.held) (line_begun t.held b.held b.rolled) (λ h d. (d.0, ap (λ y. record t { held = y }) d.1))) (λ u d.
-    read u.held (directive u.rest u.held.position) _ (λ x is. went (
-    let at_place : directive (37 ∷ more) t.held.position ≡ Ok x = ap (λ p. directive (37 ∷ more) p) (sym b.same_position) ∙ (ap (λ r. directive r b.held.position) (sym e) ∙ (ap (λ y. directive y.rest y.held.position) (sym d.1) ∙ is)) in
-    subst (λ y. Stands text (after_it t x y.held)) (sym d.1) (by b d.0 x (read_as at_place (directives_end more t.held.position))))))
+    exactly _ (held_exactly t (line_begun t.held b.held b.rolled)) (λ optional. read (begun_from b.held) (directive t.rest b.held.position) _ (λ x is. went
+    (by b optional x (read_as (ap (λ p. directive (37 ∷ more) p) (sym b.same_position) ∙ (ap (λ r. directive r b.held.position) (sym e) ∙ is)) (directives_end more t.held.position)))))
   where
-    by : (b : Begins text t) → is_required (top_key b.held.keys) ≡ false → (x : machine.Read Tok) → IsDirectiveRead t.held.position more x → Stands text (after_it t x (begun_from b.held))
+    by : (b : Begins text t) → is_required (top_key b.held.keys) ≡ false → (x : machine.Read Tok) → IsDirectiveRead t.held.position more x → Onward text t.rest (after_it t x (begun_from b.held))
     by b none x (whole_directive line next d cut no_break ends is) =
         b.stands (directive_read line next d t.held.position) (directive_is_read t line next d (e ∙ ap (λ l. 37 ∷ l) cut) no_break ends is col) none

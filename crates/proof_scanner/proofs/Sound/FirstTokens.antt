@@ -1,14 +1,9 @@
 -- The first of a text's tokens are a cut of a beginning of it.
-use Rattle.proof_scanner.proofs.Common.{[], ap, arith, begins, end_token, Fares, first_position, has_no_nul, inl, inr, is_empty, IsCut, IsCutOfBeginning, IsCutUpTo, IsRow, IsWhere, List, None, Option, over, Position, Reaches, refl, rows_are_cuts, ScannerState, Some, spelled_append, start, start_token, stream_end, subst, sym, Tok, Token, tokens_of, true, up_to_nul, Written, ℕ, ◌++◌, ◌∙◌, ◌∷◌, ◌≡◌, ◌⊎◌}
+use Rattle.proof_scanner.proofs.Common.{[], ap, arith, begins, end_token, Fares, first_position, has_no_nul, inl, inr, is_empty, IsCut, IsCutOfBeginning, IsCutUpTo, IsRow, IsWhere, List, None, Option, over, Position, Reaches, refl, rows_are_cuts, ScannerState, Some, spelled_append, start, start_token, stream_end, sym, Tok, Token, tokens_of, true, up_to_nul, Written, ℕ, ◌++◌, ◌∙◌, ◌∷◌, ◌≡◌, ◌⊎◌, goes}
 use Rattle.defs_token.specs.Account.{Account, first_account}
-use Rattle.defs_token.specs.Cut.{account_past, IsWritten, spelled}
+use Rattle.defs_token.specs.Cut.{account_past, spelled}
 use Rattle.proof_scanner.specs.Laws.{TokensAreACut}
-use Rattle.proof_scanner.specs.StandsInRow.{goes}
-use Rattle.proof_scanner.proofs.Sound.CutsSoFar.{cut_position, stands_cut}
-use Rattle.proof_scanner.proofs.Sound.Sound.{tokens_are_of_a_row}
-use Rattle.proof_scanner.proofs.Sound.Fetches.{fetch_keeps}
-use Rattle.proof_scanner.proofs.Sound.Runs.{reached}
-use Rattle.proof_scanner.proofs.Cut.Documents.{whole_text}
+use Rattle.proof_scanner.proofs.Refusals.Common.{cut_position, fetch_keeps, reached, stands_cut, tokens_are_of_a_row, whole_text}
 
 -- the first of a list, or else another
 abbrev first_or : Token → List Token → Token
@@ -25,8 +20,7 @@ row_first a [] vs f last r = tt
 row_first a (w ∷ []) vs f last r = ((r.0.0, grind arith), tt)
 row_first a (w ∷ v ∷ ws) vs f last r =
     let same : spelled ((v ∷ ws) ++ vs) f ≡ spelled (v ∷ ws) (spelled vs f) = spelled_append (v ∷ ws) vs f in
-    subst (λ t. IsWritten a w t (Some v.token.tok) × IsRow (account_past a w t) (v ∷ ws) (spelled vs f) None) same
-    (r.0, row_first (account_past a w (spelled ((v ∷ ws) ++ vs) f)) (v ∷ ws) vs f last r.1)
+    rw (sym same) (r.0, row_first (account_past a w (spelled ((v ∷ ws) ++ vs) f)) (v ∷ ws) vs f last r.1)
 
 -- a row whose tokens are two lists one after the other
 record Parted (ws : List Written) (given more : List Token) : Type 0 where
@@ -56,7 +50,7 @@ begun_by text begin ws after last (t ∷ given) more is_text row e =
       after = spelled p.second after;
       are_tokens = ap (λ x. x ∷ given) (sym (ap (first_or t) e)) ∙ ap (λ ts. start_token begin ∷ ts) (sym p.are_given);
       is_text = sym same ∙ is_text;
-      is_row = row_first first_account p.first p.second after last (subst (λ vs. IsRow first_account vs after last) p.are_both row);
+      is_row = row_first first_account p.first p.second after last (rw (sym p.are_both) row);
     })
 
 -- what comes before the last of a list, or all of it
@@ -89,7 +83,7 @@ first_tokens_are_cut text given more t nul run e = by (reached fetch_keeps text 
         inr (begun_by text first_position c.row (s.separation ++ t.rest) None given more c.is_text (c.is_row.is_row None) (sym c.are_tokens ∙ e))
     by (over f r n) = elim (before_last (end_token (rows_are_cuts text t.held.tokens r).end) (start_token (rows_are_cuts text t.held.tokens r).begin ∷ tokens_of (rows_are_cuts text t.held.tokens r).row) given more (sym (rows_are_cuts text t.held.tokens r).are_tokens ∙ e)) [
       | all k ↦ inl
-          (subst (λ ts. IsCut ts text) ((rows_are_cuts text t.held.tokens r).are_tokens ∙ sym k) (rows_are_cuts text t.held.tokens r))
+          (rw (sym ((rows_are_cuts text t.held.tokens r).are_tokens ∙ sym k)) (rows_are_cuts text t.held.tokens r))
       | some others k ↦ inr
           (begun_by text (rows_are_cuts text t.held.tokens r).begin (rows_are_cuts text t.held.tokens r).row (rows_are_cuts text t.held.tokens r).separation (Some stream_end) given others (rows_are_cuts text t.held.tokens r).is_text (rows_are_cuts text t.held.tokens r).is_row k)
     ]

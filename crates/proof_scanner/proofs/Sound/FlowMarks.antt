@@ -1,12 +1,10 @@
 -- Commas and closing brackets: what holds where they begin holds between two fetches after them. Outside flow they close nothing.
-use Rattle.proof_scanner.proofs.Common.{[], Act, act_of, adjacent_in_flow, another, ap, append_assoc, AreAround, AreEntries, AreLevels, AreNumbered, arith, Arrives, before_by, before_past, begin_flow, begins_free_line, begins_with, begun_by, begun_outside, blanks_and_comment, Bool, chained, Collection, columns, end_entry, end_flow, ends_at, ends_spaces, entries_by, Entry, eqb-true, false, fetch_flow_collection_end, fetch_flow_collection_start, fetch_flow_entry, first_entry, flow_collection, flow_end, flow_level, flow_start, FlowLevel, free, gives_closing, gives_comma, gives_node, has_no_break, has_no_nul, has_open_level, Held, Holds, if◌then◌else◌, in_block, in_flow, increase_flow_level, Indent, is_blank, is_deeper, is_empty, is_in_column, is_renewed, is_required, is_separation, IsAdjacent, IsEntryOf, IsLine, IsPairOf, IsPiece, Key, least_for, length, level_of, Line, line_past, List, map, Mapping, nat_le, nat_lt, no_nul_after, no_pair, None, not, on_held, Option, other, outside_key, pair_end, past, past_blanks_and_comment, past_line_rest, pop, Position, position_after, position_in_line, Previous, previous_by, push, put, refl, refused, remove_implicit_key, roll_one_col_indent, ScannerState, seen, Site, site_here, site_in, Some, Stands, Step, subst, suc, sym, taken, Tok, Token, top_key, tried, true, went, with_keys, with_top, Yes, ℕ, ◌&&◌, ◌++◌, ◌∙◌, ◌∷◌, ◌≡◌, ◌⊎◌}
+use Rattle.proof_scanner.proofs.Common.{[], Act, act_of, adjacent_in_flow, another, ap, append_assoc, AreAround, AreEntries, AreLevels, AreNumbered, arith, Arrives, before_by, before_past, begin_flow, begins_free_line, begins_with, begun_by, begun_outside, blanks_and_comment, Bool, Collection, columns, end_entry, end_flow, ends_at, ends_spaces, entries_by, Entry, eqb-true, false, fetch_flow_collection_end, fetch_flow_collection_start, fetch_flow_entry, first_entry, flow_collection, flow_end, flow_level, flow_start, FlowLevel, free, gives_closing, gives_comma, gives_node, has_no_break, has_no_nul, has_open_level, Held, Holds, if◌then◌else◌, in_block, in_flow, increase_flow_level, Indent, is_blank, is_deeper, is_empty, is_in_column, is_renewed, is_required, is_separation, IsAdjacent, IsEntryOf, IsLine, IsPairOf, Key, least_for, length, level_of, Line, line_past, List, map, Mapping, nat_le, nat_lt, no_nul_after, no_pair, None, not, on_held, Option, other, outside_key, pair_end, past, past_blanks_and_comment, past_line_rest, pop, Position, position_after, position_in_line, Previous, previous_by, push, put, refl, refused, remove_implicit_key, roll_one_col_indent, ScannerState, seen, Site, site_here, site_in, Some, Step, subst, suc, sym, taken, Tok, Token, top_key, true, went, with_keys, with_top, Yes, ℕ, ◌&&◌, ◌++◌, ◌∙◌, ◌∷◌, ◌≡◌, ◌⊎◌, kind_of, length-map}
 use Rattle.proof_scanner.proofs.Cut.FlowEnds.{adjacent_collection, closed_tokens, ended_is, ended_now, ends_by_comma, ends_mapping, ends_sequence, entered, entry_is, entry_now, IsEndOf}
-use Rattle.proof_scanner.proofs.Sound.Steps.{adjacent_kept, ArrivesBy, begins_key, by_sides, deep_for, had_as_it_was, indicator_end, indicator_passed, is_clear, IsDeep, IsRead, IsToken, key_gone, keyless, keyless_tokens, keys_along, line_rest_cut, line_rest_fills, line_rest_in_line, line_taken, low_enough, many_around, next_of, node_read, numbered_then, past_it, past_rest_is_clear, past_step, quiet_before, Read, read_outside, reads_before_none, reads_in_line, same_has_break, saved_is, saved_keys, site_of, site_then, started_tokens, state_after, steps_in_flow, tokens_before, with_entries}
+use Rattle.proof_scanner.proofs.Sound.Steps.{exactly, held_exactly, Onward, adjacent_kept, ArrivesBy, begins_key, by_sides, deep_for, had_as_it_was, indicator_end, indicator_passed, is_clear, IsDeep, IsRead, IsToken, key_gone, keyless, keyless_tokens, keys_along, line_rest_cut, line_rest_fills, line_rest_in_line, line_taken, low_enough, many_around, next_of, node_read, numbered_then, past_it, past_rest_is_clear, past_step, quiet_before, Read, read_outside, reads_before_none, reads_in_line, same_has_break, saved_is, saved_keys, site_of, site_then, started_tokens, state_after, steps_in_flow, tokens_before, with_entries}
 use Rattle.model_scanner.specs.State.{after}
 use Rattle.model_scanner.specs.declared.level.FlowLevel.TheVariants.{Entry as InEntry}
 use Rattle.proof_scanner.proofs.Cut.Flows.{IsOpeningOf, opening_mapping, opening_sequence}
-use Rattle.proof_scanner.specs.StandsInRow.{kind_of}
-use Rattle.std.proofs.lemmas.List.{length-map}
 
 -- whether the innermost collection ends
 abbrev pub act_by : (closes : Bool) → Act
@@ -48,13 +46,13 @@ stray_past closes t tok more = record {
 }
 
 pub stray_at : (text more : List ℕ) (closes : Bool) (tok : Tok) (c : ℕ) → IsCloser closes tok c → (t : ScannerState) (a : ArrivesBy text t [] (None ∷ []) []) → with_top None t.held.keys ≡ None ∷ [] → t.rest ≡ c ∷ more → begins_with 35 more ≡ false →
-    Stands text (stray_past closes t tok more)
+    Onward text t.rest (stray_past closes t tok more)
 stray_at text more closes tok c k t a keys e hash =
     read_outside text t (stray_past closes t tok more) a (c ∷ []) more (blanks_and_comment more) tok (record { line = line_then closes; blocks = at.blocks }) at (ap (λ x. site_in false x t.held.position a.site) k.act ∙ (grind arith))
     (reads_in_line t (stray_past closes t tok more) _ (c ∷ []) more (blanks_and_comment more) refl e (line_rest_cut more) (line_rest_fills more) (line_rest_in_line more) (indicator_end t.held.position c more k.is_end.in_line) refl (is_previous closes k.previous)
     a.blocks_are (k.awaits false at.blocks at.awaits more ∙ a.awaits_is) a.are_levels (λ some. absurd (cc some)) (adjacent_kept t (stray_past closes t tok more) other (c ∷ []) more (blanks_and_comment more) refl (indicator_end t.held.position c more k.is_end.in_line) a.was_adjacent refl refl).1 (refl, refl))
     (record { line_is = allowed_by closes (begins_free_line (previous_by tok) (blanks_and_comment more)) (quiet_before (previous_by tok) t.held.position (blanks_and_comment more) [] (is_previous closes k.previous) (line_rest_in_line more)).1; no_key = grind arith; flow_is = refl; keys_are = keys }) (record {
-      is_piece = subst (λ p. IsPiece (seen (with_entries a.site a.line []) at a.separation) (c ∷ []) more None p tok) (sym (k.shown at (c ∷ []) more)) (k.is_end.piece (seen (with_entries a.site a.line []) at a.separation) more None refl);
+      is_piece = rw (k.shown at (c ∷ []) more) (k.is_end.piece (seen (with_entries a.site a.line []) at a.separation) more None refl);
       stands = rw (a.is_indented (ap is_empty e), k.lines (least_for tok at) (c ∷ []), k.precedes false at.blocks (c ∷ []) more, hash) refl;
       after_is = ap (λ x. line_past (is_in_column at.position.col at.blocks) at.position at.blocks x false a.line_here) k.act ∙ (grind arith);
       begun = k.begun;
@@ -169,13 +167,13 @@ module _ (text more : List ℕ) (closes : Bool) (tok : Tok) (c : ℕ) (i : IsClo
   numbered b = grind (arith, numbered_then a.tokens past_closer.held.tokens k ks own_tokens (sym tokens_are) a.are_numbered)
 
   -- What holds between two fetches holds after it.
-  pub closer_stands : Stands text past_closer
+  pub closer_stands : Onward text t.rest past_closer
   closer_stands =
       let q = quiet_before (previous_by tok) end gap left (is_previous closes i.previous) (line_rest_in_line more) in
       let far = adjacent_kept t (record past_closer { held = record past_closer.held { adjacent_value_at = t.held.adjacent_value_at } }) other (c ∷ []) more gap refl (indicator_end t.held.position c more i.is_end.in_line) a.was_adjacent refl refl in
       steps_in_flow text t past_closer f fs k ks e es a (c ∷ []) more tok (keys_by closes ks) (entries_after closes e es) (levels_then closes f fs) gap
       (reads_in_line t past_closer _ (c ∷ []) more gap refl cut (line_rest_cut more) (line_rest_fills more) (line_rest_in_line more) (indicator_end t.held.position c more i.is_end.in_line) refl (is_previous closes i.previous) a.blocks_are
-      (i.awaits true x.blocks x.awaits more ∙ a.awaits_is) a.are_levels (λ some. subst (λ b. IsAdjacent (before_past (before_by b) gap) end (adjacent_then closes fs t.held.adjacent_value_at end.index) left) (sym i.previous)
+      (i.awaits true x.blocks x.awaits more ∙ a.awaits_is) a.are_levels (λ some. rw i.previous
       (adjacent_after closes f fs t.held.adjacent_value_at end gap left far.0 (line_rest_fills more) (line_rest_in_line more) (clear_ends left (past_rest_is_clear more)) (no_nul_after gap left (subst (λ r. has_no_nul r ≡ true) (line_rest_cut more) (no_nul_after (c ∷ []) more (subst (λ r. has_no_nul r ≡ true) cut a.is_clean)))) some)) (grind arith) (refl, refl)) (
       assumption (
         many_then closes f fs ks (cc a.one_each),
@@ -185,7 +183,7 @@ module _ (text more : List ℕ) (closes : Bool) (tok : Tok) (c : ℕ) (i : IsClo
         numbered closes,
         ap (λ b. not (not b && true)) i.is_end.in_line,
       )) (record {
-        is_piece = subst (λ p. IsPiece (seen (with_entries a.site a.line (e ∷ es)) x a.separation) (c ∷ []) more None p tok) (sym (i.shown x (c ∷ []) more)) (i.is_end.piece (seen (with_entries a.site a.line (e ∷ es)) x a.separation) more None refl);
+        is_piece = rw (i.shown x (c ∷ []) more) (i.is_end.piece (seen (with_entries a.site a.line (e ∷ es)) x a.separation) more None refl);
         stands = rw (a.is_indented (ap is_empty cut), deep_for true tok x (i.least x) (low_enough text t f fs (k ∷ ks) (e ∷ es) a deep), i.lines (least_for tok x) (c ∷ []), i.precedes true x.blocks (c ∷ []) more, hash) refl;
         choice = λ cs. false;
         outer = choices_by closes;
@@ -201,41 +199,37 @@ module _ (text more : List ℕ) (closes : Bool) (tok : Tok) (c : ℕ) (i : IsClo
 -- ---- the functions of the model that read commas and closing brackets keep what holds where they begin
 
 -- the innermost key need not be one
-pub flow_over : (s : Held) → Holds (λ u. (is_required (top_key s.keys) ≡ false) × (u ≡ ended_now s.flow s)) (end_flow s)
+pub flow_over : (s : Held) → Holds (λ u. (u ≡ ended_now s.flow s) × (is_required (top_key s.keys) ≡ false)) (end_flow s)
 unfolding end_flow remove_implicit_key
 flow_over s = grind (arith, refused, went, ended_is s s.flow)
 
-pub entry_over : (s : Held) → Holds (λ u. (is_required (top_key s.keys) ≡ false) × (u ≡ entry_now s.flow s)) (end_entry s)
+pub entry_over : (s : Held) → Holds (λ u. (u ≡ entry_now s.flow s) × (is_required (top_key s.keys) ≡ false)) (end_entry s)
 unfolding end_entry remove_implicit_key
 entry_over s = grind (arith, refused, went, entry_is s s.flow)
 
 -- ---- a comma
 
 -- `,`
-pub comma_keeps : (text more : List ℕ) (t : ScannerState) → t.rest ≡ 44 ∷ more → IsDeep t.held → Arrives text t → Holds (Stands text) (fetch_flow_entry t)
+pub comma_keeps : (text more : List ℕ) (t : ScannerState) → t.rest ≡ 44 ∷ more → IsDeep t.held → Arrives text t → Holds (Onward text t.rest) (fetch_flow_entry t)
 unfolding fetch_flow_entry
 comma_keeps text more t e deep a =
-    chained {P = λ u. (is_required (top_key t.held.keys) ≡ false) × (u ≡ record t { held = entry_now t.held.flow t.held })} (tried t (end_entry t.held) (entry_over t.held) (λ h d. (d.0, ap (λ y. record t { held = y }) d.1))) (λ u d.
-    chained (indicator_passed u more (ap (λ y. after y.rest) d.1 ∙ ap after e)) (λ v w.
-    went (subst (λ y. Stands text (on_held (push t.held.position Tok.flow_entry) y)) (sym (w.0 ∙ ap (λ y. past_it y more) d.1))
-    (by_sides text t (λ u. is_required (top_key u.held.keys) ≡ false → Stands text (on_held (push u.held.position Tok.flow_entry) (past_it (record u { held = entry_now u.held.flow u.held }) more))) a
-    (λ k x n optional. stray_at text more false Tok.flow_entry 44 comma _ (key_gone text _ k x (ap is_empty e) (grind arith)) refl e w.1)
-    (λ f fs k ks y es x optional. closer_stands text more false Tok.flow_entry 44 comma _ f fs k ks y es x deep e w.1) d.0))))
+    exactly _ (held_exactly t (entry_over t.held)) (λ optional. exactly _ (indicator_passed _ more (ap after e)) (λ hash. went
+    (by_sides text t (λ u. is_required (top_key u.held.keys) ≡ false → Onward text u.rest (on_held (push u.held.position Tok.flow_entry) (past_it (record u { held = entry_now u.held.flow u.held }) more))) a
+    (λ k x n optional. stray_at text more false Tok.flow_entry 44 comma _ (key_gone text _ k x (ap is_empty e) (grind arith)) refl e hash)
+    (λ f fs k ks y es x optional. closer_stands text more false Tok.flow_entry 44 comma _ f fs k ks y es x deep e hash) optional)))
 
 -- ---- a closing bracket
 
 -- `]` or `}`
-pub closing_keeps : (text more : List ℕ) (kind : Collection) (c : ℕ) → IsCloser true (flow_end kind) c → (t : ScannerState) → t.rest ≡ c ∷ more → IsDeep t.held → Arrives text t → Holds (Stands text) (fetch_flow_collection_end kind t)
+pub closing_keeps : (text more : List ℕ) (kind : Collection) (c : ℕ) → IsCloser true (flow_end kind) c → (t : ScannerState) → t.rest ≡ c ∷ more → IsDeep t.held → Arrives text t → Holds (Onward text t.rest) (fetch_flow_collection_end kind t)
 unfolding fetch_flow_collection_end adjacent_in_flow
 closing_keeps text more kind c k t e deep a =
-    chained {P = λ u. (is_required (top_key t.held.keys) ≡ false) × (u ≡ record t { held = ended_now t.held.flow t.held })} (tried t (end_flow t.held) (flow_over t.held) (λ h d. (d.0, ap (λ y. record t { held = y }) d.1))) (λ u d.
-    chained (indicator_passed u more (ap (λ y. after y.rest) d.1 ∙ ap after e)) (λ v w.
-    went (subst (λ y. Stands text (on_held (λ s. push t.held.position (flow_end kind) (adjacent_in_flow s)) y)) (sym (w.0 ∙ ap (λ y. past_it y more) d.1))
-    (by_sides text t (λ u. is_required (top_key u.held.keys) ≡ false → Stands text (on_held (λ s. push u.held.position (flow_end kind) (adjacent_in_flow s)) (past_it (record u { held = ended_now u.held.flow u.held }) more))) a
-    (λ o x n optional. stray_at text more true (flow_end kind) c k _ (key_gone text _ o x (ap is_empty e) (grind arith)) refl e w.1)
+    exactly _ (held_exactly t (flow_over t.held)) (λ optional. exactly _ (indicator_passed _ more (ap after e)) (λ hash. went
+    (by_sides text t (λ u. is_required (top_key u.held.keys) ≡ false → Onward text u.rest (on_held (λ s. push u.held.position (flow_end kind) (adjacent_in_flow s)) (past_it (record u { held = ended_now u.held.flow u.held }) more))) a
+    (λ o x n optional. stray_at text more true (flow_end kind) c k _ (key_gone text _ o x (ap is_empty e) (grind arith)) refl e hash)
     (λ f fs o ks y es x optional.
     let now : ScannerState = past_it (record t { held = ended_now (f ∷ fs) (record t.held { flow = f ∷ fs; keys = o ∷ ks }) }) more in
-    subst (λ h. Stands text (record now { held = push t.held.position (flow_end kind) h })) (sym (grind arith)) (closer_stands text more true (flow_end kind) c k _ f fs o ks y es x deep e w.1)) d.0))))
+    subst (λ h. Onward text t.rest (record now { held = push t.held.position (flow_end kind) h })) (sym (grind arith)) (closer_stands text more true (flow_end kind) c k _ f fs o ks y es x deep e hash)) optional)))
 
 -- ---- opening brackets: what holds where they begin holds between two fetches after them
 
@@ -323,17 +317,14 @@ opener_is_read text more lv tok c o t u r e deep hash few fs ks es flow a =
 abbrev pub begun_now : FlowLevel → Held → List Indent → ℕ → Held
 begun_now lv s ds i = record s { keys = None ∷ saved_keys s; flow = lv ∷ s.flow; key_allowed = true; indents = ds; indent = i }
 
-flow_begun : (kind : Collection) (s : Held) (ds : List Indent) (i : ℕ) → roll_one_col_indent (with_key s) ≡ record (with_key s) { indents = ds; indent = i } → Holds (λ u. (nat_le 255 (length s.flow) ≡ false) × (u ≡ begun_now (flow_level kind) s ds i)) (begin_flow kind s)
+flow_begun : (kind : Collection) (s : Held) (ds : List Indent) (i : ℕ) → roll_one_col_indent (with_key s) ≡ record (with_key s) { indents = ds; indent = i } → Holds (λ u. (u ≡ begun_now (flow_level kind) s ds i) × (nat_le 255 (length s.flow) ≡ false)) (begin_flow kind s)
 unfolding begin_flow increase_flow_level
 flow_begun kind s ds i rolled = grind (arith, saved_is, refused, went)
 
 -- `[` or `{`
-pub opening_keeps : (text more : List ℕ) (kind : Collection) (c : ℕ) → IsOpener (flow_level kind) (flow_start kind) c → (t : ScannerState) → t.rest ≡ c ∷ more → IsDeep t.held → Arrives text t → Holds (Stands text) (fetch_flow_collection_start kind t)
+pub opening_keeps : (text more : List ℕ) (kind : Collection) (c : ℕ) → IsOpener (flow_level kind) (flow_start kind) c → (t : ScannerState) → t.rest ≡ c ∷ more → IsDeep t.held → Arrives text t → Holds (Onward text t.rest) (fetch_flow_collection_start kind t)
 unfolding fetch_flow_collection_start
 opening_keeps text more kind c o t e deep a =
     let r : OpensLevel (with_key t.held) (roll_one_col_indent (with_key t.held)) = opens_level (with_key t.held) a.are_levels in
-    chained {P = λ u. (nat_le 255 (length t.held.flow) ≡ false) × (u ≡ record t { held = begun_now (flow_level kind) t.held r.indents r.indent })}
-    (tried t (begin_flow kind t.held) (flow_begun kind t.held r.indents r.indent r.is_held) (λ h d. (d.0, ap (λ y. record t { held = y }) d.1))) (λ u d.
-    chained (indicator_passed u more (ap (λ y. after y.rest) d.1 ∙ ap after e)) (λ v w.
-    went (subst (λ y. Stands text (on_held (push t.held.position (flow_start kind)) y)) (sym (w.0 ∙ ap (λ y. past_it y more) d.1))
-    (node_read text t (Some (flow_level kind)) (opener_read t (flow_start kind) c more r.indents r.indent) deep a (opener_is_read text more (flow_level kind) (flow_start kind) c o t _ r e deep w.1 d.0)))))
+    exactly _ (held_exactly t (flow_begun kind t.held r.indents r.indent r.is_held)) (λ few. exactly _ (indicator_passed _ more (ap after e)) (λ hash. went
+    (node_read text t (Some (flow_level kind)) (opener_read t (flow_start kind) c more r.indents r.indent) deep a (opener_is_read text more (flow_level kind) (flow_start kind) c o t _ r e deep hash few))))

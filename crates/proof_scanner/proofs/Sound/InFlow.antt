@@ -1,8 +1,8 @@
 -- A piece in flow was read: if the definition and the scanner agree on its entries and tokens, what holds where it begins holds between two fetches after it.
-use Rattle.proof_scanner.proofs.Common.{[], Account, account_past, act_of, ap, AreEntries, AreNumbered, arith, begins_free_line, BeginsButForKey, begun_by, begun_inside, Bool, chosen, Colon, colon_of, columns, entries_by, entries_past, Entry, entry_by, false, FlowLevel, had_by, has_break, HasHadHere, is_empty, is_renewed, is_separation, is_waiting, IsEntryOf, IsLine, IsOpenOutside, IsPiece, Key, key_end, KnowsKey, least_column, length, length-append, Line, line_by, line_past_separation, List, may_stand, MayChoose, nat_le, None, not, NotBefore, Option, outside_key, pair_position, pop, Position, position_after, previous_by, put, refl, ScannerState, seen, shown_position, Site, site_here, site_past, SoFar, Some, spelled, Stands, Step, subst, suc, sym, takes_pair, Tok, Token, tokens_at, tokens_of_step, tokens_up_to, true, with_had, with_keys, ℕ, ◌&&◌, ◌++◌, ◌∙◌, ◌∷◌, ◌≡◌, ◌≤◌}
+use Rattle.proof_scanner.proofs.Common.{[], Account, account_past, act_of, ap, AreEntries, AreNumbered, arith, begins_free_line, begun_by, begun_inside, Bool, chosen, Colon, colon_of, columns, entries_by, entries_past, Entry, entry_by, false, FlowLevel, had_by, has_break, HasHadHere, is_empty, is_renewed, is_waiting, IsEntryOf, IsLine, IsPiece, Key, key_end, least_column, length, length-append, Line, line_by, line_past_separation, List, may_stand, MayChoose, nat_le, None, not, NotBefore, Option, outside_key, pair_position, pop, Position, position_after, previous_by, put, refl, ScannerState, seen, shown_position, Site, site_here, site_past, Some, spelled, Step, suc, sym, takes_pair, Tok, Token, tokens_at, tokens_of_step, tokens_up_to, true, with_had, with_keys, ℕ, ◌&&◌, ◌++◌, ◌∙◌, ◌∷◌, ◌≡◌, ◌≤◌}
 use Rattle.proof_scanner.proofs.Sound.Common.{among, ArrivesBy, but_for_key_past, completes_at, first_among, goes_past, had_as_it_was, IsDeep, keys_along, keys_first, line_taken, may_around, not_before_after, not_before_then, numbered_around, numbered_more, one_around, open_around, past_step, same_levels, some_rest, unbroken, unbroken_around, with_entries}
 use Rattle.proof_scanner.proofs.Known.Steps.{keyless, knows_inside}
-use Rattle.proof_scanner.proofs.Sound.Reads.{Reads, stands_so}
+use Rattle.proof_scanner.proofs.Sound.Reads.{Onward, Reads, stands_so}
 
 module _ (text : List ℕ) (t u : ScannerState) (f : FlowLevel) (fs : List FlowLevel) (k : Option Key) (ks : List (Option Key)) (e : Entry) (es : List Entry) (a : ArrivesBy text t (f ∷ fs) (k ∷ ks) (e ∷ es)) (piece next : List ℕ) (tok : Tok) (ls : List (Option Key)) (es2 : List Entry) where
   -- the sites at the piece and after it, and the account after it in which no open key is one
@@ -46,33 +46,32 @@ module _ (text : List ℕ) (t u : ScannerState) (f : FlowLevel) (fs : List FlowL
   abbrev piece_here : Position
   piece_here = position_after a.site.position a.separation (piece ++ next)
 
-  steps_there : (gs : List FlowLevel) (gap : List ℕ) → Reads t u (flow_past t.held.position) piece next gap → Enters gs gap → Steps piece_here → t.held.position ≡ piece_here → Stands text u
+  steps_there : (gs : List FlowLevel) (gap : List ℕ) → Reads t u (flow_past t.held.position) piece next gap → Enters gs gap → Steps piece_here → t.held.position ≡ piece_here → Onward text t.rest u
   steps_there gs gap r g n place = stands_so text t u piece next gap gs ls (account_then t.held.position) a.is_clean a.started a.going r (record {
     flow_is = g.flow_is;
     keys_are = g.keys_are;
     one_each = g.one_each;
     are_entries = g.are_entries;
     line_is = g.line_is;
-    is_open = subst (λ y. IsOpenOutside y (flow_past t.held.position).position u.held.position u.rest a.site.blocks) (sym g.same_key)
+    is_open = rw g.same_key
         (open_around text t f fs k ks e es a some u.held.position u.rest later (flow_past t.held.position).position (not_before_after t.held.position piece next));
     no_key = a.no_key;
     are_numbered = g.are_numbered;
-    carries = λ cs key own must inside more. subst (λ l. BeginsButForKey text l key.position (chosen false cs ls (account_then t.held.position))) r.is_rest
-        (subst (λ p. BeginsButForKey text next key.position (chosen false cs ls (account_then p))) (sym place)
+    carries = λ cs key own must inside more. rw (sym r.is_rest)
+        (rw place
         (but_for_key_past text (a.separation ++ (piece ++ next)) key.position (before false cs) (chosen false cs ls (account_then piece_here)) (flow_step (n.bit cs)) next refl (grind (arith, same_levels))
         (account false cs (grind arith) (grind arith))
-        (subst (λ x. BeginsButForKey text (a.separation ++ x) key.position (chosen false (n.choice cs ∷ n.outer cs) (k ∷ ks) (with_entries a.site a.line (e ∷ es)))) r.cut (a.carries (n.choice cs ∷ n.outer cs) key (sym g.same_key ∙ own) must refl some))));
-    knows = subst (λ y. KnowsKey text (gap ++ u.rest) u.held.position y) (sym g.same_key) (knows_inside text t piece next tok r.cut u.held.position gap u.rest r.position_is r.is_rest f fs k ks e es a ((subst (λ l. is_separation false a.separation l ≡ true) r.cut a.is_filled), (ap not r.is_solid, n.is_piece)));
+        (rw (sym r.cut) (a.carries (n.choice cs ∷ n.outer cs) key (sym g.same_key ∙ own) must refl some))));
+    knows = rw g.same_key (knows_inside text t piece next tok r.cut u.held.position gap u.rest r.position_is r.is_rest f fs k ks e es a ((rw (sym r.cut) a.is_filled), (ap not r.is_solid, n.is_piece)));
     completes = λ strict c cs may.
-        let was : MayChoose strict c (outside_key es ks) u.held.position u.rest = subst (λ y. MayChoose strict c y u.held.position u.rest) g.same_key may in
-        subst (λ l. SoFar strict text l (chosen c cs ls (account_then t.held.position)) (tokens_up_to (chosen c cs ls (account_then t.held.position)) ls u.held.tokens)) r.is_rest
-        (subst (λ p. SoFar strict text next (chosen c cs ls (account_then p)) (tokens_up_to (chosen c cs ls (account_then p)) ls u.held.tokens)) (sym place)
+        let was : MayChoose strict c (outside_key es ks) u.held.position u.rest = rw (sym g.same_key) may in
+        rw (sym r.is_rest) (rw place
         (goes_past strict text (a.separation ++ (piece ++ next)) (before c cs) (chosen c cs ls (account_then piece_here)) (tokens_up_to (before c cs) (k ∷ ks) a.tokens) (tokens_up_to (chosen c cs ls (account_then piece_here)) ls u.held.tokens)
         (flow_step (n.bit cs)) next refl (grind (arith, same_levels))
         (account c cs (unbroken_around text t f fs k ks e es a some u.held.position u.rest later strict c was) (one_around text t f fs k ks e es a some u.held.position u.rest later piece g.in_line strict c was))
         (λ _ i. ap (λ y. is_waiting (line_by c y a.line)) g.same_key ∙ i) (tokens c cs)
         (completes_at text t (f ∷ fs) (k ∷ ks) (e ∷ es) a (piece ++ next) piece_here r.cut place strict c (n.choice cs ∷ n.outer cs)
-        (subst (λ p. MayChoose strict c (outside_key es ks) p (piece ++ next)) place (subst (λ l. MayChoose strict c (outside_key es ks) t.held.position l) r.cut (may_around text t f fs k ks e es a some u.held.position u.rest later strict c was))))));
+        (rw (sym place) (rw (sym r.cut) (may_around text t f fs k ks e es a some u.held.position u.rest later strict c was))))));
   })
     where
       some : is_empty t.rest ≡ false
@@ -93,7 +92,7 @@ module _ (text : List ℕ) (t u : ScannerState) (f : FlowLevel) (fs : List FlowL
       tokens c cs ws last h = grind arith
 
   -- What holds where the piece begins holds between two fetches after it.
-  pub steps_in_flow : (gs : List FlowLevel) (gap : List ℕ) → Reads t u (flow_past t.held.position) piece next gap → Enters gs gap → Steps t.held.position → Stands text u
+  pub steps_in_flow : (gs : List FlowLevel) (gap : List ℕ) → Reads t u (flow_past t.held.position) piece next gap → Enters gs gap → Steps t.held.position → Onward text t.rest u
   steps_in_flow gs gap r g n = grind (arith, steps_there)
 
 -- ---- a piece in flow with which its entry goes on, and before and after which no key of the entry waits: `?`, a colon without a key, and a line for the document. What holds where it begins holds between two fetches after it
@@ -157,7 +156,7 @@ module _ (text : List ℕ) (t u : ScannerState) (f g : FlowLevel) (fs : List Flo
     pub colons : (n : ℕ) (p : Position) (ws : List Step) (last : List ℕ) → let w : Step = keyless a.separation piece tok in colon_of (suc n) p (w ∷ ws) last ≡ colon_of (suc n) (past_step p w ws last) ws last
     pub tokens_are : u.held.tokens ≡ a.tokens ++ tokens_inside at_piece piece tok next e
 
-  pub goes_inside : (gap : List ℕ) → Reads t u (flow_past text t u f fs k ks e es a piece next tok (None ∷ ks) (e2 ∷ es) t.held.position) piece next gap → GoesInside gap → Stands text u
+  pub goes_inside : (gap : List ℕ) → Reads t u (flow_past text t u f fs k ks e es a piece next tok (None ∷ ks) (e2 ∷ es) t.held.position) piece next gap → GoesInside gap → Onward text t.rest u
   goes_inside gap r n =
       steps_in_flow text t u f fs k ks e es a piece next tok (None ∷ ks) (e2 ∷ es) (g ∷ fs) gap r (assumption (n, a, line_taken text t f fs k ks e es a, numbered_then a.tokens u.held.tokens k ks (tokens_inside at_piece piece tok next e) n.tokens_are a.are_numbered)) (record {
         is_piece = n.is_piece;

@@ -1,5 +1,5 @@
 -- A step outside flow: if the definition and the scanner agree on what may begin after it and on its tokens, whatever completes the row after it completes it from before.
-use Rattle.proof_scanner.proofs.Common.{Account, Bool, IsCutUpTo, IsPiece, IsWritten, Line, List, None, Outside, Site, SoFar, Some, Step, Tok, Token, [], act_of, ap, arith, begins_free_line, begun_by, begun_outside, cut_past_no_key, ends_at, false, has_break, is_deeper, is_empty, is_in_column, is_separation, is_waiting, line_past, line_past_separation, may_stand, not, past_by, past_outside, past_site, put, refl, seen, shown_position, site_at, site_past, spelled, subst, sym, tokens_of_step, true, ℕ, ◌&&◌, ◌++◌, ◌∙◌, ◌∷◌, ◌≡◌}
+use Rattle.proof_scanner.proofs.Common.{Account, Bool, IsPiece, IsWritten, Line, List, None, Outside, Site, SoFar, Some, Step, Tok, Token, [], act_of, ap, arith, begins_free_line, begun_by, begun_outside, cut_past_no_key, ends_at, false, has_break, is_deeper, is_empty, is_in_column, is_separation, is_waiting, line_past, line_past_separation, may_stand, not, past_by, past_outside, past_site, put, refl, seen, shown_position, site_at, site_past, spelled, subst, sym, tokens_of_step, true, ℕ, ◌&&◌, ◌++◌, ◌∙◌, ◌∷◌, ◌≡◌}
 use Rattle.proof_scanner.proofs.Sound.Completed.{completed_past}
 
 -- an account outside flow
@@ -43,7 +43,7 @@ module _ (text : List ℕ) (s : Site) (separation piece next : List ℕ) (tok : 
       completed_past text (separation ++ (piece ++ next)) (Outer s l) (outer_then after) before past (outer_step bit) next refl (is_written true bit l m after n) (ap (λ y. past_site false s y (outer_step bit) next l []) same ∙ rw (n.stands, n.line_is, n.after_is, n.in_line) refl) tokens h
   outer_completes false bit l m after before past n tokens h = (
     n.idle refl,
-    λ ws last e. subst (λ ts. IsCutUpTo text next (outer_then after) ts) (tokens ws last e)
+    λ ws last e. rw (sym (tokens ws last e))
         (cut_past_no_key false text (separation ++ (piece ++ next)) (Outer s l) (outer_then after) (before (outer_step bit ∷ ws) last) (outer_step bit) ws last next refl e refl (is_written false bit l m after n)
         (ap (λ y. past_by false y piece tok next bit (line_past_separation false (begins_free_line s.before separation) l)) same ∙ (ap (λ o. past_by false x piece tok next bit o) n.line_is ∙ ap (λ o. past_outside x piece tok next o) n.after_is)) h.0 (n.idle refl)
         (h.1 (outer_step bit ∷ ws) last (ap (λ y. separation ++ (piece ++ y)) e))),

@@ -29,7 +29,7 @@ module _ (text : List ℕ) (t : ScannerState) (k : Option Key) (a : ArrivesBy te
   open_of x e = subst (λ y. IsOpenOutside y a.site.position t.held.position t.rest a.site.blocks) e a.is_open
 
   open_before : (x : Key) → k ≡ Some x → NotBefore x.position t.held.position
-  open_before x e = not_before_then x.position a.site.position t.held.position (weaker x.position a.site.position (open_of x e).0) (subst (λ x. NotBefore a.site.position x) (sym a.position_is) (not_before_after a.site.position a.separation t.rest))
+  open_before x e = not_before_then x.position a.site.position t.held.position (weaker x.position a.site.position (open_of x e).0) (rw a.position_is (not_before_after a.site.position a.separation t.rest))
 
   -- a key must begin here just in the column of the innermost collection
   pub must_be_here : must_be_key t.held ≡ is_in_column t.held.position.col here.blocks

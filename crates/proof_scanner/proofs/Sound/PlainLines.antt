@@ -1,12 +1,10 @@
 -- The scan of a plain scalar refuses TABs that indent its further lines, and in flow a dash before a flow indicator.
-use Rattle.proof_scanner.proofs.Common.{Bool, Context, Err, Fault, List, Ok, Plain, PlainState, Position, Read, Result, Stop, Turn, [], after_first, and_false, and_parts, and_then, ap, append_assoc, append_cancel_right, arith, at_char, at_dash, begins_flow, begins_solid, ended, eqb-true, fail, false, first, has_break, has_dash_before_flow, has_tab_within, if◌then◌else◌, inl, inr, is_at_comment_or_end, is_before_line_feed, is_blanks, is_cr_lf, is_gap, joined, last_line, leading, lines_have_no_tab, nat_lt, nat_tests, not, not-true, nothing, on, or_true, plain_from, plain_lines_fit, put_first, refl, run, same_blank, same_break, split, starts, stop, subst, suc, sym, tabs, true, turn, turn_in, turned, ℕ, ◌&&◌, ◌++◌, ◌-◌, ◌==◌, ◌||◌, ◌∙◌, ◌∷◌, ◌≡◌, ◌≤◌, ◌⊎◌}
+use Rattle.proof_scanner.proofs.Common.{Bool, Context, Err, Fault, List, Ok, Plain, PlainState, Position, Read, Result, Stop, Turn, [], after_first, and_false, and_parts, and_then, ap, append_assoc, append_cancel_right, arith, at_char, at_dash, begins_flow, begins_solid, ended, eqb-true, fail, false, first, has_break, has_dash_before_flow, has_tab_within, if◌then◌else◌, inl, inr, is_at_comment_or_end, is_before_line_feed, is_blanks, is_cr_lf, is_gap, joined, last_line, leading, lines_have_no_tab, nat_lt, nat_tests, not, not-true, nothing, on, or_true, plain_from, plain_lines_fit, put_first, refl, run, same_blank, same_break, split, starts, stop, suc, sym, tabs, true, turn, turn_in, turned, ℕ, ◌&&◌, ◌++◌, ◌-◌, ◌==◌, ◌||◌, ◌∙◌, ◌∷◌, ◌≡◌, ◌≤◌, ◌⊎◌, break_leads}
 use Rattle.defs_text.specs.Classes as classes
 use Rattle.yaml_chars.specs.Class.{is_break, is_blank}
 use Rattle.yaml_chars.specs.Class as model_classes
 use Rattle.model_scanner.specs.Plain.{Mode, inside, between, goes_on, plain}
-use Rattle.proof_scanner.proofs.Sound.Common.{blank_more, last_first, last_whole, none_before, take_none}
-use Rattle.proof_scanner.proofs.Cut.Pieces.Plains.{same_flow_start}
-use Rattle.model_scanner.proofs.PlainLemmas.{break_leads}
+use Rattle.proof_scanner.proofs.Sound.Steps.{blank_more, last_first, last_whole, none_before, same_flow_start, take_none}
 
 -- ---- what a text says of TABs, character by character
 
@@ -121,8 +119,8 @@ record Passed (column : ℕ) (flow : Bool) (x : Spot) (apart : Bool) (text rest 
 
 -- in the middle of CR LF a line begins too
 relocated : (column : ℕ) (t : PlainState) (y : Spot) (a passed rest : List ℕ) → IsAt t y a → a ≡ passed ++ rest → tabs_fit column (spot_of t.mode t.folded.leading t.position.col) passed rest ≡ true → tabs_fit column y passed rest ≡ true
-relocated column t y a passed rest (inl e) cut h = subst (λ z. tabs_fit column z passed rest ≡ true) e h
-relocated column t y a [] rest (inr b) cut h = subst (λ z. may_stop z rest ≡ true) (sym b.0) refl
+relocated column t y a passed rest (inl e) cut h = rw (sym e) h
+relocated column t y a [] rest (inr b) cut h = rw b.0 refl
 relocated column t y a (d ∷ p) rest (inr b) cut h = grind (arith, and_parts)
 
 module _ (ctx : Context) (start : Position) where
@@ -139,8 +137,8 @@ module _ (ctx : Context) (start : Position) where
     cut = ap (λ r. c ∷ r) p.cut;
     tabs_are = rw go (relocated ctx.indent t (past_spot ctx.indent x c) a p.passed rest here p.cut p.tabs_are);
     dashes_are =
-        let none : (ctx.flow && apart && (c == 45) && begins_flow (p.passed ++ rest)) ≡ false = subst (λ r. (ctx.flow && apart && (c == 45) && begins_flow r) ≡ false) p.cut dash in
-        rw none (subst (λ b. dashes_fit ctx.flow b p.passed rest ≡ true) after p.dashes_are);
+        let none : (ctx.flow && apart && (c == 45) && begins_flow (p.passed ++ rest)) ≡ false = rw (sym p.cut) dash in
+        rw none (rw (sym after) p.dashes_are);
   }
 
   went : (a : List ℕ) (s : PlainState) → IsCalm s.mode s.folded.leading → (t : Stop PlainState) → run (turn ctx start) a s ≡ Ok t → PassedFrom s a t.rest
@@ -257,8 +255,8 @@ starts_deep ctx a p h f = grind (arith, at)
 of_passed : (ctx : Context) (p : Position) (text piece gap rest : List ℕ) → text ≡ piece ++ (gap ++ rest) → (ctx.flow ≡ true → ctx.indent ≤ p.col) → Passed ctx.indent ctx.flow in_text false text rest → PlainFits ctx p piece gap rest
 of_passed ctx p text piece gap rest cut deep w =
     let same : w.passed ≡ piece ++ gap = append_cancel_right w.passed (piece ++ gap) rest (sym w.cut ∙ (cut ∙ sym (append_assoc piece gap rest))) in
-    let tabs : tabs_fit ctx.indent in_text (piece ++ gap) rest ≡ true = subst (λ x. tabs_fit ctx.indent in_text x rest ≡ true) same w.tabs_are in
-    let dashes : dashes_fit ctx.flow false (piece ++ gap) rest ≡ true = subst (λ x. dashes_fit ctx.flow false x rest ≡ true) same w.dashes_are in
+    let tabs : tabs_fit ctx.indent in_text (piece ++ gap) rest ≡ true = rw (sym same) w.tabs_are in
+    let dashes : dashes_fit ctx.flow false (piece ++ gap) rest ≡ true = rw (sym same) w.dashes_are in
     let after : (y : Spot) × (tabs_fit ctx.indent y gap rest ≡ true) = gap_spot ctx.indent in_text piece gap rest tabs in
     record {
       deep = deep;
@@ -278,7 +276,7 @@ plain_fits ctx p (c ∷ a) piece gap r begins cut e = by (starts ctx (c ∷ a) p
     ran : (x : Result (Stop PlainState) Fault) → run (turn ctx p) (c ∷ a) (record { mode = first; position = p; folded = nothing }) ≡ x → ended x ≡ Ok r → Passed ctx.indent ctx.flow in_text false (c ∷ a) r.rest
     ran (Ok t) f h =
         let same : record { rest = t.rest; position = t.state.position; value = record { text = t.state.folded.text; leading = t.state.folded.leading } } ≡ r = cc in
-        subst (λ (q : Read Plain). Passed ctx.indent ctx.flow in_text false (c ∷ a) q.rest) same (let s : PlainState = at_char c p (joined nothing) in one_more ctx p c a t.rest in_text false s refl (inl (sym (no_spot ctx p c a solid.0 solid.1 in_text refl))) (grind arith) (rw (solid.0, solid.1) refl) (went ctx p a s refl t f))
+        rw (sym same) (let s : PlainState = at_char c p (joined nothing) in one_more ctx p c a t.rest in_text false s refl (inl (sym (no_spot ctx p c a solid.0 solid.1 in_text refl))) (grind arith) (rw (solid.0, solid.1) refl) (went ctx p a s refl t f))
     ran (Err g) f h = absurd (cc h)
 
     by : (x : Result (Unit {0}) Fault) → starts ctx (c ∷ a) p ≡ x → and_then x (λ _. plain_from ctx p (c ∷ a) (record { mode = first; position = p; folded = nothing })) ≡ Ok r → PlainFits ctx p piece gap r.rest

@@ -1,7 +1,7 @@
 -- Anchors, aliases and tags: what holds between two fetches holds after them.
-use Rattle.proof_scanner.proofs.Common.{Arrives, Entry, FlowLevel, Holds, Key, List, NameKind, None, Option, Position, ScannerState, Site, Stands, Tok, [], allow_key, anchor_name, anchor_token, another, ap, arith, begins_free_line, false, fetch_anchor, fetch_tag, gives_node, in_flow, is_empty, is_renewed, least_for, mark_of, node_start, not, on_held, previous_by, push, read, refl, seen, shown_position, subst, sym, true, unled, went, ℕ, ◌∙◌, ◌∷◌, ◌≡◌}
+use Rattle.proof_scanner.proofs.Common.{Arrives, Entry, FlowLevel, Holds, Key, List, NameKind, None, Option, Position, ScannerState, Site, Tok, [], anchor_name, anchor_token, another, ap, arith, begins_free_line, false, fetch_anchor, fetch_tag, gives_node, in_flow, is_empty, is_renewed, least_for, mark_of, node_start, not, on_held, previous_by, push, read, refl, seen, shown_position, sym, true, unled, went, ℕ, ◌∙◌, ◌∷◌, ◌≡◌}
 use Rattle.model_scanner.specs.Tag as tags
-use Rattle.proof_scanner.proofs.Sound.Steps.{IsToken, allowed_past, ArrivesBy, awaits_kept, deep_for, IsDeep, IsRead, node_read, Read, reads_before_none, same_flow, saved_is, site_of, site_then, state_after, with_entries}
+use Rattle.proof_scanner.proofs.Sound.Steps.{Onward, IsToken, allowed_past, ArrivesBy, awaits_kept, deep_for, IsDeep, IsRead, node_read, Read, reads_before_none, same_flow, saved_is, site_of, site_then, state_after, with_entries}
 use Rattle.proof_scanner.proofs.Cut.Pieces.Names.{IsProperty, name_property}
 use Rattle.proof_scanner.proofs.Cut.Pieces.Tags.{tag_property}
 
@@ -24,27 +24,26 @@ property_is_read text t tok rest end r k deep fs ks es flow a =
     let reads = reads_before_none t (state_after t None (property_read t tok rest end r)) (site_then t fs a.site (property_read t tok rest end r)) (r.first ∷ r.more) rest [] refl r.cut refl refl refl refl r.end_is refl k.previous
     a.blocks_are (k.awaits (not (is_empty fs)) x.blocks x.awaits rest ∙ a.awaits_is) a.are_levels a.was_adjacent (refl, refl, refl) in
     let piece_is = r.is_piece (seen (with_entries a.site a.line es) x a.separation) None refl (ap not ((grind arith) ∙ sym (same_flow t.held.key_allowed (is_renewed a.site.before a.separation) fs ks es a.are_entries) ∙ sym (ap is_empty flow))) in
-    let allowed : false ≡ allowed_past None (not (is_empty fs)) (previous_by tok) [] = subst (λ b. false ≡ allowed_past None (not (is_empty fs)) b []) (sym k.previous) (grind arith) in
-    let quiet : begins_free_line (previous_by tok) [] ≡ false = subst (λ b. begins_free_line b [] ≡ false) (sym k.previous) refl in
+    let allowed : false ≡ allowed_past None (not (is_empty fs)) (previous_by tok) [] = rw k.previous (grind arith) in
+    let quiet : begins_free_line (previous_by tok) [] ≡ false = rw k.previous refl in
     let shown : (y : Site) → shown_position y (r.first ∷ r.more) tok rest ≡ y.position = λ y. k.shown y (r.first ∷ r.more) rest in
     assumption (reads, k.act, k.begun, shown, piece_is, deep_for (not (is_empty fs)) tok x (k.least x) (rw (a.blocks_are, a.awaits_is) (grind arith)), k.lines (least_for tok x) (r.first ∷ r.more), k.precedes (not (is_empty fs)) x.blocks (r.first ∷ r.more) rest, allowed, ap not r.in_line, quiet)
 
 -- After a property or an alias what holds between fetches holds.
 property_stands : (text : List ℕ) (t : ScannerState) (tok : Tok) (rest : List ℕ) (end : Position) → IsProperty (in_flow t.held) tok t.held.position t.rest rest end → IsPropertyToken tok → IsDeep t.held → Arrives text t →
-    Stands text (on_held (λ s. push t.held.position tok (unled s)) (record { rest = rest; held = record (node_start t.held) { position = end } }))
+    Onward text t.rest (on_held (λ s. push t.held.position tok (unled s)) (record { rest = rest; held = record (node_start t.held) { position = end } }))
 property_stands text t tok rest end r k deep a =
-    subst (λ h. Stands text (on_held (λ s. push t.held.position tok (unled s)) (record { rest = rest; held = record (allow_key false h) { position = end } }))) (sym (saved_is t.held))
-    (node_read text t None (property_read t tok rest end r) deep a (property_is_read text t tok rest end r k deep))
+    rw (saved_is t.held) (node_read text t None (property_read t tok rest end r) deep a (property_is_read text t tok rest end r k deep))
 
 -- ---- anchors, aliases and tags
 
 -- `*name` or `&name`
-pub anchor_keeps : (text : List ℕ) (kind : NameKind) (t : ScannerState) (more : List ℕ) → t.rest ≡ mark_of kind ∷ more → IsDeep t.held → Arrives text t → Holds (Stands text) (fetch_anchor kind t)
+pub anchor_keeps : (text : List ℕ) (kind : NameKind) (t : ScannerState) (more : List ℕ) → t.rest ≡ mark_of kind ∷ more → IsDeep t.held → Arrives text t → Holds (Onward text t.rest) (fetch_anchor kind t)
 unfolding fetch_anchor
 anchor_keeps text kind t more e deep a = read (node_start t.held) (anchor_name t.rest t.held.position) _ (λ x k. went (property_stands text t (anchor_token kind x.value) x.rest x.position (name_property (in_flow t.held) kind t.held.position t.rest more e x k) (grind arith) deep a))
 
 -- `!`
-pub tag_keeps : (text : List ℕ) (t : ScannerState) (more : List ℕ) → t.rest ≡ 33 ∷ more → IsDeep t.held → Arrives text t → Holds (Stands text) (fetch_tag t)
+pub tag_keeps : (text : List ℕ) (t : ScannerState) (more : List ℕ) → t.rest ≡ 33 ∷ more → IsDeep t.held → Arrives text t → Holds (Onward text t.rest) (fetch_tag t)
 unfolding fetch_tag
 tag_keeps text t more e deep a = read (node_start t.held) (tags.tag (in_flow t.held) t.rest t.held.position) _ (λ x k.
     went (property_stands text t (Tok.tag x.value.handle x.value.suffix) x.rest x.position (tag_property (in_flow t.held) t.held.position t.rest more e x k) (record { act = refl; begun = refl; shown = λ s piece next. refl; previous = refl; least = λ s. refl; lines = λ c p. refl; precedes = λ f bs p n. refl; awaits = awaits_kept _ (λ b. refl) (λ bs b n. refl) }) deep a))

@@ -1,5 +1,5 @@
 -- What the scanner checks after a quoted scalar: the line holds no more, or goes on as it may.
-use Rattle.proof_scanner.proofs.Common.{Bool, Err, Fault, Holds, List, Ok, Position, Result, ScannerState, SkipTabs, Yes, [], after, and_parts, ap, append_assoc, arith, begins_with, both_hold, chained, check_after_quoted, either, eqb-true, false, goes_on_quoted, has_break, has_no_nul, in_flow, is_at_line_end, is_blank, is_blanks, is_blanks_and_comment, is_break, is_breakz, is_nul, is_on_line, is_separation, leading, line_is_done, may_follow_quoted, no_nul_after, not, or_right, peek, position_after, position_past, quoted_may_end, refl, refused, skip_spaces, space, subst, sym, true, went, ℕ, ◌&&◌, ◌++◌, ◌<◌, ◌==◌, ◌||◌, ◌∙◌, ◌∷◌, ◌≡◌, ◌≤◌, nat_tests}
+use Rattle.proof_scanner.proofs.Common.{Bool, Err, Fault, Holds, List, Ok, Position, Result, ScannerState, SkipTabs, Yes, [], after, and_parts, ap, append_assoc, arith, begins_with, both_hold, chained, check_after_quoted, either, eqb-true, false, goes_on_quoted, has_break, has_no_nul, in_flow, is_at_line_end, is_blank, is_blanks, is_blanks_and_comment, is_break, is_breakz, is_nul, is_on_line, is_separation, leading, line_is_done, may_follow_quoted, no_nul_after, not, or_right, peek, position_after, position_past, quoted_may_end, refl, refused, skip_spaces, space, sym, true, went, ℕ, ◌&&◌, ◌++◌, ◌<◌, ◌==◌, ◌||◌, ◌∙◌, ◌∷◌, ◌≡◌, ◌≤◌, nat_tests}
 use Rattle.yaml_chars.specs.Class as model_classes
 use Rattle.proof_lexers.specs.PlainEnds as plains
 use Rattle.proof_scanner.proofs.Cut.Passes.{Spaced, spaces_skipped}
@@ -111,9 +111,9 @@ checks p piece t u in_line none is s no_hash follows =
     let same_flow : in_flow u.held ≡ in_flow t.held = ap in_flow s.is_held in
     record {
       spaces = s;
-      may_end = subst (λ r. quoted_may_end (in_flow t.held) piece r ≡ true) (sym cut)
-          (may_end_by (in_flow t.held) p piece g u.rest u.held.position in_line (no_nul_after g u.rest (subst (λ r. has_no_nul r ≡ true) cut none)) s.is_filled s.no_break (subst (λ r. begins_with 35 r ≡ false) cut no_hash)
-          here (subst (λ b. may_follow_quoted b (p.line == u.held.position.line) (peek u.rest) ≡ true) same_flow follows));
+      may_end = rw cut
+          (may_end_by (in_flow t.held) p piece g u.rest u.held.position in_line (no_nul_after g u.rest (rw (sym cut) none)) s.is_filled s.no_break (rw (sym cut) no_hash)
+          here (rw (sym same_flow) follows));
     }
 
 pub quoted_checked : (p : Position) (piece : List ℕ) (t : ScannerState) → ends_in_line piece ≡ true → has_no_nul t.rest ≡ true → t.held.position ≡ position_after p piece t.rest → Holds (Checked piece t) (check_after_quoted p.line t)

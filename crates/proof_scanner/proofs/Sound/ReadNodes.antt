@@ -1,11 +1,10 @@
 -- A part of a node was read where a piece begins, be it an opening bracket or no collection: what holds between two fetches holds after it.
-use Rattle.proof_scanner.proofs.Common.{Account, AreEntries, Arrives, Bool, Entry, FlowLevel, Indent, IsCarriedOn, IsLine, IsNear, IsOpenOutside, IsPairOf, IsPiece, Key, KnowsKey, Line, List, MayChoose, None, NotBefore, Option, Outside, Position, Previous, ScannerState, Site, SoFar, Some, Stands, Step, Tok, Token, [], act_of, ap, arith, begins_free_line, begun_by, chosen, ends_at, entries_by, entry_by, false, first_choice, first_entry, further_lines_stand, gives_node, has_break, inl, is_deep_enough, is_empty, is_in_column, is_renewed, is_separation, least_for, length, line_by, line_past, may_precede, may_stand, no_pair, not, outside_key, pop, position_after, previous_by, put, refl, seen, shown_position, site_at, site_here, site_in, site_past, spelled, subst, sym, taken, tokens_of_step, tokens_up_to, true, with_keys, ℕ, ◌&&◌, ◌++◌, ◌∙◌, ◌∷◌, ◌≡◌, ◌≤◌, must_be_key}
-use Rattle.proof_scanner.proofs.Sound.Common.{after_piece, among, AreSame, by_sides, ArrivesBy, begun_numbered, bit_of, choice_before, choices_around, completes_at, entry_past_node, Goes, IsDeep, levels_by, line_after_node, line_taken, node_in_entry, node_outer_tokens, node_tokens, not_before_after, not_before_then, Outer, outer_completes, past_step, saved, saved_keys, some_rest, tokens_before, with_begun, with_entries, with_no_key}
+use Rattle.proof_scanner.proofs.Common.{Account, AreEntries, Arrives, Bool, Entry, FlowLevel, Indent, IsCarriedOn, IsLine, IsNear, IsOpenOutside, IsPairOf, IsPiece, Key, KnowsKey, Line, List, MayChoose, None, NotBefore, Option, Outside, Position, Previous, ScannerState, Site, SoFar, Some, Step, Tok, Token, [], act_of, ap, arith, begins_free_line, begun_by, chosen, ends_at, entries_by, entry_by, false, first_choice, first_entry, further_lines_stand, gives_node, has_break, inl, is_deep_enough, is_empty, is_in_column, is_renewed, least_for, length, line_by, line_past, may_precede, may_stand, no_pair, not, outside_key, pop, position_after, previous_by, put, refl, seen, shown_position, site_at, site_here, site_in, site_past, spelled, subst, sym, taken, tokens_of_step, tokens_up_to, true, with_keys, ℕ, ◌&&◌, ◌++◌, ◌∙◌, ◌∷◌, ◌≡◌, ◌≤◌, must_be_key, kind_of}
+use Rattle.proof_scanner.proofs.Sound.Common.{after_piece, among, by_sides, ArrivesBy, begun_numbered, bit_of, choice_before, choices_around, completes_at, entry_past_node, Goes, IsDeep, levels_by, line_after_node, line_taken, node_in_entry, node_outer_tokens, node_tokens, not_before_after, not_before_then, Outer, outer_completes, past_step, saved, saved_keys, some_rest, tokens_before, with_begun, with_entries, with_no_key}
 use Rattle.proof_scanner.proofs.Known.Steps.{knows_saved, is_of_node}
 use Rattle.proof_scanner.proofs.Sound.Outsides.{new_key, keys_saved, numbered_inside, must_be_here, numbered_past, unbroken_node, one_node, taken_node, may_node, line_node, same_node, open_node}
 use Rattle.proof_scanner.proofs.Sound.InFlow.{steps_in_flow}
-use Rattle.proof_scanner.proofs.Sound.Reads.{Reads, stands_so}
-use Rattle.proof_scanner.specs.StandsInRow.{kind_of}
+use Rattle.proof_scanner.proofs.Sound.Reads.{Onward, Reads, stands_so}
 
 -- What was read of a node: its token and piece, the separation after it, the text and the position after both, and what the scanner holds then: levels of indentation, its two flags, and where a colon may stand next.
 pub record Read : Type 0 where
@@ -133,9 +132,9 @@ module _ (text : List ℕ) (t : ScannerState) (level : Option FlowLevel) (k : Op
 
   goes : (strict c : Bool) → MayChoose strict c key_then d.end d.rest → Goes text a.site a.separation d.piece (next_of d) d.tok x same_site strict (bit_of t.held.key_allowed c) (line_of c a.line) (line_of c a.line_here) (after_by c)
   goes strict c may = record {
-    is_filled = subst (λ y. is_separation false a.separation y ≡ true) r.reads.cut a.is_filled;
+    is_filled = rw (sym r.reads.cut) a.is_filled;
     is_solid = r.reads.is_solid;
-    is_piece = subst (λ p. IsPiece (seen (with_entries a.site a.line []) x a.separation) d.piece (next_of d) None p d.tok) (sym (r.shown x)) r.is_piece;
+    is_piece = rw (r.shown x) r.is_piece;
     stands = stands_here text t level [] (k ∷ []) [] a d r;
     line_is = unbroken_node text t k a within deep some d.end d.rest later strict c may;
     after_is = ap (λ y. line_past (strict && is_in_column x.position.col x.blocks) x.position x.blocks y (bit_of t.held.key_allowed c) (line_of c a.line_here)) r.act ∙
@@ -156,7 +155,7 @@ module _ (text : List ℕ) (t : ScannerState) (level : Option FlowLevel) (k : Op
       with_keys 0 (position_after p d.piece y) ws last (site_here false p a.site).blocks (line_by c key_then taken) (with_begun level []) keys_then (before_at p ++ (put (shown_position (site_here false p a.site) d.piece d.tok y) d.tok ∷ [])) in
       node_outer_tokens level a.site a.separation d.piece d.tok strict t.held.key_allowed c k (new_key t) a.line a.line_here d.end d.rest a.tokens ws last r.act r.begun (line_node text t k a within deep some d.end d.rest later)
       may a.no_key (among (length a.tokens) (k ∷ []) a.are_numbered) q
-      (ap length (a.tokens_are ∙ ap before_at q)) (subst (λ p. AreSame k d.end d.rest a.site.blocks (site_here false p a.site).blocks) q (same_node text t k a within deep some d.end d.rest later)) ∙
+      (ap length (a.tokens_are ∙ ap before_at q)) (rw (sym q) (same_node text t k a within deep some d.end d.rest later)) ∙
       (ap (λ y. whole (here y) y) h ∙ (ap (λ p. whole p (next_of d)) (sym place) ∙
       (ap (λ ts. with_keys 0 (site_then t [] a.site d).position ws last x.blocks (line_by c key_then taken) (with_begun level []) keys_then ts)
       (ap (λ ts. ts ++ (put (shown_position x d.piece d.tok (next_of d)) d.tok ∷ [])) (sym a.tokens_are) ∙ ap (λ p. t.held.tokens ++ (put p d.tok ∷ [])) (r.shown x)) ∙
@@ -170,8 +169,7 @@ module _ (text : List ℕ) (t : ScannerState) (level : Option FlowLevel) (k : Op
       (outer_completes text a.site a.separation d.piece (next_of d) d.tok x same_site strict (bit_of t.held.key_allowed c) (line_of c a.line) (line_of c a.line_here) (after_by c) (tokens_up_to (Outer a.site (line_of c a.line)) (k ∷ []) a.tokens)
       (λ ws last. with_keys 0 (site_then t [] a.site d).position ws last x.blocks (line_by c key_then taken) (begun_by d.tok) keys_then (t.held.tokens ++ (own ∷ []))) (goes strict c may) (tokens_past strict c may)
       (completes_at text t [] (k ∷ []) [] a (d.piece ++ next_of d) (position_after a.site.position a.separation (d.piece ++ next_of d)) r.reads.cut place strict (choice_before t.held.key_allowed c) []
-      (subst (λ p. MayChoose strict (choice_before t.held.key_allowed c) k p (d.piece ++ next_of d)) place
-      (subst (λ y. MayChoose strict (choice_before t.held.key_allowed c) k t.held.position y) r.reads.cut (may_node text t k a within deep some d.end d.rest later strict c may)))))
+      (rw (sym place) (rw (sym r.reads.cut) (may_node text t k a within deep some d.end d.rest later strict c may)))))
 
   -- where a flow level begins, a key that must be one is on this line
   carried : (lv : Option FlowLevel) → IsBegun lv t d → ((strict c : Bool) (cs : List Bool) → MayChoose strict c key_then d.end d.rest →
@@ -182,7 +180,7 @@ module _ (text : List ℕ) (t : ScannerState) (level : Option FlowLevel) (k : Op
   carried (Some lv) i all cs x is must inner goes = record {
     account = chosen true cs (None ∷ key_then ∷ []) (with_entries (site_then t [] a.site d) taken (first_entry (kind_of lv) ∷ []));
     steps = [];
-    begins = (all true true cs (subst (λ o. MayChoose true true o d.end d.rest) (sym is) (let own_line = key_line t.held.key_allowed is in let stays = i.1 in (omega (arith, stays, own_line), goes)))).0;
+    begins = (all true true cs (rw is (let own_line = key_line t.held.key_allowed is in let stays = i.1 in (omega (arith, stays, own_line), goes)))).0;
     is_inside = refl;
     line_is = ap (λ o. line_by true o taken) is;
     must_be = sym ((subst (λ o. IsOpenOutside o (site_then t [] a.site d).position d.end d.rest (site_of t [] a.site).blocks) is (open_node text t k a within deep some d.end d.rest later (site_then t [] a.site d).position (after_piece t.held.position d.piece (next_of d) r.reads.is_solid))).1 (let own_line = key_line t.held.key_allowed is in let stays = i.1 in (omega (arith, stays, own_line), goes))).must_be ∙ must;
@@ -193,7 +191,7 @@ module _ (text : List ℕ) (t : ScannerState) (level : Option FlowLevel) (k : Op
       key_line true e = let same : new_key t ≡ x = cc e in subst (λ z. t.held.position.line ≤ z.position.line) same (omega arith)
       key_line false e = (subst (λ o. IsNear o t.held.position) e (a.is_near refl)).0
 
-  node_outside : t.held.keys ≡ k ∷ [] → KnowsKey text (a.separation ++ t.rest) t.held.position k → Stands text (state_after t level d)
+  node_outside : t.held.keys ≡ k ∷ [] → KnowsKey text (a.separation ++ t.rest) t.held.position k → Onward text t.rest (state_after t level d)
   node_outside keys known =
       let same : outside_key (with_begun level []) keys_then ≡ key_then = (grind arith) in
       stands_so text t (state_after t level d) d.piece (next_of d) d.gap (levels_by level []) keys_then base_then a.is_clean a.started a.going r.reads (record {
@@ -208,14 +206,14 @@ module _ (text : List ℕ) (t : ScannerState) (level : Option FlowLevel) (k : Op
         carries = carried level r.is_begun rows;
         knows = subst (λ y. KnowsKey text (next_of d) d.end y) (sym same)
             (knows_saved text t d.piece (next_of d) d.tok r.reads.cut d.end d.gap d.rest r.reads.position_is refl k a (
-              (subst (λ y. is_separation false a.separation y ≡ true) r.reads.cut a.is_filled),
+              (rw (sym r.reads.cut) a.is_filled),
               (
                 ap not r.reads.is_solid,
                 subst (λ y. IsPiece (seen (with_entries a.site a.line []) y a.separation) d.piece (next_of d) None (shown_position y d.piece d.tok (next_of d)) d.tok) (sym same_site)
                     (subst (λ p. IsPiece (seen (with_entries a.site a.line []) x a.separation) d.piece (next_of d) None p d.tok) (sym (r.shown x)) r.is_piece),
               ),
             ) within deep (ap is_of_node r.act) known);
-        completes = λ strict c cs may. rows strict c cs (subst (λ y. MayChoose strict c y d.end d.rest) same may);
+        completes = λ strict c cs may. rows strict c cs (rw (sym same) may);
       })
 
 -- ---- in flow
@@ -234,7 +232,7 @@ module _ (text : List ℕ) (t : ScannerState) (level : Option FlowLevel) (f : Fl
   entries_then None i h = ((grind arith), grind arith, a.are_entries.2)
   entries_then (Some lv) i h = (record { kind_is = refl; pair_is = i.0; key_is = tt }, (inl refl, h), ((grind arith), grind arith, a.are_entries.2))
 
-  node_inside : t.held.keys ≡ k ∷ ks → Stands text (state_after t level d)
+  node_inside : t.held.keys ≡ k ∷ ks → Onward text t.rest (state_after t level d)
   node_inside keys =
       let n : Entry = entry_past_node t.held.key_allowed e in
       let place = here_is text t level (f ∷ fs) (k ∷ ks) (e ∷ es) a d r in
@@ -248,7 +246,7 @@ module _ (text : List ℕ) (t : ScannerState) (level : Option FlowLevel) (f : Fl
         are_numbered = begun_numbered level (length (t.held.tokens ++ (shown_token ∷ []))) (key_past ∷ ks) (numbered_inside t a.tokens k ks shown_token (tokens_before text t f fs k ks e es a) a.are_numbered t.held.key_allowed);
         in_line = λ x y. (r.one_line x y).0;
       }) (record {
-        is_piece = subst (λ p. IsPiece (seen (with_entries a.site a.line (e ∷ es)) (site_of t (f ∷ fs) a.site) a.separation) d.piece (next_of d) None p d.tok) (sym (r.shown (site_of t (f ∷ fs) a.site))) r.is_piece;
+        is_piece = rw (r.shown (site_of t (f ∷ fs) a.site)) r.is_piece;
         stands = stands_here text t level (f ∷ fs) (k ∷ ks) (e ∷ es) a d r;
         choice = λ cs. choice_before t.held.key_allowed (first_choice (choices_around level cs));
         outer = λ cs. pop (choices_around level cs);
@@ -272,8 +270,8 @@ module _ (text : List ℕ) (t : ScannerState) (level : Option FlowLevel) (f : Fl
 
 -- Where a piece begins, a part of a node was read: what holds between two fetches holds after it.
 pub node_read : (text : List ℕ) (t : ScannerState) (level : Option FlowLevel) (d : Read) → IsDeep t.held → Arrives text t →
-    ((fs : List FlowLevel) (ks : List (Option Key)) (es : List Entry) → t.held.flow ≡ fs → (a : ArrivesBy text t fs ks es) → IsRead t level fs a.site a.line es a.separation d) → Stands text (state_after t level d)
+    ((fs : List FlowLevel) (ks : List (Option Key)) (es : List Entry) → t.held.flow ≡ fs → (a : ArrivesBy text t fs ks es) → IsRead t level fs a.site a.line es a.separation d) → Onward text t.rest (state_after t level d)
 node_read text t level d deep arrives known =
-    by_sides text t (λ u. ((fs : List FlowLevel) (ks : List (Option Key)) (es : List Entry) → u.held.flow ≡ fs → (a : ArrivesBy text u fs ks es) → IsRead u level fs a.site a.line es a.separation d) → Stands text (state_after u level d)) arrives
+    by_sides text t (λ u. ((fs : List FlowLevel) (ks : List (Option Key)) (es : List Entry) → u.held.flow ≡ fs → (a : ArrivesBy text u fs ks es) → IsRead u level fs a.site a.line es a.separation d) → Onward text u.rest (state_after u level d)) arrives
     (λ k a n known. node_outside text _ level k a d refl deep (known [] (k ∷ []) [] refl a) refl n)
     (λ f fs k ks e es a known. node_inside text _ level f fs k ks e es a d refl (known (f ∷ fs) (k ∷ ks) (e ∷ es) refl a) refl) known

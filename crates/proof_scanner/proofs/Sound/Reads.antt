@@ -1,6 +1,13 @@
 -- What was read from one state to another: a piece at a site, and a separation after it; and what the scanner holds then that no key decides.
-use Rattle.proof_scanner.proofs.Common.{Account, AreEntries, AreLevels, AreNumbered, Before, Bool, FlowLevel, HasNoTabs, IsAdjacent, IsCarriedOn, IsLeading, IsLine, IsOpenOutside, IsReadOn, Key, KnowsKey, List, MayChoose, Option, Position, Previous, ScannerState, Site, SoFar, Stands, another, arith, before_by, before_past, begins_free_line, begins_line, chosen, columns, false, flow_collection, has_no_break, has_no_nul, has_open_level, is_empty, is_renewed, is_separation, is_waiting, length, no_nul_after, not, other, outside_key, position_after, suc, tokens_up_to, true, ℕ, ◌++◌, ◌≡◌, ◌≤◌, ◌⊎◌, eqb-true, nat_tests}
+use Rattle.proof_scanner.proofs.Common.{Account, AreEntries, AreLevels, AreNumbered, Before, Bool, FlowLevel, HasNoTabs, IsAdjacent, IsCarriedOn, IsLeading, IsLine, IsOpenOutside, IsReadOn, Key, KnowsKey, List, MayChoose, Option, Position, Previous, ScannerState, Site, SoFar, Stands, another, arith, before_by, before_past, begins_free_line, begins_line, chosen, columns, false, flow_collection, has_no_break, has_no_nul, has_open_level, is_empty, is_renewed, is_separation, is_waiting, length, no_nul_after, not, ap, length-append, ◌<◌, other, outside_key, position_after, suc, tokens_up_to, true, ℕ, ◌++◌, ◌≡◌, ◌≤◌, ◌⊎◌, eqb-true, nat_tests, chained, tried, Holds, Result, Fault, Held, ◌>>=◌, with_held}
 use Rattle.proof_scanner.proofs.Sound.Common.{adjacent_other, index_after, none_indents, not_none, stands_by}
+
+-- What a step leaves is known, if it goes on, with what else is so.
+pub exactly : {A B C : Type 0} {x : A} {P : B → Type 0} {r : Result A Fault} (k : A → Result B Fault) → Holds (λ u. (u ≡ x) × C) r → (C → Holds P (k x)) → Holds P (r >>= k)
+exactly {P = P} k h f = chained h (λ u d. rw d.0 (f d.1))
+
+pub held_exactly : {C : Type 0} {x : Held} (t : ScannerState) {r : Result Held Fault} → Holds (λ h. (h ≡ x) × C) r → Holds (λ u. (u ≡ record t { held = x }) × C) (with_held t r)
+held_exactly t {r = r} h = tried t r h (λ s d. (ap (λ y. record t { held = y }) d.0, d.1))
 
 -- The site is that after the piece.
 pub record Reads (t u : ScannerState) (y : Site) (piece next gap : List ℕ) : Type 0 where
@@ -33,9 +40,20 @@ pub record StandsThen (text : List ℕ) (u : ScannerState) (gs : List FlowLevel)
   pub knows : KnowsKey text (gap ++ u.rest) u.held.position (outside_key base.entries ls)
   pub completes : (strict c : Bool) (cs : List Bool) → MayChoose strict c (outside_key base.entries ls) u.held.position u.rest → SoFar strict text (gap ++ u.rest) (chosen c cs ls base) (tokens_up_to (chosen c cs ls base) ls u.held.tokens)
 
+-- What holds between two fetches holds, and less text is left than before.
+pub record Onward (text before : List ℕ) (u : ScannerState) : Type 0 where
+  pub stands : Stands text u
+  pub less : length u.rest < length before
+
+filled : (piece : List ℕ) → is_empty piece ≡ false → 0 < length piece
+filled piece h = grind arith
+
 pub stands_so : (text : List ℕ) (t u : ScannerState) (piece next gap : List ℕ) (gs : List FlowLevel) (ls : List (Option Key)) (base : Account) → has_no_nul t.rest ≡ true → t.held.started ≡ true → t.held.ended ≡ false →
-    Reads t u base.site piece next gap → StandsThen text u gs ls base gap → Stands text u
-stands_so text t u piece next gap gs ls base clean started going r g = grind (arith, no_nul_after, stands_by)
+    Reads t u base.site piece next gap → StandsThen text u gs ls base gap → Onward text t.rest u
+stands_so text t u piece next gap gs ls base clean started going r g = record {
+  stands = grind (arith, no_nul_after, stands_by);
+  less = let first = ap length r.cut in let second = ap length r.is_rest in let n = length-append piece next in let m = length-append gap u.rest in omega (arith, first, second, n, m, filled piece r.is_solid);
+}
 
 -- ---- what is the same for many pieces
 

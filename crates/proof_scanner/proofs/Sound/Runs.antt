@@ -1,6 +1,5 @@
 -- A run keeps what each fetch keeps; at its end the tokens are those of a row.
-use Rattle.proof_scanner.proofs.Common.{Fares, FetchKeeps, IsRead, List, Ok, Reaches, ScannerState, Stands, TokensAreOfARow, ap, begins, false, fetch, fetch_stream_start, has_no_nul, here, over, refl, start, subst, sym, there, true, ℕ, ◌∙◌, ◌≡◌, arith}
-use Rattle.proof_scanner.specs.StandsInRow.{goes}
+use Rattle.proof_scanner.proofs.Common.{Fares, FetchKeeps, IsRead, List, Ok, Reaches, ScannerState, Stands, TokensAreOfARow, ap, begins, false, fetch, fetch_stream_start, has_no_nul, here, over, refl, start, subst, sym, there, true, ℕ, ◌∙◌, ◌≡◌, arith, goes}
 use Rattle.proof_scanner.proofs.Sound.Starts.{stream_started}
 
 pub first_fetch : (text : List ℕ) → fetch (start text) ≡ Ok (fetch_stream_start (start text))

@@ -1,7 +1,5 @@
 -- Where a piece begins, and between two fetches: what holds with the flow levels, the open keys and the entries taken apart, outside flow and in flow.
-use Rattle.proof_scanner.proofs.Common.{Account, Arrives, Entry, FlowLevel, Key, KnowsKey, Line, List, Option, ScannerState, Site, Stands, [], arith, false, is_empty, outside_key, subst, sym, ℕ, ◌++◌, ◌∷◌, ◌≡◌}
-use Rattle.proof_scanner.specs.Arrives.{ArrivesWith}
-use Rattle.proof_scanner.specs.StandsInRow.{StandsWith}
+use Rattle.proof_scanner.proofs.Common.{Account, Arrives, Entry, FlowLevel, Key, KnowsKey, Line, List, Option, ScannerState, Site, Stands, [], arith, false, is_empty, outside_key, subst, sym, ℕ, ◌++◌, ◌∷◌, ◌≡◌, ArrivesWith, StandsWith}
 
 -- an account by its parts
 abbrev pub with_entries : Site → Line → List Entry → Account

@@ -1,6 +1,6 @@
 -- What the model skips between tokens leaves no TAB in the indentation of the next one.
 use Rattle.std.proofs.lemmas.List.{length-append}
-use Rattle.proof_scanner.proofs.Common.{At, Bool, Err, Fault, Gap, Held, Holds, List, Ok, Previous, Result, ScannerState, [], and_parts, ap, append-nil, append_assoc, arith, begins_line, between, comment, eqb-true, false, has_tab_within, if◌then◌else◌, inl, inr, is_at_comment_or_end, is_before_indent, is_cr_lf, is_empty, last_line, length, moved, no_hash, or-false, or-true, past_line, refl, refused, same_break, skip, subst, suc, sym, tab_line, true, weakened, went, ℕ, ◌&&◌, ◌++◌, ◌==◌, ◌||◌, ◌∙◌, ◌∷◌, ◌≡◌, ◌⊎◌}
+use Rattle.proof_scanner.proofs.Common.{At, Bool, Err, Fault, Gap, Held, Holds, List, Ok, Previous, Result, ScannerState, [], and_parts, ap, append-nil, append_assoc, arith, begins_line, between, comment, eqb-true, false, has_tab_within, if◌then◌else◌, inl, inr, is_at_comment_or_end, is_before_indent, is_cr_lf, is_empty, last_line, length, moved, no_hash, or-false, or-true, past_line, refl, refused, same_break, skip, subst, suc, tab_line, true, weakened, went, ℕ, ◌&&◌, ◌++◌, ◌==◌, ◌||◌, ◌∙◌, ◌∷◌, ◌≡◌, ◌⊎◌}
 use Rattle.yaml_chars.specs.Class.{is_break, is_blank}
 use Rattle.yaml_tokens.specs.declared.problem.Problem.TheVariants as problem
 use Rattle.defs_text.specs.Classes as classes
@@ -128,7 +128,7 @@ module _ (before : Previous) (least : ℕ) where
   skip_clears = skip_tells (λ g a s r. Holds (Cleared g a) r) (λ _. Unit {0}) (record {
     ended = λ g s. went (record { passed = []; cut = refl; clear = λ e. absurd (cc e) });
     further = λ g a c s u r next h. (weakened (λ u x. record { passed = c ∷ x.passed; cut = ap (λ y. c ∷ y) x.cut; clear = λ e. subst (λ y. IsAt y u.held) (append_assoc g (c ∷ []) x.passed) (x.clear e) }) h);
-    arrives = λ g a c s at. went (record { passed = []; cut = refl; clear = λ _. subst (λ y. IsAt y s) (sym (append-nil g)) at });
+    arrives = λ g a c s at. went (record { passed = []; cut = refl; clear = λ _. rw (append-nil g) at });
     tab = λ g c s e f l h. tt;
     blank = λ g c e h. tt;
     fails = λ g a c s h. refused;

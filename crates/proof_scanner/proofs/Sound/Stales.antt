@@ -1,7 +1,6 @@
 -- Keys that are too far back are dropped: what holds between two fetches still holds, without them.
-use Rattle.proof_scanner.proofs.Common.{Account, AreEntries, Bool, Entry, Fares, FlowLevel, Held, Holds, IsAtEnd, IsCarriedOn, IsCutUpTo, IsNear, IsRead, Key, List, MayChoose, None, Option, ScannerState, SoFar, Some, Stands, Step, Token, [], ap, arith, chosen, drop_stale, either, false, have_no_key, in_flow, inl, inr, is_empty, is_far, is_waiting, length, not-false, over, refl, refused, stale, subst, suc, sym, tokens_from, tokens_up_to, tried, true, try_held, went, ℕ, ◌++◌, ◌+◌, ◌∙◌, ◌∷◌, ◌≡◌, ◌⊎◌}
+use Rattle.proof_scanner.proofs.Common.{Account, AreEntries, Bool, Entry, FlowLevel, Held, Holds, IsCarriedOn, IsCutUpTo, IsNear, Key, List, MayChoose, None, Option, ScannerState, SoFar, Some, Stands, Step, Token, [], ap, arith, chosen, drop_stale, either, false, have_no_key, in_flow, is_empty, is_far, is_waiting, length, not-false, refl, refused, stale, subst, suc, tokens_from, tokens_up_to, true, went, ℕ, ◌++◌, ◌∙◌, ◌∷◌, ◌≡◌, StandsWith}
 use Rattle.proof_scanner.proofs.Known.Steps.{known_far}
-use Rattle.proof_scanner.specs.StandsInRow.{StandsWith, goes}
 use Rattle.proof_scanner.proofs.Sound.Common.{with_entries, may_be_no_key, none_chosen, none_put, stands_by}
 
 -- rows are completed alike by tokens that are alike
@@ -54,9 +53,3 @@ stale_stands text u s = grind (arith, either, went, not-false, one_key, key_drop
 pub keys_only : (s : Held) → Holds (λ h. h ≡ record s { keys = h.keys }) (stale s)
 unfolding stale
 keys_only s = either (in_flow s) (λ _. went refl) (λ _. (grind (arith, went, refused)))
-
--- What holds after a token, or after the end, holds after stale keys are dropped.
-pub fares_stale : (text : List ℕ) (t : ScannerState) → Stands text t ⊎ ((t.held.ended ≡ true) × IsRead text t.held.tokens × IsAtEnd text t.held) → Holds (Fares text) (try_held stale t)
-fares_stale text t (inl s) = tried t (stale t.held) (stale_stands text t s) (λ h d. goes d.stands)
-fares_stale text t (inr e) = tried t (stale t.held) (keys_only t.held) (λ h d.
-    over (ap (λ y. y.ended) d ∙ e.0) (subst (λ y. IsRead text y.tokens) (sym d) e.1) (record { began = ap (λ y. y.started) d ∙ e.2.began; position = ap (λ y. y.position) d ∙ e.2.position }))

@@ -1,7 +1,6 @@
 -- What holds between fetches holds after the stream's start.
 use Rattle.proof_scanner.proofs.Common.{List, SoFar, Stands, [], arith, fetch_stream_start, first_account, first_position, has_no_nul, inl, inr, put, refl, start, stream_start, subst, sym, true, up_to_nul, ℕ, ◌∷◌, ◌≡◌}
-use Rattle.proof_scanner.proofs.Sound.Common.{completed_at_start, goes_of, whole_text}
-use Rattle.proof_scanner.proofs.Known.Steps.{known_at_start}
+use Rattle.proof_scanner.proofs.Sound.Steps.{completed_at_start, goes_of, known_at_start, whole_text}
 
 unfoldable pub stream_started : (text : List ℕ) → has_no_nul text ≡ true → Stands text (fetch_stream_start (start text))
 unfolding fetch_stream_start

@@ -1,7 +1,7 @@
 -- Where a text ends: no open key is one, and the stream's end and those of the block collections stand where the row has them.
 use Rattle.yaml_tokens.specs.declared.problem.Problem.TheVariants as problem
 use Rattle.std.proofs.lemmas.List.{append-nil}
-use Rattle.proof_scanner.proofs.Common.{Account, AreAround, AreCollections, AreEntries, AreLevels, Arrives, At, Bool, Completes, Entry, FlowLevel, Had, HasHad, Held, Holds, Indent, IsRead, IsTopLevel, Key, Levels, Line, List, MayChoose, Option, Position, ScannerState, Site, Step, Token, [], ap, append_assoc, arith, block_end, blocks, checked, chosen, cleared, columns, ended_at, ends_at, ends_here, ends_with_stream, entries_by, false, fetch_stream_end, has_required, have_no_key, if◌then◌else◌, in_flow, is_empty, is_keyed, is_renewed, is_separation, is_waiting, length, may_end, nat_lt, next_line, not, not-true, not_ended, outside_key, pop, position_after, put, refl, replicate, site_here, stream_position, subst, suc, sym, tokens_at_end, tokens_up_to, tried, true, unroll_indent, unrolled, went, with_keys, ℕ, ◌++◌, ◌-◌, ◌<◌, ◌∙◌, ◌∷◌, ◌≡◌, ◌≤◌}
+use Rattle.proof_scanner.proofs.Common.{Account, AreAround, AreCollections, AreEntries, AreLevels, Arrives, At, Bool, Completes, Entry, FlowLevel, Had, HasHad, Held, Holds, Indent, IsRead, IsTopLevel, Key, Levels, Line, List, MayChoose, Option, Position, ScannerState, Site, Step, Token, [], ap, append_assoc, arith, block_end, blocks, checked, chosen, cleared, columns, ended_at, ends_at, ends_here, ends_with_stream, entries_by, false, fetch_stream_end, has_required, have_no_key, if◌then◌else◌, in_flow, is_empty, is_keyed, is_renewed, is_waiting, length, may_end, nat_lt, next_line, not, not-true, not_ended, outside_key, pop, position_after, put, refl, replicate, site_here, stream_position, subst, suc, sym, tokens_at_end, tokens_up_to, tried, true, unroll_indent, unrolled, went, with_keys, ℕ, ◌++◌, ◌-◌, ◌<◌, ◌∙◌, ◌∷◌, ◌≡◌, ◌≤◌}
 use Rattle.proof_scanner.proofs.Cut.Documents.{unroll_keeps}
 use Rattle.proof_scanner.proofs.Sound.Completed.{completed_at_end}
 use Rattle.proof_scanner.proofs.Cut.Unrolls.{unrolled_in_flow}
@@ -120,8 +120,8 @@ ends_split end (n ∷ ns) h = by (nat_lt end.col n) refl (λ k. ends_split end n
 -- the same by the levels of indentation that the scanner holds
 pub ends_by_levels : (end : Position) (bs : List ℕ) (i : ℕ) (ds : List Indent) → AreLevels i ds → not_ended end.col bs ≡ columns i ds → ends_with_stream end bs ≡ ends_at end bs (not_ended end.col bs) ++ ends_of (length (columns i ds)) (stream_position end)
 ends_by_levels end bs i ds a e =
-    let first : FirstIsNot end.col (columns i ds) = subst (λ x. FirstIsNot end.col x) e (first_going_on end.col bs) in
-    ends_split end bs (subst (λ x. NoneDeeper end.col x) (sym e) (levels_below end.col i ds a first)) ∙
+    let first : FirstIsNot end.col (columns i ds) = rw (sym e) (first_going_on end.col bs) in
+    ends_split end bs (rw e (levels_below end.col i ds a first)) ∙
     ap (λ x. ends_at end bs (not_ended end.col bs) ++ ends_of (length x) (stream_position end)) e
 
 -- ---- the stream's end
@@ -140,14 +140,13 @@ at_end text t a e required =
     let ends : may_end a.base ≡ true = rw (a.no_key, plain) refl in
     let last : a.separation ++ t.rest ≡ a.separation = ap (λ x. a.separation ++ x) e ∙ append-nil a.separation in
     let own : Completes text a.separation a.base (λ ws z. tokens_up_to a.base t.held.keys a.tokens ws z) =
-    subst (λ x. Completes text a.separation x (λ ws z. tokens_up_to x t.held.keys a.tokens ws z)) (none_chosen t.held.keys a.base)
-    (subst (λ x. Completes text x none (λ ws z. tokens_up_to none t.held.keys a.tokens ws z)) last (a.completes true false [] (outside_free a.base.entries t.held.keys t.held.position t.rest required))) in
+    rw (sym (none_chosen t.held.keys a.base))
+    (rw (sym last) (a.completes true false [] (outside_free a.base.entries t.held.keys t.held.position t.rest required))) in
     let whole : IsRead text (tokens_up_to a.base t.held.keys a.tokens [] a.separation ++ tokens_at_end (position_after a.base.site.position a.separation []) a.base.site.blocks a.base.entries) =
-    completed_at_end text a.separation a.base (λ ws z. tokens_up_to a.base t.held.keys a.tokens ws z) (subst (λ x. is_separation false a.separation x ≡ true) e a.is_filled) ends own in
+    completed_at_end text a.separation a.base (λ ws z. tokens_up_to a.base t.held.keys a.tokens ws z) (rw (sym e) a.is_filled) ends own in
     let put_none : tokens_up_to a.base t.held.keys a.tokens [] a.separation ≡ a.tokens = none_put 0 a.base.site.position [] a.separation a.base.site.blocks a.base.line a.base.entries t.held.keys a.tokens a.no_key plain in
     let same : position_after a.base.site.position a.separation [] ≡ t.held.position = ap (λ x. position_after a.base.site.position a.separation x) (sym e) ∙ sym a.position_is in
-    subst (λ x. IsRead text (x ++ tokens_at_end t.held.position a.base.site.blocks a.base.entries)) put_none
-    (subst (λ x. IsRead text (tokens_up_to a.base t.held.keys a.tokens [] a.separation ++ tokens_at_end x a.base.site.blocks a.base.entries)) same whole)
+    rw (sym put_none) (rw (sym same) whole)
 
 -- what the scanner holds after the ends of all levels
 unrolled_outside : (s : Held) → in_flow s ≡ false → AreLevels s.indent s.indents → ((unroll_indent 0 s).tokens ≡ s.tokens ++ ends_of (length (columns s.indent s.indents)) s.position) × ((unroll_indent 0 s).position ≡ s.position)
@@ -178,8 +177,7 @@ stream_ended text t a e =
     let same : ((unroll_indent 0 (at_stream_end t.held)).position ≡ next_line t.held.position) × ((unroll_indent 0 (at_stream_end t.held)).started ≡ t.held.started) = unroll_keeps 0 (at_stream_end t.held) in
     tried t _ (checked (has_required t.held.keys) (At problem.KeyExpected (next_line t.held.position)) (λ none. went (
       refl,
-      subst (λ x. IsRead text x)
-          (sym (last_tokens t.held a.tokens a.base.site a.base.entries (same_flow t.held.key_allowed (is_renewed a.base.site.before a.separation) t.held.flow t.held.keys a.base.entries a.are_entries) a.are_levels a.tokens_are a.blocks_are))
+      rw (last_tokens t.held a.tokens a.base.site a.base.entries (same_flow t.held.key_allowed (is_renewed a.base.site.before a.separation) t.held.flow t.held.keys a.base.entries a.are_entries) a.are_levels a.tokens_are a.blocks_are)
           (at_end text t a e none),
       same.1,
       same.0,

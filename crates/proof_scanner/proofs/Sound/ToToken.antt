@@ -2,12 +2,9 @@
 use Rattle.proof_scanner.proofs.Common.{Site, AreEntries, BeginsButForKey, Bool, HasNoTabs, Holds, IsAdjacent, IsLine, IsLive, IsOpenHere, IsOpenOutside, IsReadOn, IsTakenBy, Key, KnowsKey, Line, List, None, Option, Position, Previous, ScannerState, SoFar, Some, Stands, [], after_separation, ap, append_assoc, append_cancel_right, arith, before_by, before_past, begins_free_line, begins_separation, between, both_hold, chosen, false, follows_plain, has_no_nul, in_flow, inl, inr, is_at_comment_or_end, is_empty, is_indented_by_spaces, is_one_of, is_separation, least_column, not, or-false, or-true, outside_key, plain_scalar, position_after, position_append, refl, skip_to_next_token, subst, sym, tokens_up_to, true, weakened, went, ℕ, ◌&&◌, ◌++◌, ◌==◌, ◌||◌, ◌∙◌, ◌∷◌, ◌≡◌, ◌≤◌, IsCarriedOn, IsLeading, MayChoose}
 use Rattle.proof_lexers.specs.PlainEnds as plain_ends
 use Rattle.proof_lexers.proofs.Separation.EachSeparation.{no_nul_after}
-use Rattle.proof_scanner.proofs.Sound.Common.{column_after, index_after, last_whole, no_comment_in_last, not_before_after, separation_append, stands_by, unbroken}
+use Rattle.proof_scanner.proofs.Sound.Steps.{Cleared, Exact, IsAt, IsIn, Spaced, column_after, exact, free_line_append, goes_on, index_after, known_past, last_whole, least_is, live_before_it, may_before, no_comment_in_last, not_before_after, read_on_append, renewed_alike, same_has_break, separation_append, skip_clears, skip_stays, stands_by, unbroken}
 use Rattle.proof_scanner.proofs.Cut.Heres.{before_both}
 use Rattle.proof_scanner.proofs.Cut.Stoods.{adjacent_filled}
-use Rattle.proof_scanner.proofs.Known.Steps.{known_past}
-use Rattle.proof_scanner.proofs.Sound.Skips.{Spaced, IsAt, IsIn, Cleared, skip_clears}
-use Rattle.proof_scanner.proofs.Sound.Passed.{skip_stays, Exact, exact, live_before_it, may_before, same_has_break, renewed_alike, free_line_append, read_on_append, least_is, goes_on}
 
 -- ---- where the way begins
 
@@ -47,7 +44,7 @@ open_after (Some k) q p p2 rest rest2 bs before h = (h.0, λ live. let o : IsOpe
 
 module _ (text : List ℕ) (t u : ScannerState) (s : Stands text t) (begins : begins_separation t.rest ≡ true) (e : Exact t u) (c : Cleared s.base.site.before (least_column s.base.site.blocks s.base.site.awaits) s.separation t.rest u) where
   at : is_empty u.rest ≡ false → IsAt s.base.site.before (least_column s.base.site.blocks s.base.site.awaits) (s.separation ++ e.separation) u.held
-  at some = subst (λ g. IsAt s.base.site.before (least_column s.base.site.blocks s.base.site.awaits) (s.separation ++ g) u.held) (append_cancel_right c.passed e.separation u.rest (sym c.cut ∙ e.cut)) (c.clear some)
+  at some = rw (sym (append_cancel_right c.passed e.separation u.rest (sym c.cut ∙ e.cut))) (c.clear some)
 
   abbrev Now : ScannerState
   Now = after_separation t.held e.is_leading e.separation u.rest
@@ -103,8 +100,8 @@ unfolding skip_to_next_token
 passed_stands text t s = by (begins_separation t.rest) refl
   where
     by : (x : Bool) → begins_separation t.rest ≡ x → Holds (λ u. Stands text u × (begins_separation u.rest ≡ false)) (skip_to_next_token t)
-    by false h = subst (λ r. Holds (λ u. Stands text u × (begins_separation u.rest ≡ false)) r) (sym (skip_stays t.rest t.held h)) (went (s, h))
+    by false h = rw (skip_stays t.rest t.held h) (went (s, h))
     by true h =
         let site : Site = s.base.site in
-        weakened (λ u x. (subst (λ v. Stands text v) (sym x.0.is_state) (now text t u s h x.0 x.1), x.0.solid)) (both_hold (exact t)
+        weakened (λ u x. (rw x.0.is_state (now text t u s h x.0 x.1), x.0.solid)) (both_hold (exact t)
         (skip_clears site.before (least_column site.blocks site.awaits) t.rest between s.separation t.held (least_is site.blocks site.awaits t.held s.blocks_are s.awaits_is s.are_levels) (is_in text t s h)))

@@ -1,11 +1,10 @@
 -- A colon that ends no key: what holds where it begins holds between two fetches after it.
-use Rattle.proof_scanner.proofs.Common.{Account, [], allow_key, another, ap, append-nil, append_assoc, AreLevels, arith, Arrives, At, before_by, before_past, begin_keyless_mapping, begin_keyless_value, begin_pair, begins_free_line, begun_outside, Bool, chained, check_value_space, checked, chosen, colon_may_precede, columns, Completes, ends_at, entries_by, Entry, entry_by, false, Fault, fetch_value, first_account, FlowLevel, gives_colon, has_open_level, Held, Holds, if◌then◌else◌, in_flow, Indent, inl, innermost, inr, insert, insert_key, inside, is_adjacent, is_break, is_deeper, is_empty, is_in_column, is_near, is_value, is_value_indicator, IsEntryOf, IsLive, IsNotRight, Key, length, length-append, Line, line_past, List, MayChoose, None, not, not-false, not_ended, NotBefore, Ok, on_held, opened, opens_pair, Option, Outside, outside_key, pair_past, pair_position, paired, past, placed, pop, Position, position_after, push, put, put_key, refl, Result, roll_indent, roll_one_col_indent, ScannerState, settled, Site, site_at, site_here, Some, spelled, Stands, start_if, Step, subst, suc, sym, taken, takes_pair, Tok, Token, token, tokens_at, tokens_of_step, tokens_up_to, top_key, tried, true, try_held, waits, went, with_held, with_keys, with_top, ℕ, ◌++◌, ◌==◌, ◌>>=◌, ◌||◌, ◌∙◌, ◌∷◌, ◌≡◌, ◌≤◌}
+use Rattle.proof_scanner.proofs.Common.{Account, [], allow_key, another, ap, append-nil, append_assoc, AreLevels, arith, Arrives, At, before_by, before_past, begin_keyless_mapping, begin_keyless_value, begin_pair, begins_free_line, begun_outside, Bool, chained, check_value_space, checked, chosen, colon_may_precede, columns, ends_at, entries_by, Entry, entry_by, false, Fault, fetch_value, first_account, FlowLevel, gives_colon, has_open_level, Held, Holds, if◌then◌else◌, in_flow, Indent, inl, innermost, inr, insert, insert_key, inside, is_adjacent, is_break, is_deeper, is_empty, is_in_column, is_near, is_value, is_value_indicator, IsEntryOf, IsLive, IsNotRight, Key, length, length-append, Line, line_past, List, MayChoose, None, not, not-false, not_ended, Ok, on_held, opened, opens_pair, Option, Outside, outside_key, pair_past, pair_position, paired, past, placed, pop, Position, position_after, push, put, put_key, refl, Result, roll_indent, roll_one_col_indent, ScannerState, settled, Site, site_at, site_here, Some, spelled, start_if, Step, subst, suc, sym, taken, takes_pair, Tok, Token, token, tokens_at, tokens_of_step, tokens_up_to, top_key, tried, true, try_held, waits, went, with_held, with_keys, with_top, ℕ, ◌++◌, ◌==◌, ◌>>=◌, ◌||◌, ◌∙◌, ◌∷◌, ◌≡◌, ◌≤◌, KeysBefore, keys_before, line_grows}
 use Rattle.model_scanner.specs.declared.level.FlowLevel.TheVariants.{Pair as InPair}
 use Rattle.model_scanner.specs.Block.{value_of}
-use Rattle.proof_scanner.proofs.Sound.Steps.{all_go_on, among, by_sides, with_sides, ArrivesBy, begun_after, ends_outside, fewer, first_among, first_not_right, goes_inside, goes_of, is_written, IsDeep, key_longer, keyless, keys_along, keys_first, line_free, line_taken, low_enough, no_waiting, not_before_after, not_before_then, numbered_around, numbered_more, opens_none, opens_one, OpensOne, Outer, outer_completes, outer_then, past_one, past_step, read_outside, Reads, reads_before_none, rolls_to, RollsTo, some_levels, started_tokens, steps_in_flow, tokens_before, value_is, weaker, with_entries, with_start, line_rest_in_line, same_in_line}
+use Rattle.proof_scanner.proofs.Sound.Steps.{exactly, held_exactly, Onward, all_go_on, among, by_sides, with_sides, ArrivesBy, begun_after, ends_outside, fewer, first_among, first_not_right, goes_inside, goes_of, is_written, IsDeep, key_longer, keyless, keys_along, keys_first, line_free, line_taken, low_enough, no_waiting, not_before_after, not_before_then, numbered_around, numbered_more, opens_none, opens_one, OpensOne, Outer, outer_completes, outer_then, past_one, past_step, read_outside, Reads, reads_before_none, rolls_to, RollsTo, some_levels, started_tokens, steps_in_flow, tokens_before, value_is, weaker, with_entries, with_start, line_rest_in_line, same_in_line}
 use Rattle.proof_scanner.proofs.Sound.ColonSpaces.{colon_gap, colon_spaced, gap_is, past_colon, past_gap}
 use Rattle.proof_scanner.proofs.Sound.Questions.{pair_level}
-use Rattle.proof_row.proofs.KeyLines.{KeysBefore, keys_before, line_grows}
 use Rattle.model_scanner.specs.State.{after}
 use Rattle.yaml_tokens.specs.declared.problem.Problem.TheVariants as problem
 
@@ -43,7 +42,7 @@ colon_reads t more ds i ts allowed fs ks y cut here before columns_are awaits le
 
 pub keyless_stands : (text more : List ℕ) (t : ScannerState) (a : ArrivesBy text t [] (None ∷ []) []) → t.rest ≡ 58 ∷ more → t.held.key_allowed ≡ true → colon_may_precede more ≡ true →
     is_value_indicator false (is_adjacent (before_past (before_by a.site.before) a.separation)) more ≡ true → (i : ℕ) (ds : List Indent) → columns i ds ≡ opened t.held.position.col (columns t.held.indent t.held.indents) → AreLevels i ds → has_open_level ds ≡ true →
-    Stands text (colon_end t more ds i (with_start Tok.block_mapping_start t) true [] (None ∷ []))
+    Onward text t.rest (colon_end t more ds i (with_start Tok.block_mapping_start t) true [] (None ∷ []))
 keyless_stands text more t a e allowed apart ind i ds columns_are levels awaits =
     read_outside text t (colon_end t more ds i (with_start Tok.block_mapping_start t) true [] (None ∷ [])) a (58 ∷ []) more (colon_gap more) Tok.value (begun_after t.held.position a.site.blocks) _ refl
     (colon_reads t more ds i (with_start Tok.block_mapping_start t) true [] (None ∷ []) _ e refl refl (ap (opened t.held.position.col) a.blocks_are ∙ sym columns_are) (sym awaits) levels a.was_adjacent)
@@ -62,13 +61,12 @@ keyless_stands text more t a e allowed apart ind i ds columns_are levels awaits 
     bs = not_ended t.held.position.col a.site.blocks
 
 pub keyless_outside : (text more : List ℕ) (t : ScannerState) (a : ArrivesBy text t [] (None ∷ []) []) → t.rest ≡ 58 ∷ more → colon_may_precede more ≡ true → is_value_indicator false (is_adjacent (before_past (before_by a.site.before) a.separation)) more ≡ true → IsDeep t.held →
-    Holds (Stands text) (value_by more t [] (None ∷ []))
+    Holds (Onward text t.rest) (value_by more t [] (None ∷ []))
 unfolding begin_keyless_value begin_keyless_mapping
 keyless_outside text more t a e apart ind deep =
-    chained {P = λ w. (w ≡ record { rest = past_gap more; held = (record rolled { indents = l.indents; indent = l.indent; key_allowed = true }) }) × (t.held.key_allowed ≡ true)}
-    (tried (record { rest = past_gap more; held = (at_value more t [] (None ∷ [])) }) _ (chained {P = λ u. (u ≡ rolled) × (t.held.key_allowed ≡ true)} (checked (not t.held.key_allowed) (At problem.ValueNotAllowed t.held.position) (λ f. went (m.is_held, not-false t.held.key_allowed f)))
-    (λ u d. subst (λ y. Holds (λ z. (z ≡ (record rolled { indents = l.indents; indent = l.indent; key_allowed = true })) × (t.held.key_allowed ≡ true)) (let v = roll_one_col_indent y in Ok (allow_key (not (in_flow v)) v))) (sym d.0) (went (ap (λ v. allow_key (not (in_flow v)) v) l.is_held, d.1)))) (λ s d. (ap (λ y. record { rest = past_gap more; held = y }) d.0, d.1))) (λ w d.
-    went (subst (λ z. Stands text (on_held (push t.held.position Tok.value) z)) (sym d.0) (keyless_stands text more t a e d.1 apart ind l.indent l.indents (l.columns_are ∙ m.columns_are) l.are_levels l.awaits)))
+    exactly _ (held_exactly (record { rest = past_gap more; held = at_value more t [] (None ∷ []) })
+    (exactly _ (checked (not t.held.key_allowed) (At problem.ValueNotAllowed t.held.position) (λ f. went (m.is_held, not-false t.held.key_allowed f))) (λ allowed. went (ap (λ v. allow_key (not (in_flow v)) v) l.is_held, allowed)))) (λ allowed. went
+    (keyless_stands text more t a e allowed apart ind l.indent l.indents (l.columns_are ∙ m.columns_are) l.are_levels l.awaits))
   where
     h : Held
     h = at_value more t [] (None ∷ [])
@@ -101,7 +99,7 @@ with_pair single more t = (if single then t.held.tokens ++ token (pair_position 
 -- what stands after it, with its account
 pub keyless_within : (text more : List ℕ) (t : ScannerState) (f : FlowLevel) (fs : List FlowLevel) (ks : List (Option Key)) (e : Entry) (es : List Entry) (a : ArrivesBy text t (f ∷ fs) (None ∷ ks) (e ∷ es)) → t.rest ≡ 58 ∷ more → colon_may_precede more ≡ true →
     is_value_indicator true (is_adjacent (before_past (before_by a.site.before) a.separation)) more ≡ true → IsDeep t.held →
-    Stands text (colon_end t more t.held.indents t.held.indent (with_pair (opens_pair (f ∷ fs)) more t) false (pair_level InPair f ∷ fs) (None ∷ ks))
+    Onward text t.rest (colon_end t more t.held.indents t.held.indent (with_pair (opens_pair (f ∷ fs)) more t) false (pair_level InPair f ∷ fs) (None ∷ ks))
 unfolding is_break
 keyless_within text more t f fs ks e es a cut apart ind deep =
     goes_inside text t (colon_end t more t.held.indents t.held.indent (with_pair (opens_pair (f ∷ fs)) more t) false (pair_level InPair f ∷ fs) (None ∷ ks)) f (pair_level InPair f) fs None ks e (valued_entry e) es a (58 ∷ []) more Tok.value (colon_gap more)
@@ -122,12 +120,12 @@ keyless_within text more t f fs ks e es a cut apart ind deep =
     })
 
 pub keyless_inside : (text more : List ℕ) (t : ScannerState) (f : FlowLevel) (fs : List FlowLevel) (ks : List (Option Key)) (e : Entry) (es : List Entry) (a : ArrivesBy text t (f ∷ fs) (None ∷ ks) (e ∷ es)) → t.rest ≡ 58 ∷ more → colon_may_precede more ≡ true →
-    is_value_indicator true (is_adjacent (before_past (before_by a.site.before) a.separation)) more ≡ true → IsDeep t.held → Holds (Stands text) (value_by more t (f ∷ fs) (None ∷ ks))
+    is_value_indicator true (is_adjacent (before_past (before_by a.site.before) a.separation)) more ≡ true → IsDeep t.held → Holds (Onward text t.rest) (value_by more t (f ∷ fs) (None ∷ ks))
 unfolding begin_keyless_value begin_keyless_mapping
 keyless_inside text more t f fs ks e es a cut apart ind deep =
     chained {P = λ w. w ≡ record { rest = past_gap more; held = (record t.held { flow = pair_level InPair f ∷ fs; keys = None ∷ ks; position = pair_position (past t.held.position) more; leading = false; key_allowed = false; tokens = with_pair (opens_pair (f ∷ fs)) more t }) }}
     (tried (record { rest = past_gap more; held = at_value more t (f ∷ fs) (None ∷ ks) }) _ (grind (arith, went, opens_none)) (λ s d. ap (λ y. record { rest = past_gap more; held = y }) d)) (λ w d.
-    went (subst (λ z. Stands text (on_held (push t.held.position Tok.value) z)) (sym d) (keyless_within text more t f fs ks e es a cut apart ind deep)))
+    went (subst (λ z. Onward text t.rest (on_held (push t.held.position Tok.value) z)) (sym d) (keyless_within text more t f fs ks e es a cut apart ind deep)))
 
 -- ---- a colon that ends the key that is open: what holds where it begins holds between two fetches after it
 
@@ -149,7 +147,7 @@ module _ (text more : List ℕ) (t : ScannerState) (k : Key) (a : ArrivesBy text
 
   -- no collection ends here
   same_blocks : not_ended t.held.position.col a.site.blocks ≡ a.site.blocks
-  same_blocks = all_go_on t.held.position.col k.position.col a.site.blocks (a.is_open.1 live).column_is ((not_before_then k.position a.site.position t.held.position (weaker k.position a.site.position a.is_open.0) (subst (λ x. NotBefore a.site.position x) (sym a.position_is) (not_before_after a.site.position a.separation t.rest))).1 live.0)
+  same_blocks = all_go_on t.held.position.col k.position.col a.site.blocks (a.is_open.1 live).column_is ((not_before_then k.position a.site.position t.held.position (weaker k.position a.site.position a.is_open.0) (rw a.position_is (not_before_after a.site.position a.separation t.rest))).1 live.0)
 
   -- no line begins before the colon, and it is near
   quiet : (begins_free_line a.site.before a.separation ≡ false) × (is_near k.position t.held.position ≡ true)
@@ -186,7 +184,7 @@ module _ (text more : List ℕ) (t : ScannerState) (k : Key) (a : ArrivesBy text
       (let w : Step = keyless a.separation (58 ∷ []) Tok.value in tokens_up_to (Outer a.site (waits k.position)) (Some k ∷ []) a.tokens (w ∷ ws) last ++ tokens_of_step (Outer a.site (waits k.position)) w ws last ≡ keyed_end.held.tokens)
   keyed_tokens ws last h = grind (arith, quiet, (a.position_is ∙ ap (λ y. position_after a.site.position a.separation y) e), tokens_alike)
 
-  pub keyed_stands : Stands text keyed_end
+  pub keyed_stands : Onward text t.rest keyed_end
   keyed_stands =
       ends_outside text t keyed_end (Some k) a (58 ∷ []) more (colon_gap more) Tok.value outside_after x refl
       (colon_reads t more awaiting.indents awaiting.indent now false [] (None ∷ []) _ e refl refl (ap (opened k.position.col) a.blocks_are ∙ sym (awaiting.columns_are ∙ rolled.columns_are)) (sym awaiting.awaits) awaiting.are_levels a.was_adjacent)
@@ -194,11 +192,11 @@ module _ (text more : List ℕ) (t : ScannerState) (k : Key) (a : ArrivesBy text
       (is_written text a.site a.separation (58 ∷ []) more Tok.value x same_site true false (waits k.position) (waits k.position) outside_after (grind (arith, (ap is_empty e), quiet, no_waiting))) refl
       (λ strict. goes_of strict text more (outer_then text a.site a.separation (58 ∷ []) more Tok.value x same_site outside_after) keyed_end.held.tokens refl refl
       (outer_completes text a.site a.separation (58 ∷ []) more Tok.value x same_site true false (waits k.position) (waits k.position) outside_after (tokens_up_to (Outer a.site (waits k.position)) (Some k ∷ []) a.tokens) (λ ws last. keyed_end.held.tokens) (grind (arith, (ap is_empty e), quiet, no_waiting)) keyed_tokens
-      (subst (λ y. Completes text (a.separation ++ y) (Outer a.site (waits k.position)) (tokens_up_to (Outer a.site (waits k.position)) (Some k ∷ []) a.tokens)) e (a.completes true true [] live))))
+      (rw (sym e) (a.completes true true [] live))))
 
-  pub keyed_outside : Holds (Stands text) (value_by more t [] (Some k ∷ []))
+  pub keyed_outside : Holds (Onward text t.rest) (value_by more t [] (Some k ∷ []))
   unfolding insert_key begin_pair
-  keyed_outside = subst (λ r. Holds (Stands text) r) (sym (grind arith)) (went keyed_stands)
+  keyed_outside = subst (λ r. Holds (Onward text t.rest) r) (sym (grind arith)) (went keyed_stands)
 
 -- ---- in flow
 
@@ -252,7 +250,7 @@ module _ (text more : List ℕ) (t : ScannerState) (f : FlowLevel) (fs : List Fl
       (keys_along (λ m. suc m) (λ m. suc m) (λ m. refl) (λ m. refl) 0 a.site.position (past_step a.site.position w ws last) w ws last (λ m. refl) a.site.blocks l ys ks (put_in ++ shown) ∙
       ap (λ ts. with_keys 1 (past_step a.site.position w ws last) ws last a.site.blocks l ys ks ts) (ap (λ r. first r ++ (put (position_after a.site.position a.separation (58 ∷ r)) Tok.value ∷ [])) h ∙ inner_alike))
 
-  pub inner_stands : (not (opens_pair (f ∷ fs)) || (k.position.line == t.held.position.line)) ≡ true → Stands text inner_after
+  pub inner_stands : (not (opens_pair (f ∷ fs)) || (k.position.line == t.held.position.line)) ≡ true → Onward text t.rest inner_after
   unfolding is_break
   inner_stands its_line =
       steps_in_flow text t inner_after f fs (Some k) ks x es a (58 ∷ []) more Tok.value (None ∷ ks) (valued_entry x ∷ es) (pair_level InPair f ∷ fs) (colon_gap more)
@@ -275,11 +273,8 @@ module _ (text more : List ℕ) (t : ScannerState) (f : FlowLevel) (fs : List Fl
         tokens_are = inner_tokens;
       })
 
-  pub keyed_inside : k.position.line ≤ t.held.position.line → Holds (Stands text) (value_by more t (f ∷ fs) (Some k ∷ ks))
-  keyed_inside early =
-      chained {P = λ w. (w ≡ record { rest = past_gap more; held = held_pair f }) × ((not (opens_pair (f ∷ fs)) || (k.position.line == t.held.position.line)) ≡ true)}
-      (tried (record { rest = past_gap more; held = at_value more t (f ∷ fs) (Some k ∷ ks) }) (insert_key k t.held.position (opens_pair (f ∷ fs)) (at_value more t (f ∷ fs) (Some k ∷ ks))) (pair_begun f early) (λ s i. (ap (λ y. record { rest = past_gap more; held = y }) i.0, i.1))) (λ w i.
-      went (subst (λ z. Stands text (on_held (push t.held.position Tok.value) z)) (sym i.0) (inner_stands i.1)))
+  pub keyed_inside : k.position.line ≤ t.held.position.line → Holds (Onward text t.rest) (value_by more t (f ∷ fs) (Some k ∷ ks))
+  keyed_inside early = exactly _ (held_exactly (record { rest = past_gap more; held = at_value more t (f ∷ fs) (Some k ∷ ks) }) (pair_begun f early)) (λ its_line. went (inner_stands its_line))
 
 -- ---- the open key of an entry began on the scanner's line, or before it: so a row says it in which it waits
 
@@ -295,7 +290,7 @@ key_before text t f fs k ks x es a some = by (outside_key es ks) refl
 
     may : (y : Option Key) → outside_key es ks ≡ y → MayChoose true false y t.held.position t.rest → k.position.line ≤ t.held.position.line
     may y i h =
-        let g = (a.completes true false (true ∷ []) (subst (λ z. MayChoose true false z t.held.position t.rest) (sym i) h)).0 in
+        let g = (a.completes true false (true ∷ []) (rw i h)).0 in
         early (keys_before (Some first_account) g.steps (a.separation ++ t.rest) b g.leads tt)
 
     by : (y : Option Key) → outside_key es ks ≡ y → k.position.line ≤ t.held.position.line
@@ -312,11 +307,11 @@ key_before text t f fs k ks x es a some = by (outside_key es ks) refl
 -- ---- the function of the model that reads a colon: what holds where it begins holds between two fetches after it
 
 -- A colon that is the indicator of a value is read as in the row.
-pub value_keeps : (text more : List ℕ) (t : ScannerState) → Arrives text t → t.rest ≡ 58 ∷ more → is_value t ≡ true → IsDeep t.held → Holds (Stands text) (fetch_value t)
+pub value_keeps : (text more : List ℕ) (t : ScannerState) → Arrives text t → t.rest ≡ 58 ∷ more → is_value t ≡ true → IsDeep t.held → Holds (Onward text t.rest) (fetch_value t)
 unfolding fetch_value
 value_keeps text more t a e ind deep =
-    subst (λ l. Holds (Stands text) (check_value_space (record { rest = after l; held = h }) >>= value_on)) (sym e)
-    (chained (colon_spaced more h) (λ u d. subst (λ y. Holds (Stands text) (value_on y)) (sym d.0) (by d.1)))
+    subst (λ l. Holds (Onward text t.rest) (check_value_space (record { rest = after l; held = h }) >>= value_on)) (sym e)
+    (exactly _ (colon_spaced more h) by)
   where
     h : Held
     h = record t.held { flow = paired t.held.flow; position = past t.held.position; leading = false }
@@ -324,14 +319,14 @@ value_keeps text more t a e ind deep =
     value_on : ScannerState → Result ScannerState Fault
     value_on u = try_held (λ s. value_of (top_key s.keys) t.held.position (opens_pair t.held.flow) s) u >>= λ v. Ok (on_held (push t.held.position Tok.value) v)
 
-    outer : (k : Option Key) → ArrivesBy text (with_sides t [] (k ∷ [])) [] (k ∷ []) [] → colon_may_precede more ≡ true → is_value (with_sides t [] (k ∷ [])) ≡ true → Holds (Stands text) (value_by more (with_sides t [] (k ∷ [])) [] (k ∷ []))
+    outer : (k : Option Key) → ArrivesBy text (with_sides t [] (k ∷ [])) [] (k ∷ []) [] → colon_may_precede more ≡ true → is_value (with_sides t [] (k ∷ [])) ≡ true → Holds (Onward text t.rest) (value_by more (with_sides t [] (k ∷ [])) [] (k ∷ []))
     outer None x apart ind = keyless_outside text more _ x e apart (value_here text more _ [] (None ∷ []) [] x refl e ind) deep
     outer (Some k) x apart ind = keyed_outside text more _ k x e apart (value_here text more _ [] (Some k ∷ []) [] x refl e ind)
 
     inner : (f : FlowLevel) (fs : List FlowLevel) (k : Option Key) (ks : List (Option Key)) (y : Entry) (es : List Entry) → ArrivesBy text (with_sides t (f ∷ fs) (k ∷ ks)) (f ∷ fs) (k ∷ ks) (y ∷ es) → colon_may_precede more ≡ true →
-        is_value (with_sides t (f ∷ fs) (k ∷ ks)) ≡ true → Holds (Stands text) (value_by more (with_sides t (f ∷ fs) (k ∷ ks)) (f ∷ fs) (k ∷ ks))
+        is_value (with_sides t (f ∷ fs) (k ∷ ks)) ≡ true → Holds (Onward text t.rest) (value_by more (with_sides t (f ∷ fs) (k ∷ ks)) (f ∷ fs) (k ∷ ks))
     inner f fs None ks y es x apart ind = keyless_inside text more _ f fs ks y es x e apart (value_here text more _ (f ∷ fs) (None ∷ ks) (y ∷ es) x refl e ind) deep
     inner f fs (Some k) ks y es x apart ind = keyed_inside text more _ f fs k ks y es x e apart (value_here text more _ (f ∷ fs) (Some k ∷ ks) (y ∷ es) x refl e ind) deep (key_before text _ f fs k ks y es x (ap is_empty e))
 
-    by : colon_may_precede more ≡ true → Holds (Stands text) (value_on (past_colon more h))
-    by apart = by_sides text t (λ v. is_value v ≡ true → Holds (Stands text) (value_by more v v.held.flow v.held.keys)) a (λ k x n. outer k x apart) (λ f fs k ks y es x. inner f fs k ks y es x apart) ind
+    by : colon_may_precede more ≡ true → Holds (Onward text t.rest) (value_on (past_colon more h))
+    by apart = by_sides text t (λ v. is_value v ≡ true → Holds (Onward text t.rest) (value_by more v v.held.flow v.held.keys)) a (λ k x n. outer k x apart) (λ f fs k ks y es x. inner f fs k ks y es x apart) ind

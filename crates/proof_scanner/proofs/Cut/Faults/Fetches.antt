@@ -1,6 +1,6 @@
 -- A refusal for a fault that stands in a text by itself comes only where that fault stands.
 use Rattle.proof_scanner.proofs.Common.{At, Fault, has_no_nul, is_shown, IsRefused, IsThere, List, OutOfMemory, true, ℕ, ◌≡◌, nat_tests, eqb-true, arith}
-use Rattle.proof_scanner.proofs.Refusals.Places.{kind}
+use Rattle.proof_scanner.proofs.Refusals.Common.{kind}
 use Rattle.proof_scanner.proofs.Refusals.Refusals.{refusal_said}
 
 -- A text is refused for such a fault only where it stands in it.

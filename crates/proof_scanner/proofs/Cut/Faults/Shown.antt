@@ -1,5 +1,5 @@
 -- What is wrong where a piece begins stands in the text, if it is a fault that stands there by itself.
-use Rattle.proof_scanner.proofs.Common.{[], account_past_separation, ap, arith, Arrives, At, before_by, before_past, Bool, chosen, Entry, entries_by, Fails, false, is_empty, is_in_flow, is_shown, IsCutUpTo, IsSpot, IsThere, Key, length, List, nat_tests, None, not, Option, Problem, refl, ScannerState, subst, suc, sym, true, ℕ, ◌++◌, ◌∙◌, ◌∷◌, ◌≡◌, Position, eqb-true, Fault, AnchorIndentation, bad_escape, open_quote, marked_quote, too_deep, entry_in_flow, dash_in_flow}
+use Rattle.proof_scanner.proofs.Common.{[], account_past_separation, ap, arith, Arrives, At, before_by, before_past, Bool, chosen, Entry, entries_by, Fails, false, is_empty, is_in_flow, is_shown, IsCutUpTo, IsSpot, IsThere, Key, length, List, nat_tests, None, not, Option, Problem, refl, ScannerState, suc, sym, true, ℕ, ◌++◌, ◌∙◌, ◌∷◌, ◌≡◌, Position, eqb-true, Fault, AnchorIndentation, bad_escape, open_quote, marked_quote, too_deep, entry_in_flow, dash_in_flow}
 use Rattle.defs_token.specs.Account.{Account}
 use Rattle.proof_row.proofs.CutPieces.{account_by}
 use Rattle.proof_row.proofs.CutSteps.{somes, with_key, levels_in}
@@ -41,7 +41,7 @@ module _ (text : List ℕ) (t : ScannerState) (a : Arrives text t) where
 
   -- where a piece begins is a position after a row of pieces
   spot : (rest : List ℕ) → t.rest ≡ rest → IsSpot text rest now
-  spot rest e = subst (λ r. IsSpot text r now) e (record {
+  spot rest e = rw (sym e) (record {
     row = c.row;
     separation = a.separation;
     is_text = c.is_text;

@@ -1,5 +1,5 @@
 -- What the scan of a quoted scalar reads is its piece.
-use Rattle.proof_scanner.proofs.Common.{◌-◌, subst, [], and_parts, ap, append_assoc, are_single, begins_with, Bool, ends_before, has_no_nul, is_some, IsPiece, IsQuotedRead, List, list_all, not, Option, Position, position_after, quote_of, quoted, quoted_style, QuotedIsRead, Quotes, read_as, ReadAs, refl, scalar, Some, sym, Tok, true, value_of, ℕ, ◌++◌, ◌==◌, ◌∙◌, ◌∷◌, ◌≡◌, arith, nat_tests, eqb-true}
+use Rattle.proof_scanner.proofs.Common.{◌-◌, [], and_parts, ap, append_assoc, are_single, begins_with, Bool, ends_before, has_no_nul, is_some, IsPiece, IsQuotedRead, List, list_all, not, Option, Position, position_after, quote_of, quoted, quoted_style, QuotedIsRead, Quotes, read_as, ReadAs, refl, scalar, Some, sym, Tok, true, value_of, ℕ, ◌++◌, ◌==◌, ◌∙◌, ◌∷◌, ◌≡◌, arith, nat_tests, eqb-true}
 use Rattle.defs_text.specs.Classes as classes
 use Rattle.defs_token.specs.Account.{Account}
 use Rattle.proof_lexers.proofs.Quoted.ScanEnds.{scans_end}
@@ -36,6 +36,6 @@ module _ (a : Account) (more body rest value : List ℕ) where
 pub quoted_is_read : QuotedIsRead
 quoted_is_read a quotes ctx more r nul e =
     let q : IsQuotedRead (are_single quotes) more r = read_as e (scans_end (are_single quotes) ctx more a.position (some_chars more nul)) in
-    let there = body_read (are_single quotes) ctx a.position (ctx.indent - 1) (λ k. same_limit k ctx.indent) q.body r (subst (λ l. list_all is_some l ≡ true) q.is_text (some_chars more nul))
+    let there = body_read (are_single quotes) ctx a.position (ctx.indent - 1) (λ k. same_limit k ctx.indent) q.body r (rw (sym q.is_text) (some_chars more nul))
     (ap (λ l. quoted (are_single quotes) ctx (quote_of (are_single quotes) ∷ l) a.position) (sym q.is_text) ∙ e) in
     found a more q.body r.rest r.value quotes r.position q.is_text q.is_value q.may_end there.end_is

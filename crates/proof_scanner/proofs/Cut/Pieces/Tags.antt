@@ -1,5 +1,5 @@
 -- What the scan of a tag reads is its piece.
-use Rattle.proof_scanner.proofs.Common.{inr, inl, cases_Bool, [], after, all_leading, ap, begins_with_mark, Bool, codes, eqb-true, false, has_no_break, is_alpha, is_break, is_decimal_digit, is_letter, is_same, is_tag, is_uri, IsTagRead, leading, List, may_follow, Ok, Position, position_in_line, Read, read_as, refl, shorthand, Some, span_cut, subst, sym, Tag, tag_of_class, TagIsRead, tags_end, Tok, true, verbatim, whole_tag, written_tag, ℕ, ◌++◌, ◌==◌, ◌∙◌, ◌∷◌, ◌≡◌, arith, nat_tests}
+use Rattle.proof_scanner.proofs.Common.{inr, inl, cases_Bool, [], after, all_leading, ap, begins_with_mark, Bool, codes, eqb-true, false, has_no_break, is_alpha, is_break, is_decimal_digit, is_letter, is_same, is_tag, is_uri, IsTagRead, leading, List, Ok, Position, position_in_line, Read, read_as, refl, shorthand, Some, span_cut, sym, Tag, tag_of_class, TagIsRead, tags_end, Tok, true, verbatim, whole_tag, written_tag, ℕ, ◌++◌, ◌==◌, ◌∙◌, ◌∷◌, ◌≡◌, arith, nat_tests}
 use Rattle.defs_text.specs.Tags.{named}
 use Rattle.model_scanner.specs.Tag as models
 use Rattle.proof_scanner.proofs.Cut.Pieces.Separations.{no_break_append}
@@ -77,7 +77,7 @@ tag_property fl p text more e x k = by x (read_as (ap (λ r. models.tag fl r p) 
           cut = e ∙ ap (λ l. 33 ∷ l) cut;
           in_line = line;
           end_is = position_in_line p (33 ∷ piece) rest line;
-          is_piece = λ a following q flow. ((is, subst (λ b. may_follow b rest ≡ true) (sym flow) follows), sym q);
+          is_piece = λ a following q flow. ((is, rw flow follows), sym q);
         }
 
 -- a tag that was read is the piece of its token
