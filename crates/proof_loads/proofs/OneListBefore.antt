@@ -156,8 +156,7 @@ same_blame keep_tags tokens es fs f g a b =
 pub one_blame : (keep_tags : Bool) (tokens : List Token) (es fs : List (Ev × Position)) (f g : ErrorReport) → Blames f [] keep_tags tokens es → Blames g [] keep_tags tokens fs → f ≡ g
 one_blame keep_tags tokens es fs f g a b =
     let same = same_blame keep_tags tokens es fs f g a b in
-    let stands : StandsAt a.problem g.position a.before a.last =
-    subst (λ p. StandsAt p g.position a.before a.last) (sym same.2) (subst (λ ts. StandsAt b.problem g.position ts a.last) (sym same.0) (subst (StandsAt b.problem g.position b.before) (sym same.1) b.stands)) in
+    let stands : StandsAt a.problem g.position a.before a.last = rw (same.2, same.0, same.1) (b.stands) in
     let place : f.position ≡ g.position = one_place a.problem a.before a.last f.position g.position a.stands stands in
     a.shown ∙ ap (λ p. fault_of (At p f.position) f.position) same.2 ∙ ap (λ x. fault_of (At b.problem x) x) place ∙ sym b.shown
 
@@ -241,10 +240,7 @@ beside_one : (keep_tags : Bool) (text : List ℕ) (tokens : List Token) (es fs :
 beside_one keep_tags text tokens es fs f g first none a b =
     let same = same_blame keep_tags tokens es fs f g a b in
     let going : toks b.before ≡ [] → ⊥ = λ nothing. alone b.before nothing b.whole in
-    let one : StandsBefore b.problem b.before b.last.position (stood a.raw es) =
-    subst (λ q. StandsBefore q b.before b.last.position (stood a.raw es)) same.2
-    (subst (λ ts. StandsBefore a.problem ts b.last.position (stood a.raw es)) same.0
-    (subst (λ (t : Token). StandsBefore a.problem a.before t.position (stood a.raw es)) same.1 (a.beside (λ nothing. going (ap toks (sym same.0) ∙ nothing))))) in
+    let one : StandsBefore b.problem b.before b.last.position (stood a.raw es) = rw (← same.2, ← same.0, ← same.1) (a.beside (λ nothing. going (ap toks (sym same.0) ∙ nothing))) in
     let count = many [] keep_tags a.raw es a.derived.named in
     let other_count = many [] keep_tags b.raw fs b.derived.named in
     same_events keep_tags no_names (stood a.raw es) (stood b.raw fs) es fs (one_beside b.problem b.before b.last.position (stood a.raw es) (stood b.raw fs) one (b.beside going))

@@ -30,14 +30,10 @@ is_in_flow c = not (is_flow c) && not (c == 32)
 abbrev pub MayFlow : (in_flow : Bool) → List ℕ → Type 0
 MayFlow in_flow w = in_flow ≡ true → list_all is_in_flow w ≡ true
 
-no_break : (w : List ℕ) → are_plain w ≡ true → has_no_break w ≡ true
-no_break [] h = refl
-no_break (c ∷ w) h = let q = and_parts (is_plain_char c) (are_plain w) h in rw ((plain_char c q.0).break) (no_break w q.1)
-
 -- ---- the value
 
 elements_are : (w : List ℕ) → are_plain w ≡ true → IsOneLine plain_element w w
-elements_are [] h = record { all = []; are = refl; in_line = nothing }
+elements_are [] h = nothing
 elements_are (c ∷ w) h = let q = and_parts (is_plain_char c) (are_plain w) h in plain_step plain_element c w w refl (plain_char c q.0).break (elements_are w q.1)
 
 -- ---- its lines
@@ -124,13 +120,13 @@ plain_piece in_flow collection (c ∷ v) next text flow stops =
     let one = (first_char c text.first).0 in
     let all : are_plain (c ∷ v) ≡ true = and_from _ _ one text.chars in
     let full = ends_full c v one text.chars (rw (first_space c text.first) text.close) in
-    let line = no_break (c ∷ v) all in
+    let z = elements_are (c ∷ v) all in
     record {
       begins = λ adjacent column. begins in_flow adjacent column c v next text.first text.second text.chars flow;
       whole = rw (goes_over in_flow collection next false v text.chars (λ e. (and_parts (is_in_flow c) (list_all is_in_flow v) (flow e)).1), full, stops) refl;
-      value = value_is plain_element (c ∷ v) (c ∷ v) (elements_are (c ∷ v) all) line;
-      fits = λ column. rw (is_one_line (c ∷ v) line) refl;
-      no_break = line;
+      value = value_is plain_element (c ∷ v) (c ∷ v) z;
+      fits = λ column. rw (is_one_line (c ∷ v) z.no_break) refl;
+      no_break = z.no_break;
       some = refl;
       no_dash = dashless in_flow (c ∷ v) next all flow;
       none = of_class is_plain_char refl (c ∷ v) all;
