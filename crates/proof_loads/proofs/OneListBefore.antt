@@ -177,17 +177,12 @@ refused_first keep_tags before ts last events none b w =
 
 -- a list that begins another one with a last token begins what stands before it, or is all
 pub last_or_before : (xs ys more : List Token) (u : Token) → ys ++ u ∷ [] ≡ xs ++ more → (xs ≡ ys ++ u ∷ []) ⊎ BeginsWith xs ys
-last_or_before xs ys [] u e = inl (sym (e ∙ append-nil xs))
-last_or_before xs ys (t ∷ more) u e = inr (by more t e)
-  where
-    ends : (ts : List Token) (t : Token) → (zs : List Token) × (z : Token) × (t ∷ ts ≡ zs ++ z ∷ [])
-    ends [] t = ([], t, refl)
-    ends (x ∷ ts) t = let r = ends ts x in (t ∷ r.0, r.1, ap (λ us. t ∷ us) r.2)
-
-    by : (more : List Token) (t : Token) → ys ++ u ∷ [] ≡ xs ++ t ∷ more → BeginsWith xs ys
-    by more t e =
-        let r = ends more t in
-        record { more = r.0; whole = (last_of ys (xs ++ r.0) u r.1 (e ∙ ap (λ us. xs ++ us) r.2 ∙ sym (append_assoc xs r.0 (r.1 ∷ [])))).0 }
+last_or_before [] ys more u e = inr (record { more = ys; whole = refl })
+last_or_before (x ∷ []) [] more u e = inl cc
+last_or_before (x ∷ y ∷ xs) [] more u e = absurd cc
+last_or_before (x ∷ xs) (y ∷ ys) more u e =
+    let rest : ys ++ u ∷ [] ≡ xs ++ more = cc in
+    elim (last_or_before xs ys more u rest) [ inl d ↦ inl (cc (d)) | inr d ↦ inr (record { more = d.more; whole = cc (d.whole) }) ]
 
 -- ---- of the scanner
 

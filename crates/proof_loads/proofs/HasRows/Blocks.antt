@@ -1,8 +1,8 @@
 -- Steps outside flow that begin at a column, after block collections that end there.
-use Rattle.proof_loads.proofs.TokensCommon.{[], act_of, and_parts, another, ap, arith, awaits_past, begins_free_line, begins_with_space_or_break, begun_by, begun_outside, Bool, colon_may_precede, dash_may_precede, false, free, further_lines_stand, gives_node, has_break, has_no_break, has_tab_before_piece, has_tab_within, inl, is_at_gap, is_break, is_deeper, is_in_column, is_marker, is_separation, is_waiting, IsShown, last_line, le-ltb, least_column, length, length-append, line_past, line_past_separation, List, may_precede, nat_lt, not, not-true, not_ended, opened, Position, position_after, Previous, previous_by, put, refl, replicate, Some, start_if, suc, taken, Tok, Token, toks, true, ℕ, ◌&&◌, ◌++◌, ◌+◌, ◌-◌, ◌<◌, ◌∙◌, ◌∷◌, ◌≡◌, ◌≤◌}
+use Rattle.proof_loads.proofs.TokensCommon.{[], act_of, and_parts, another, ap, arith, awaits_past, begins_free_line, begins_with, begins_with_space_or_break, begun_by, begun_outside, Bool, colon_may_precede, dash_may_precede, false, free, further_lines_stand, gives_node, has_break, has_no_break, has_tab_before_piece, has_tab_within, inl, innermost, inside, is_at_gap, is_blank, is_break, is_deeper, is_in_column, is_marker, is_nul, is_separation, is_waiting, IsShown, last_line, le-ltb, least_column, length, length-append, line_past, line_past_separation, List, may_precede, nat_lt, not, not-true, not_ended, opened, Position, position_after, Previous, previous_by, put, quoted_may_end, refl, replicate, Some, start_if, stops, suc, taken, Tok, Token, toks, true, ℕ, ◌&&◌, ◌++◌, ◌+◌, ◌-◌, ◌<◌, ◌∙◌, ◌∷◌, ◌≡◌, ◌≤◌}
 use Rattle.defs_token.specs.Key.{Line}
 use Rattle.proof_loads.proofs.HasRows.Steps.{Reads, at, step_of, site_of, Steps, step, ended}
-use Rattle.proof_loads.proofs.HasRows.Nodes.{or_true, deeper}
+use Rattle.proof_loads.proofs.HasRows.Nodes.{or_true, deeper, Quiet}
 use Rattle.proof_loads.proofs.Nul.{HasNone}
 
 -- ---- columns
@@ -148,18 +148,27 @@ module _ (bs bs' next : List ℕ) (begin p : Position) (awaits : Bool) (before :
   colon_step : Steps (at p bs awaits before (Line.waits begin) []) (step_of [] (58 ∷ []) Tok.value false) next (at (position_after p (58 ∷ []) next) bs' true another taken []) []
   colon_step = grind arith
 
+-- what the piece of a scalar and its token say
+pub record IsScalarPiece (w : List ℕ) (t : Tok) : Type 0 where
+  pub node : (act_of t ≡ gives_node) × (begun_by t ≡ []) × Quiet (previous_by t)
+  pub no_break : has_no_break w ≡ true
+  pub none : HasNone w
+  pub further : (column : ℕ) → further_lines_stand column t w ≡ true
+  pub shown : (bs : List ℕ) (key : Bool) (r : List ℕ) → stops false (innermost bs) inside r ≡ true → begins_with 39 r ≡ false → ShownAt bs w t key r
+  pub precedes : (bs r : List ℕ) → quoted_may_end false w r ≡ true → may_precede false bs t w r ≡ true
+
 -- a key and its colon
-pub key_reads : (c : ℕ) (bs w : List ℕ) (t : Tok) (next : List ℕ) (tokens : List Tok) → act_of t ≡ gives_node → begun_by t ≡ [] → begins_free_line (previous_by t) [] ≡ false → has_no_break w ≡ true → HasNone w → length w ≤ 1024
-    → ((is_open : Bool) → ShownAt (stood is_open c bs) w t true (58 ∷ next)) → ((column : ℕ) → further_lines_stand column t w ≡ true) → ((is_open : Bool) → may_precede false (stood is_open c bs) t w (58 ∷ next) ≡ true)
+pub key_reads : (c : ℕ) (bs w : List ℕ) (t : Tok) (next : List ℕ) (tokens : List Tok) → IsScalarPiece w t → length w ≤ 1024
     → is_at_gap next ≡ true → colon_may_precede next ≡ true → ((p : Position) → suc c ≤ p.col → Reads (at p (c ∷ bs) true another taken []) next tokens)
     → Comes c bs (w ++ 58 ∷ next) Tok.block_mapping_start (Tok.key ∷ t ∷ Tok.value ∷ tokens)
-unfolding is_break
-key_reads c bs w t next tokens node none quiet one_line clean short shown further precede gap follows rest =
-    at_column c bs w t true (58 ∷ next) Tok.block_mapping_start (Tok.key ∷ []) (Tok.value ∷ tokens) (λ o. stood o c bs) Line.waits (rw node refl) clean shown further precede
-    (λ o must here col may. rw node refl) (λ here. rw one_line refl) (λ o here colon. start_is o colon Tok.block_mapping_start (put here Tok.key ∷ []))
+unfolding is_blank is_break is_nul
+key_reads c bs w t next tokens z short gap follows rest =
+    at_column c bs w t true (58 ∷ next) Tok.block_mapping_start (Tok.key ∷ []) (Tok.value ∷ tokens) (λ o. stood o c bs) Line.waits (rw (z.node.0) refl) z.none
+    (λ o. z.shown (stood o c bs) true (58 ∷ next) (rw gap refl) refl) z.further (λ o. z.precedes (stood o c bs) (58 ∷ next) (rw (z.no_break) refl))
+    (λ o must here col may. rw (z.node.0) refl) (λ here. rw (z.no_break) refl) (λ o here colon. start_is o colon Tok.block_mapping_start (put here Tok.key ∷ []))
     (λ o here awaits col may.
     let past = position_after here w (58 ∷ next) in
-    let z = along w here (58 ∷ next) one_line in
+    let x = along w here (58 ∷ next) z.no_break in
     let on : Stay past.col (stood o c bs) = let low = stands o c bs may in grind arith in
     let opened_at : opened here.col (stood o c bs) ≡ c ∷ bs = rw col (opens o c bs may) in
-    rw none (step (step_of [] (58 ∷ []) Tok.value false) next (colon_step (stood o c bs) (c ∷ bs) next here past awaits (previous_by t) on (omega (arith, z, short)) opened_at gap follows quiet) (rest (position_after past (58 ∷ []) next) (omega (arith, z, col)))))
+    rw (z.node.1) (step (step_of [] (58 ∷ []) Tok.value false) next (colon_step (stood o c bs) (c ∷ bs) next here past awaits (previous_by t) on (omega (arith, x, short)) opened_at gap follows (z.node.2 [])) (rest (position_after past (58 ∷ []) next) (omega (arith, x, col)))))

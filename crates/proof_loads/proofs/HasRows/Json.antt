@@ -224,17 +224,9 @@ at_end = record { done = λ piece. refl; rest = λ piece. refl; no_comment = ref
 at_mark : (c : ℕ) (r : List ℕ) → is_blank c ≡ false → (c == 35) ≡ false → is_one_of (codes ",]}:") c ≡ true → Edge true (c ∷ r)
 at_mark c r no_blank hash mark = grind arith
 
-stop_at : (collection : Option ℕ) (c : ℕ) (r : List ℕ) → is_blank c ≡ false → is_break c ≡ false → is_flow c ≡ true → Stops true collection (c ∷ r)
-stop_at collection c r no_blank break flow s = rw (no_blank, break, flow) (or_true _)
-
-pub comma_ends : (collection : Option ℕ) (g : List Blank) (r : List ℕ) → Ends true collection (spell_gap g (44 ∷ r))
-unfolding is_blank is_break is_flow
-comma_ends collection g r = ends true (44 ∷ r) (at_mark 44 r refl refl refl) collection (stop_at collection 44 r refl refl refl) g
-
-pub closing_ends : (b : Bool) (collection : Option ℕ) (g : List Blank) (r : List ℕ) → Ends true collection (spell_gap g (closing_bracket b ∷ r))
-unfolding is_blank is_break is_flow
-closing_ends true collection g r = ends true (125 ∷ r) (at_mark 125 r refl refl refl) collection (stop_at collection 125 r refl refl refl) g
-closing_ends false collection g r = ends true (93 ∷ r) (at_mark 93 r refl refl refl) collection (stop_at collection 93 r refl refl refl) g
+-- one that ends an entry
+flow_ends : (collection : Option ℕ) (c : ℕ) (g : List Blank) (r : List ℕ) → is_blank c ≡ false → is_break c ≡ false → is_flow c ≡ true → (c == 35) ≡ false → is_one_of (codes ",]}:") c ≡ true → Ends true collection (spell_gap g (c ∷ r))
+flow_ends collection c g r no_blank break flow hash mark = ends true (c ∷ r) (at_mark c r no_blank hash mark) collection (λ s. rw (no_blank, break, flow) (or_true _)) g
 
 pub colon_follows : (g : List Blank) (r piece : List ℕ) → quoted_may_end true piece (spell_gap g (58 ∷ r)) ≡ true
 unfolding is_blank
@@ -254,8 +246,6 @@ solid_past (b ∷ g) r h z = record { no_tab = grind arith; no_comment = grind a
 
 pub colon_stands : (r : List ℕ) → IsSolid r → colon_may_precede r ≡ true
 colon_stands r z = rw (z.no_tab) refl
-
--- ---- words and numbers
 
 -- ---- what a value begins with
 
@@ -364,6 +354,8 @@ module _ (bs : List ℕ) where
       hash a = grind arith
 
   mutual
+    unfolding is_blank is_break is_flow
+
     pub value_reads : (v : Json) → IsJson v → (is_empty bs ≡ false → HasSpaces v) → ReadsValue v
     value_reads false_word is may pl text r tokens parts ends few rest = word_reads bs (codes "false") (record { chars = refl; begins = refl }) pl text r tokens parts ends rest
     value_reads null_word is may pl text r tokens parts ends few rest = word_reads bs (codes "null") (record { chars = refl; begins = refl }) pl text r tokens parts ends rest
@@ -386,10 +378,10 @@ module _ (bs : List ℕ) where
 
     elements_read : (es : Elements) → AreElements es → (is_empty bs ≡ false → HaveSpaces es) → ReadsElements es
     elements_read (last_element v a) are may around g r tokens gap no_comment few rest =
-        value_reads v are.0 (λ e. (may e).0) (within false around) _ (spell_gap a (93 ∷ r)) (flow_sequence_end ∷ tokens) (blanks bs g _ gap) (closing_ends false (innermost bs) a r) (omega (arith, few))
+        value_reads v are.0 (λ e. (may e).0) (within false around) _ (spell_gap a (93 ∷ r)) (flow_sequence_end ∷ tokens) (blanks bs g _ gap) (flow_ends (innermost bs) 93 a r refl refl refl refl refl) (omega (arith, few))
         (bracket_closes bs false filled refl around a r tokens (λ e. (may e).1) no_comment rest)
     elements_read (element v a b es) are may around g r tokens gap no_comment few rest =
-        value_reads v are.0 (λ e. (may e).0) (within false around) _ (spell_gap a (44 ∷ spell_gap b (spell_elements es (93 ∷ r)))) _ (blanks bs g _ gap) (comma_ends (innermost bs) a _) (omega (arith, few))
+        value_reads v are.0 (λ e. (may e).0) (within false around) _ (spell_gap a (44 ∷ spell_gap b (spell_elements es (93 ∷ r)))) _ (blanks bs g _ gap) (flow_ends (innermost bs) 44 a _ refl refl refl refl refl) (omega (arith, few))
         (comma_goes bs false filled refl around a (spell_gap b (spell_elements es (93 ∷ r))) _ (λ e. (may e).1) (solid_past b _ are.2 (elements_solid es _ are.3)).no_comment
         (elements_read es are.3 (λ e. (may e).3) around b r tokens (λ e. (may e).2) no_comment (omega (arith, few)) rest))
 
@@ -397,12 +389,12 @@ module _ (bs : List ℕ) where
     members_read (last_member k g h v a) are may around f r tokens gap no_comment few rest =
         let next = spell_gap h (spell v (spell_gap a (125 ∷ r))) in
         key_goes bs k are.0 around _ g next _ (blanks bs f _ gap) (λ e. (may e).0) (colon_stands next (solid_past h _ are.2 (value_solid v _ are.3)))
-        (value_reads v are.3 (λ e. (may e).2) (within true around) _ (spell_gap a (125 ∷ r)) (flow_mapping_end ∷ tokens) (blanks bs h _ (λ e. (may e).1)) (closing_ends true (innermost bs) a r) (omega (arith, few))
+        (value_reads v are.3 (λ e. (may e).2) (within true around) _ (spell_gap a (125 ∷ r)) (flow_mapping_end ∷ tokens) (blanks bs h _ (λ e. (may e).1)) (flow_ends (innermost bs) 125 a r refl refl refl refl refl) (omega (arith, few))
         (bracket_closes bs true settled refl around a r tokens (λ e. (may e).3) no_comment rest))
     members_read (member k g h v a b ms) are may around f r tokens gap no_comment few rest =
         let last = spell_gap a (44 ∷ spell_gap b (spell_members ms (125 ∷ r))) in
         let next = spell_gap h (spell v last) in
         key_goes bs k are.0 around _ g next _ (blanks bs f _ gap) (λ e. (may e).0) (colon_stands next (solid_past h _ are.2 (value_solid v _ are.3)))
-        (value_reads v are.3 (λ e. (may e).2) (within true around) _ last _ (blanks bs h _ (λ e. (may e).1)) (comma_ends (innermost bs) a _) (omega (arith, few))
+        (value_reads v are.3 (λ e. (may e).2) (within true around) _ last _ (blanks bs h _ (λ e. (may e).1)) (flow_ends (innermost bs) 44 a _ refl refl refl refl refl) (omega (arith, few))
         (comma_goes bs true settled refl around a (spell_gap b (spell_members ms (125 ∷ r))) _ (λ e. (may e).3) (solid_past b _ are.5 (members_solid ms _)).no_comment
         (members_read ms are.6 (λ e. (may e).5) around b r tokens (λ e. (may e).4) no_comment (omega (arith, few)) rest)))

@@ -2,7 +2,7 @@
 use Rattle.proof_loads.proofs.TokensCommon.{[], act_of, all_field_tokens, all_of, Anchor, anchors_after, anchors_after_field, and_false, and_parts, another, ap, append-nil, append_assoc, are_marks, AreDocuments, AreEmptyLines, AreEntries, AreFields, arith, awaits_at, awaits_past, before_by, before_past, begins_with, begins_with_space_or_break, begun, begun_by, blanks_before, Block, block_tokens, BlockStyle, body_value, Bool, codes, colon_may_precede, Comment, dash_may_precede, Documents, documents_tokens, double, double_quoted, double_quoted_element, doubled, Element, elements, empty_hash, empty_line, Entries, entry_tokens, false, Field, field_tokens, Fields, first_account, first_position, flat_map, folded_header, free, further_lines_stand, GapLine, gives_node, goes_on_with_name, has_break, has_more, has_no_break, has_tab_before_piece, inl, Inline, inline_tokens, innermost, inr, inside, is_adjacent, is_anchor_name, is_ascii_alphanumeric, is_at_gap, is_blank, is_blank_or_end, is_break, is_empty, is_flow, is_line_character, is_name, is_nul, is_one_of, is_waiting, IsAfterRoot, IsBlock, IsComment, IsField, IsGap, IsInline, IsLayout, IsLineText, IsRoot, IsScalar, IsValue, Layout, leading, least_column, least_for, length, Lines, lines_fit, List, list_all, marked, may_precede, MayFollowScalarKey, nat_le, nat_tests, next_line, no_comment, None, not, Option, parts, plain, Position, position_after, Previous, previous_by, quote_of, quoted, quoted_lines_fit, quoted_may_end, Quotes, refl, replicate, Root, root_tokens, Scalar, scalar, scalar_token, single, single_quoted, single_quoted_element, Site, Some, spaces, spell_block, spell_comment, spell_documents, spell_ending, spell_entries, spell_field, spell_fields, spell_gap, spell_inline, spell_lines, spell_literal, spell_root, spell_scalar, spell_value, Spelled, spelling, stops, style_of, subst, suc, taken, Tok, true, Value, value_tokens, written_escapes, zero, ℕ, ◌&&◌, ◌++◌, ◌+◌, ◌-◌, ◌||◌, ◌∷◌, ◌≡◌, ◌≤◌, ◌⊎◌}
 use Rattle.proof_loads.proofs.PlainTexts.{spelt_plain, IsPlainText, first_space}
 use Rattle.proof_loads.proofs.HasRows.Nodes.{none_ends, deep_piece, Parts, Quiet, From, node_reads, outside, or_true, Shown}
-use Rattle.proof_loads.proofs.HasRows.Blocks.{ShownAt, AreAbove, Here, stood, Comes, Marked, dash_reads, question_reads, colon_reads, key_reads, ends_are, ended_append}
+use Rattle.proof_loads.proofs.HasRows.Blocks.{ShownAt, AreAbove, Here, stood, Comes, Marked, dash_reads, question_reads, colon_reads, IsScalarPiece, key_reads, ends_are, ended_append}
 use Rattle.proof_loads.proofs.HasRows.Json.{column_is, empty_reads, value_reads, plain_piece, plain_char, first_char}
 use Rattle.proof_loads.proofs.HasRows.Strings.{quoted_piece, double_is, single_is, between, in_quotes}
 use Rattle.proof_loads.proofs.HasRows.Trails.{Trail, end, trail_text, Rest, arrive, trail_ends, in_line, here_after, spaced, here_beside, next, BeginsContent, content_first, IsTrail, EndsAt, AllEnd, After, marker, marker_text, here_gap}
@@ -30,15 +30,6 @@ piece_of (single_quoted text) = 39 ∷ (flat_map doubled text ++ 39 ∷ [])
 
 pub piece_spelt : (s : Scalar) (r : List ℕ) → spell_scalar s r ≡ piece_of s ++ r
 piece_spelt s r = grind (arith, append_assoc)
-
--- what a piece and its token say
-pub record IsScalarPiece (w : List ℕ) (t : Tok) : Type 0 where
-  pub node : (act_of t ≡ gives_node) × (begun_by t ≡ []) × Quiet (previous_by t)
-  pub no_break : has_no_break w ≡ true
-  pub none : HasNone w
-  pub further : (column : ℕ) → further_lines_stand column t w ≡ true
-  pub shown : (bs : List ℕ) (key : Bool) (r : List ℕ) → stops false (innermost bs) inside r ≡ true → begins_with 39 r ≡ false → ShownAt bs w t key r
-  pub precedes : (bs r : List ℕ) → quoted_may_end false w r ≡ true → may_precede false bs t w r ≡ true
 
 pub scalar_piece : (s : Scalar) → IsScalar s → IsScalarPiece (piece_of s) (scalar_token s)
 scalar_piece (plain t) h =
@@ -196,15 +187,6 @@ ReadsValue c v =
 abbrev Begins : ℕ → (List ℕ → List ℕ) → Tok → (List Tok → List Tok) → Type 0
 Begins c spells collection gives = (bs : List ℕ) (t : Trail) (tokens : List Tok) → Rest t (c ∷ bs) tokens → Comes c bs (spells (trail_text t)) collection (gives tokens)
 
-abbrev ReadsEntries : ℕ → Entries → Type 0
-ReadsEntries c es = Begins c (spell_entries c es) Tok.block_sequence_start (entry_tokens es)
-
-abbrev ReadsField : ℕ → Field → Type 0
-ReadsField c f = Begins c (spell_field c f) Tok.block_mapping_start (field_tokens f)
-
-abbrev ReadsFields : ℕ → Fields → Type 0
-ReadsFields c fs = Begins c (spell_fields c fs) Tok.block_mapping_start (all_field_tokens fs)
-
 -- a whole collection at a column
 abbrev ReadsIn : ℕ → (List ℕ → List ℕ) → (List Tok → List Tok) → Type 0
 ReadsIn c spells gives =
@@ -230,7 +212,7 @@ comes_after c g bs r collection tokens comes extra p awaits before l text ends h
 after_mark : (c : ℕ) (v : Value) → ReadsValue c v → (bs : List ℕ) (t : Trail) (tokens : List Tok) → Rest t (c ∷ bs) tokens → Marked c bs (spell_value c v (trail_text t)) (value_tokens v tokens)
 after_mark c v one bs t tokens rest p awaits col = one bs t tokens rest p awaits free (inl (col, refl)) refl (omega (arith, col))
 
-last_entry_reads : (c : ℕ) (a : List Anchor) (v : Value) → IsValue c a v → ReadsValue c v → ReadsEntries c (Entries.last_entry v)
+last_entry_reads : (c : ℕ) (a : List Anchor) (v : Value) → IsValue c a v → ReadsValue c v → Begins c (spell_entries c (Entries.last_entry v)) Tok.block_sequence_start (entry_tokens (Entries.last_entry v))
 last_entry_reads c a v h one bs t tokens rest =
     let o = value_opens c a v (trail_text t) h in
     dash_reads c bs (spell_value c v (trail_text t)) (value_tokens v tokens) o.gap o.dash (after_mark c v one bs t tokens rest)
@@ -296,20 +278,19 @@ mutual
       node_reads (c ∷ bs) (42 ∷ name) (Tok.alias name) _ r tokens (spaced (c ∷ bs) more (42 ∷ (name ++ r))) z.2 (deep_piece (c ∷ bs) (42 ∷ name) r z.1) (λ s e. refl) refl (λ q waits m there. (refl, ((refl, z.0, trail_no_name t), refl))) refl
       (arrive no_comment t (c ∷ bs) tokens tt rest.trail rest.after another (λ f. refl)) p awaits l line deep
 
-  entries_read : (c : ℕ) (a : List Anchor) (es : Entries) → AreEntries c a es → ReadsEntries c es
+  entries_read : (c : ℕ) (a : List Anchor) (es : Entries) → AreEntries c a es → Begins c (spell_entries c es) Tok.block_sequence_start (entry_tokens es)
   entries_read c a (Entries.last_entry v) h = last_entry_reads c a v h.1 (read_value c a v h.1)
   entries_read c a (Entries.entry v g es) h =
       then_reads c (spell_entries c (Entries.last_entry v)) (spell_entries c es) Tok.block_sequence_start (entry_tokens (Entries.last_entry v)) (entry_tokens es) g h.2 (entries_begin c es) (last_entry_reads c a v h.1 (read_value c a v h.1)) (entries_read c (anchors_after v a) es h.3)
 
-  field_read : (c : ℕ) (a : List Anchor) (f : Field) → IsField c a f → ReadsField c f
+  field_read : (c : ℕ) (a : List Anchor) (f : Field) → IsField c a f → Begins c (spell_field c f) Tok.block_mapping_start (field_tokens f)
   field_read c a (Field.implicit k v) h bs t tokens rest =
       let r = spell_value c v (trail_text t) in
       let o = value_opens c a v (trail_text t) h.2 in
       let z = scalar_piece k h.0.0 in
       let short : length (piece_of k) ≤ 1024 = rw (append-nil (piece_of k)) at rw (piece_spelt k []) at h.0.1 in
       rw (piece_spelt k (58 ∷ r))
-      (key_reads c bs (piece_of k) (scalar_token k) r (value_tokens v tokens) z.node.0 z.node.1 (z.node.2 []) z.no_break z.none short (λ b. z.shown (stood b c bs) true (58 ∷ r) (rw (o.gap) refl) refl) z.further
-      (λ b. z.precedes (stood b c bs) (58 ∷ r) (rw (z.no_break) refl)) o.gap o.colon (λ q deep. read_value c a v h.2 bs t tokens rest q true taken (inr h.1) refl deep))
+      (key_reads c bs (piece_of k) (scalar_token k) r (value_tokens v tokens) z short o.gap o.colon (λ q deep. read_value c a v h.2 bs t tokens rest q true taken (inr h.1) refl deep))
   field_read c a (Field.explicit k g v) h bs t tokens rest =
       let r = spell_value c v (trail_text t) in
       let n = next g c (58 ∷ r) in
@@ -319,7 +300,7 @@ mutual
       question_reads c bs (spell_value c k (trail_text n)) (value_tokens k (Tok.value ∷ value_tokens v tokens)) o.space_or_break o.tabless (after_mark c k (read_value c a k h.1) bs n (Tok.value ∷ value_tokens v tokens)
       (record { trail = (h.2, content_first 58 r refl refl refl refl); low = omega arith; after = comes_after c g bs (58 ∷ r) Tok.block_mapping_start (Tok.value ∷ value_tokens v tokens) value }))
 
-  fields_read : (c : ℕ) (a : List Anchor) (fs : Fields) → AreFields c a fs → ReadsFields c fs
+  fields_read : (c : ℕ) (a : List Anchor) (fs : Fields) → AreFields c a fs → Begins c (spell_fields c fs) Tok.block_mapping_start (all_field_tokens fs)
   fields_read c a (Fields.last_field f) h = field_read c a f h
   fields_read c a (Fields.field f g fs) h =
       let b = anchors_after_field f a in
