@@ -4,6 +4,7 @@ use Rattle.defs_tree.specs.Pairs.{has_key, insert}
 use Rattle.defs_event.specs.Scalar.{scalar_tree}
 use Rattle.defs_event.specs.Anchors.{Anchors, aliased, finished}
 use Rattle.defs_event.specs.Unfinished.{with_node}
+use Rattle.defs_event.proofs.NameLemmas.{both_some}
 
 -- ---- numbers of anchors
 
@@ -134,22 +135,16 @@ of_after m a b p h = grind arith
 of_event_at : (m n : ℕ) (l : Loader) (e : Ev) (p : Position) → Follows m n e → OfLoader m l → OfLoader n (with_event_at l e p)
 of_event_at m n l e p h f = grind (arith, of_after, with_event, of_event)
 
-record FirstNamed (keep_tags : Bool) (s : Names) (r : Raw) (rs : List Raw) (e : Ev) (es : List Ev) : Type 0 where
-  follows : Follows s.count (names_after keep_tags s r).count e
-  rest : named keep_tags (names_after keep_tags s r) rs ≡ Some es
-
-both_named : (keep_tags : Bool) (s : Names) (r : Raw) (rs : List Raw) (e : Ev) (es : List Ev) (o : Option Ev) (os : Option (List Ev))
-    → OfSome (Follows s.count (names_after keep_tags s r).count) o → named keep_tags (names_after keep_tags s r) rs ≡ os → both o os ≡ Some (e ∷ es) → FirstNamed keep_tags s r rs e es
-both_named k s r rs e es a os f n q = grind arith
-
 stands_after : (keep_tags : Bool) (s : Names) (rs : List Raw) (l : Loader) (before : List (Ev × Position)) (more : List Ev)
     → named keep_tags s rs ≡ Some (events_of before ++ more) → OfLoader s.count l → (m : ℕ) × OfLoader m (with_events l before)
 stands_after k s rs l [] more q h = (s.count, h)
 stands_after k s [] l (e ∷ before) more q h = cc
 stands_after k s (r ∷ rs) l (e ∷ before) more q h =
-    let first = both_named k s r rs e.0 (events_of before ++ more) (resolved_event s r) (named k (names_after k s r) rs) (numbered k s r) refl q in
-    stands_after k (names_after k s r) rs (with_event_at l e.0 e.1) before more first.rest
-    (of_event_at s.count (names_after k s r).count l e.0 e.1 first.follows h)
+    let f = both_some (resolved_event s r) (named k (names_after k s r) rs) (e.0 ∷ (events_of before ++ more)) q in
+    let is : resolved_event s r ≡ Some e.0 = cc (f.is_first, f.whole) in
+    let rest : named k (names_after k s r) rs ≡ Some (events_of before ++ more) = cc (f.are_more, f.whole) in
+    stands_after k (names_after k s r) rs (with_event_at l e.0 e.1) before more rest
+    (of_event_at s.count (names_after k s r).count l e.0 e.1 (rw is at (numbered k s r)) h)
 
 open_in : (n : ℕ) (opened : List Opened) → IsOpen n opened → IsIn n (numbers opened)
 open_in n [] o = o

@@ -15,6 +15,8 @@ use Rattle.model_scanner.specs.Document.{fetch_stream_start}
 use Rattle.yaml_parser.specs.Apart.{StandsBefore}
 use Rattle.yaml_parser.proofs.Holding.{many}
 use Rattle.yaml_parser.proofs.Positions.{stood_raws, stood_positions}
+use Rattle.std.proofs.lemmas.List.{append_cancel_left}
+use Rattle.proof_loads.proofs.Texts.{same_beginning}
 use Rattle.proof_loads.proofs.Answers.{FaultAfter, fault_after, fault_taken}
 
 keys_from : (n : ℕ) (ks : List (Option Key)) → AreBehind n ks → KeysFrom n ks
@@ -92,14 +94,12 @@ settled_first text all given s r = elim (one_begins given all last.held.tokens t
 -- ---- the last of a list
 
 last_of : (xs ys : List Token) (t u : Token) → xs ++ t ∷ [] ≡ ys ++ u ∷ [] → (xs ≡ ys) × (t ≡ u)
-last_of [] [] t u e = (refl, cc)
-last_of [] (y ∷ []) t u e = absurd cc
-last_of (x ∷ []) [] t u e = absurd cc
-last_of (x ∷ xs) (y ∷ ys) t u e =
-    let rest : xs ++ t ∷ [] ≡ ys ++ u ∷ [] = cc in
-    let r = last_of xs ys t u rest in
-    (cc (r.0), r.1)
-last_of xs ys t u e = absurd cc
+last_of xs ys t u e =
+    let x = ap length e ∙ length-append ys (u ∷ []) in
+    let y = length-append xs (t ∷ []) in
+    let same = same_beginning xs ys (t ∷ []) (u ∷ []) (omega (arith, x, y)) e in
+    let last : t ∷ [] ≡ u ∷ [] = append_cancel_left ys _ _ (ap (λ zs. zs ++ t ∷ []) (sym same) ∙ e) in
+    (same, cc)
 
 -- ---- of the scanner
 
@@ -187,14 +187,10 @@ last_or_before (x ∷ xs) (y ∷ ys) more u e =
 -- ---- of the scanner
 
 both_begin : (xs ys : List Token) → BeginsWith xs ys → BeginsWith ys xs → xs ≡ ys
-both_begin xs ys b c = by b.more b.whole
-  where
-    by : (more : List Token) → ys ≡ xs ++ more → xs ≡ ys
-    by [] e = sym (e ∙ append-nil xs)
-    by (t ∷ more) e =
-        let one : length ys ≡ length xs + length (t ∷ more) = ap length e ∙ length-append xs (t ∷ more) in
-        let other : length xs ≡ length ys + length c.more = ap length c.whole ∙ length-append ys c.more in
-        absurd (omega (arith, one, other))
+both_begin xs ys b c =
+    let x = ap length b.whole ∙ length-append xs b.more in
+    let y = ap length c.whole ∙ length-append ys c.more in
+    same_beginning xs ys b.more [] (omega (arith, x, y)) (sym b.whole ∙ sym (append-nil ys))
 
 reached_all : (text : List ℕ) (given : List Token) → AreSettled text given → IsReached text given
 reached_all text given s = record { last = s.refused.last; run = s.refused.run; begins = s.begins; behind = λ going. s.behind }

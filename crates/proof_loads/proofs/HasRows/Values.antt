@@ -382,12 +382,9 @@ layout_reads w is = by w.is_marked
 no_column : (n : ℕ) → nat_le 0 n ≡ true
 no_column n = grind arith
 
-line_any : (b : Bool) (n : ℕ) → (not b || nat_le 0 n) ≡ true
-line_any a n = grind (arith, no_column)
-
 any_lines : (escaped : Bool) (ls : Lines) → lines_fit 0 escaped ls ≡ true
-any_lines escaped (flow.last_line l) = line_any (not (escaped && is_empty l)) (length (blanks_before l))
-any_lines escaped (flow.line l e ls) = rw (line_any (has_more l || e) (length (blanks_before l))) (any_lines e ls)
+any_lines escaped (flow.last_line l) = grind (arith, no_column)
+any_lines escaped (flow.line l e ls) = grind (arith, no_column, any_lines e ls)
 
 fits : (at : ℕ → List ℕ → Option Spelled) (quote : ℕ) (body : List ℕ) (es : List Element) → elements at 0 body ≡ Some es → quoted_lines_fit 0 at (quote ∷ (body ++ quote ∷ [])) ≡ true
 fits at quote body es e = rw (between quote body, e) (grind (arith, any_lines))
