@@ -1,12 +1,11 @@
 -- What a load answers of any text, by a parser that is at its start.
-use Rattle.proof_loads.proofs.Common.{[], Answer, AnswersText, ap, append-nil, append_assoc, AreFirst, AreSettled, before_stream, BeginsEvents, BeginsPlaced, Blames, Bool, codes, ComesAfter, EndsSo, Err, ErrorReport, Ev, events_of, Explains, false, Foretells, given, has_end, HasEvents, inl, inr, IsAtStart, IsCause, IsDerived, IsFaultOf, IsOfScanner, IsPlacedStream, IsRefusal, IsStream, length, List, load, load_from, Loads, nested_stream, no_names, no_stream, no_token, None, NoneBegins, Parsed, Position, Raw, raws_of, read, Receives, refl, Refused, Result, ScansIn, Some, subst, sym, TextsAreAnswered, Tok, Token, toks, true, wants_memory, whole, without_positions, ℕ, ◌++◌, ◌∙◌, ◌∷◌, ◌≡◌}
+use Rattle.proof_loads.proofs.Common.{[], Answer, AnswersText, ap, append-nil, append_assoc, AreFirst, AreSettled, before_stream, BeginsEvents, BeginsPlaced, Blames, Bool, codes, ComesAfter, EndsSo, Err, ErrorReport, Ev, events_of, Explains, false, Foretells, given, has_end, HasEvents, inl, inr, IsAtStart, IsCause, IsDerived, IsFaultOf, IsOfScanner, IsPlacedStream, IsRefusal, IsStream, length, List, load, load_from, Loads, nested_stream, no_names, no_stream, no_token, None, NoneBegins, Parsed, Position, Raw, raws_of, read, Receives, refl, Refused, Result, ScansIn, Some, subst, sym, TextsAreAnswered, Tok, Token, toks, true, wants_memory, whole, without_positions, ℕ, ◌++◌, ◌∙◌, ◌∷◌, ◌≡◌, IsSound}
 use Rattle.yaml_parser.specs.Settings.{AreAll}
 use Rattle.yaml_parser.proofs.Since.{since_same, names_same}
 use Rattle.defs_event.specs.Push as run
 use Rattle.defs_event.proofs.AllPushed.{all_pushed}
 use Rattle.defs_event.proofs.StreamNests.{stream_nests}
 use Rattle.yaml_parser.specs.Loads as loads
-use Rattle.yaml_parser.specs.Pulls.{IsSound}
 use Rattle.proof_loads.specs.TextEvents.{faulted, refused}
 use Rattle.proof_loads.proofs.Pulled.{Noted, given_alone, Answered, events, faults, answered, read_given, settings_stay, IsOver, Pushes, pushes, fault_is_reached, end_is_reached, faulted_pushes, PushesAll, ended_within, ended_after, given_append}
 use Rattle.proof_loads.proofs.Texts.{first_tokens, foretells_beginning, if_kept}

@@ -1,8 +1,8 @@
 -- The words of other crates and of specs/ that the proofs here use, passed on from one place. Declares nothing.
 pub use Rattle.std.proofs.Common.{[], ap, append-nil, append_assoc, arith, Bool, Err, false, inl, inr, length, length-append, List, None, Ok, refl, Some, subst, suc, sym, true, ℕ, ◌++◌, ◌+◌, ◌<◌, ◌||◌, ◌∙◌, ◌∷◌, ◌≡◌, ◌≤◌, ◌⊎◌}
-pub use Rattle.std.proofs.lemmas.Bool.{both_ways, ne_eqb}
-pub use Rattle.std.proofs.lemmas.List.{map-append}
-pub use Rattle.std.specs.Prelude.{All, codes, IfSome, if◌then◌else◌, map, Option, option_map, Result}
+pub use Rattle.std.proofs.lemmas.Bool.{both_ways, ne_eqb, or_right}
+pub use Rattle.std.proofs.lemmas.List.{append_cancel_left, map-append}
+pub use Rattle.std.specs.Prelude.{All, codes, IfSome, if◌then◌else◌, map, Option, option_map, Result, take}
 pub use Rattle.defs_event.proofs.OneByOne.{one_by_one}
 pub use Rattle.defs_event.specs.Event.{Ev}
 pub use Rattle.defs_event.specs.Meaning.{Means}
@@ -50,9 +50,10 @@ pub use Rattle.yaml_parser.specs.Derived.{IsDerived, stood}
 pub use Rattle.yaml_parser.specs.Follows.{Explains, Follows, IsOfScanner, Refused}
 pub use Rattle.yaml_parser.specs.Loads.{EndsSo, Loads, no_call, one_call, PullsAll, Receives}
 pub use Rattle.yaml_parser.specs.Parsed.{has_end, is_stream_end, Parsed, read, read_so}
-pub use Rattle.yaml_parser.specs.Pulls.{GivesEvent, KeepsSettings, Pulls}
+pub use Rattle.yaml_parser.specs.Pulls.{GivesEvent, IsSound, KeepsSettings, Pulls}
 pub use Rattle.yaml_scanner.specs.Follows.{AreBehind, AreSettled, BeginsWith, IsReached}
 pub use Rattle.yaml_scanner.specs.Scanned.{IsRefusal, MayBe, Scanned, ScansIn}
 pub use Rattle.yaml_tokens.specs.ErrorReport.{ErrorReport}
 pub use Rattle.yaml_tokens.specs.declared.problem.Fault.{Fault}
 pub use Rattle.yaml_tokens.specs.declared.problem.Problem.{Problem}
+pub use Rattle.std.specs.List.{list_any}

@@ -1,6 +1,5 @@
 -- Tokens that are settled stay; a text has one fault, and the events before it are one list.
-use Rattle.std.specs.List.{list_any}
-use Rattle.proof_loads.proofs.Common.{[], AgreeAt, ap, append-nil, append_assoc, AreBehind, AreFirst, AreSettled, arith, BeginsPlaced, BeginsWith, Blames, Bool, both_ways, ComesAfter, EndsInAnchor, Err, ErrorReport, Ev, events_of, false, Fault, fetch, fits, HasPlacedTo, here, inl, inr, is_of_names, IsFaultOf, IsReached, IsRefusal, IsStream, Key, length, length-append, List, map-append, named, no_names, no_stream, no_token, NoneBegins, one_run, OneListOfEventsBefore, OneListOfPulledEventsBefore, OneListOfPushedEventsBefore, Option, Position, Problem, problem_of, Raw, raws_of, Reaches, read, refl, Result, ScannerState, SettledTokensStay, StandsAt, start, stood, stream_by, subst, sym, there, to_next, Tok, Token, toks, true, wants_memory, without_positions, ℕ, ◌++◌, ◌+◌, ◌∙◌, ◌∷◌, ◌≡◌, ◌⊎◌}
+use Rattle.proof_loads.proofs.Common.{[], AgreeAt, ap, append-nil, append_assoc, AreBehind, AreFirst, AreSettled, arith, BeginsPlaced, BeginsWith, Blames, Bool, both_ways, ComesAfter, EndsInAnchor, Err, ErrorReport, Ev, events_of, false, Fault, fetch, fits, HasPlacedTo, here, inl, inr, is_of_names, IsFaultOf, IsReached, IsRefusal, IsStream, Key, length, length-append, List, map-append, named, no_names, no_stream, no_token, NoneBegins, one_run, OneListOfEventsBefore, OneListOfPulledEventsBefore, OneListOfPushedEventsBefore, Option, Position, Problem, problem_of, Raw, raws_of, Reaches, read, refl, Result, ScannerState, SettledTokensStay, StandsAt, start, stood, stream_by, subst, sym, there, to_next, Tok, Token, toks, true, wants_memory, without_positions, ℕ, ◌++◌, ◌+◌, ◌∙◌, ◌∷◌, ◌≡◌, ◌⊎◌, list_any, append_cancel_left}
 use Rattle.model_scanner.proofs.Given.{KeysFrom, reached}
 use Rattle.yaml_scanner.specs.Waits.{comes_before}
 use Rattle.yaml_tokens.specs.Problem.{fault_of}
@@ -15,7 +14,6 @@ use Rattle.model_scanner.specs.Document.{fetch_stream_start}
 use Rattle.yaml_parser.specs.Apart.{StandsBefore}
 use Rattle.yaml_parser.proofs.Holding.{many}
 use Rattle.yaml_parser.proofs.Positions.{stood_raws, stood_positions}
-use Rattle.std.proofs.lemmas.List.{append_cancel_left}
 use Rattle.proof_loads.proofs.Texts.{same_beginning}
 use Rattle.proof_loads.proofs.Answers.{FaultAfter, fault_after, fault_taken}
 

@@ -1,10 +1,8 @@
 -- A stream's tokens hold the stream's end; so a text has no more tokens than a stream that it begins with.
-use Rattle.std.specs.List.{list_any}
-use Rattle.proof_loads.proofs.Common.{[], ap, append-nil, append_assoc, arith, Bool, false, has_no_nul, IsReached, IsRead, List, None, Option, Raw, refl, Some, StreamSays, subst, Tok, Token, tokens_are_of_a_row, toks, true, whole_stream, ℕ, ◌++◌, ◌||◌, ◌∙◌, ◌∷◌, ◌≡◌}
+use Rattle.proof_loads.proofs.Common.{[], ap, append-nil, append_assoc, arith, Bool, false, has_no_nul, IsReached, IsRead, List, None, Option, Raw, refl, Some, StreamSays, subst, Tok, Token, tokens_are_of_a_row, toks, true, whole_stream, ℕ, ◌++◌, ◌||◌, ◌∙◌, ◌∷◌, ◌≡◌, list_any, or_right}
 use Rattle.defs_event.specs.Kinds.{is_stream_end}
 use Rattle.defs_event.specs.Table.{Part, Row, takes, leaves, row_of, Work, reading, saying, before, Derives, says, by_taking, by_leaving, say, show, empty}
 use Rattle.defs_event.specs.Grammar.{Held, Goal, stream, documents, directives, explicit_document, document_end, cases, grammar}
-use Rattle.std.proofs.lemmas.Bool.{or_right}
 use Rattle.model_scanner.proofs.Ends.{end_is_last}
 
 -- ---- by the table

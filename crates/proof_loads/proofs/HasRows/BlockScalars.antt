@@ -1,18 +1,14 @@
 -- Literal and folded blocks have rows: the pieces that they are, before what stands after them.
-use Rattle.proof_loads.proofs.TokensCommon.{[], and_false, another, ap, append-nil, append_assoc, are_empty, AreEmptyLines, arith, begins_with, block_may_end, block_read, block_scalar, BlockStyle, Bool, collection_of, column_by, comment_line, content_row, empty_line, empty_row, false, feed, free, full, GapLine, gives_block_scalar, has_content, indented_lines, indicator_of, innermost, is_at_end, is_blank, is_break, is_empty, is_further_text, is_in_line, is_nul, is_separation, is_waiting, IsGap, Line, line_past, List, map, map-append, nat_tests, None, not, Position, position_after, refl, Row, row_of, rows_of, Some, spaces, spell_append, spell_ending, spell_gap, spell_gap_line, spell_line, spell_lines, split, split_spell, starts_with_tab, Style, subst, suc, sym, texts, texts_append, Tok, true, value_before_end, value_before_text, ℕ, ◌++◌, ◌<◌, ◌∙◌, ◌∷◌, ◌≡◌}
-use Rattle.defs_text.specs.Classes.{tab}
+use Rattle.proof_loads.proofs.TokensCommon.{[], and_false, another, ap, append-nil, append_assoc, are_empty, AreEmptyLines, arith, begins_with, block_may_end, block_read, block_scalar, BlockStyle, Bool, collection_of, column_by, comment_line, content_row, empty_line, empty_row, false, feed, free, full, GapLine, gives_block_scalar, has_content, indented_lines, indicator_of, innermost, is_at_end, is_blank, is_break, is_empty, is_further_text, is_in_line, is_nul, is_separation, is_waiting, IsGap, Line, line_past, List, map, map-append, nat_tests, None, not, Position, position_after, refl, Row, row_of, rows_of, Some, spaces, spell_append, spell_ending, spell_gap, spell_gap_line, spell_line, spell_lines, split, split_spell, starts_with_tab, Style, subst, suc, sym, texts, texts_append, Tok, true, value_before_end, value_before_text, ℕ, ◌++◌, ◌<◌, ◌∙◌, ◌∷◌, ◌≡◌, tab}
 use Rattle.proof_lexers.proofs.Blocks.Written as written
 use Rattle.proof_lexers.proofs.Blocks.Written.{spell}
 use Rattle.proof_lexers.proofs.Blocks.Positions.{spell_more}
 use Rattle.proof_loads.proofs.BlockLines.{line_of, lines_at, empties, texts_are, spelt_feeds, spelt_more, Last, last_of, row_by, row_spaces, content_more, header_by, text_value, spaces_value, last_value, header_line, block_text, header_inner, IsInside, AreEach, AreBlockLines, tab_more, some_lines, in_column_with, text_body, end_body, is_block, each_more, each_split, rows_are, are_lines, lines_none, header_none, content_last}
 use Rattle.proof_loads.proofs.BlockLines as scans
 use Rattle.defs_token.specs.Key
-use Rattle.proof_loads.proofs.HasRows.Steps.{Reads, at}
-use Rattle.proof_loads.proofs.HasRows.Nodes.{none_ends, Parts, From, outside_reads}
+use Rattle.proof_loads.proofs.HasRows.Nodes.{none_ends, Parts, From, outside_reads, Reads, at, HasNone}
 use Rattle.proof_loads.proofs.HasRows.Json.{column_is}
-use Rattle.proof_loads.proofs.HasRows.Trails.{over_break, ending_parts, here_gap, Trail, next, marker, end, marker_text, trail_text, BeginsContent, content_first, IsTrail, IsLow, After}
-use Rattle.proof_loads.proofs.HasRows.Blocks.{Here}
-use Rattle.proof_loads.proofs.Nul.{HasNone}
+use Rattle.proof_loads.proofs.HasRows.Trails.{over_break, ending_parts, here_gap, Trail, next, marker, end, marker_text, trail_text, BeginsContent, content_first, IsTrail, IsLow, After, Here}
 
 -- what may stand directly after a block's last break: the end, or further text that begins with no TAB
 pub data Next (column : ℕ) : List ℕ → Type 0 where

@@ -1,10 +1,8 @@
 -- Texts that are read from a place on: how they begin with a separation and a piece, outside flow and in flow.
-use Rattle.proof_loads.proofs.TokensCommon.{[], act_of, and_false, and_parts, another, arith, awaits_at, awaits_past, begins_free_line, begins_line, begun_by, Bool, Entry, false, filled, flow_mapping_end, flow_mapping_start, flow_sequence_end, flow_sequence_start, FlowKind, free, fresh, further_lines_stand, gives_node, Had, has_break, has_no_break, has_tab_within, if◌then◌else◌, is_break, is_deeper, is_empty, is_in_column, is_in_flow, is_indented_by_spaces, is_marker, is_renewed, is_separation, is_waiting, IsShown, last_line, le-ltb, least_column, least_for, length, line_past, line_past_separation, List, mapping, may_precede, nat_le, ne_eqb, no_pair, not, not-true, not_ended, Option, Position, position_after, position_past, Previous, previous_by, refl, sequence, settled, Site, Some, Step, taken, Tok, toks, true, ℕ, ◌++◌, ◌-◌, ◌∷◌, ◌≡◌, ◌≤◌}
-use Rattle.defs_token.specs.FlowEntry.{entries_past, takes_pair}
-use Rattle.defs_token.specs.Key.{Line}
-use Rattle.defs_token.specs.Tokens.{begun_inside, begun_outside}
-use Rattle.proof_loads.proofs.HasRows.Steps.{Reads, at, step_of, site_of, Steps, step}
-use Rattle.proof_loads.proofs.Nul.{HasNone}
+use Rattle.proof_loads.proofs.TokensCommon.{[], act_of, and_false, and_parts, another, arith, awaits_at, awaits_past, begins_free_line, begins_line, begun_by, Bool, Entry, false, filled, flow_mapping_end, flow_mapping_start, flow_sequence_end, flow_sequence_start, FlowKind, free, fresh, further_lines_stand, gives_node, Had, has_break, has_no_break, has_tab_within, if◌then◌else◌, is_break, is_deeper, is_empty, is_in_column, is_in_flow, is_indented_by_spaces, is_marker, is_renewed, is_separation, is_waiting, IsShown, last_line, le-ltb, least_column, least_for, length, line_past, line_past_separation, List, mapping, may_precede, nat_le, ne_eqb, no_pair, not, not-true, not_ended, Option, Position, position_after, position_past, Previous, previous_by, refl, sequence, settled, Site, Some, Step, taken, Tok, toks, true, ℕ, ◌++◌, ◌-◌, ◌∷◌, ◌≡◌, ◌≤◌, entries_past, takes_pair, begun_inside, begun_outside}
+pub use Rattle.defs_token.specs.Key.{Line}
+pub use Rattle.proof_loads.proofs.HasRows.Steps.{at, ended, has_tokens, read_end, Reads, site_of, step, step_of, Steps}
+pub use Rattle.proof_loads.proofs.Nul.{both, HasNone, of_class, quoted_none, text_none}
 pub use Rattle.proof_lexers.proofs.Plain.Turns.{or_true}
 
 -- ---- columns

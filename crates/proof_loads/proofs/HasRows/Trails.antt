@@ -1,12 +1,9 @@
 -- What stands after a value of a layout: gaps and comments as separations, and how the next piece is read.
 use Rattle.proof_loads.proofs.TokensCommon.{[], after_blank, and_parts, another, ap, append_assoc, are_marks, arith, Bool, codes, comment, Comment, comment_line, empty_line, ends_line, false, free, GapLine, has_break, has_tab_within, innermost, inside, is_before_line_feed, is_blank, is_blank_or_end, is_blanks_and_comment, is_break, is_document_marker, is_line_character, is_nul, is_on_line, is_separation, is_value_indicator, is_waiting, IsComment, IsGap, IsLineText, last_line, leading, least_column, List, list_all, nat_le, nat_tests, next_line, no_comment, not, on_line, Option, Position, position_after, position_past, Previous, refl, Some, spaces, spell_comment, spell_ending, spell_gap, split, split_by, Stand, stops, suc, sym, Tok, true, zero, ℕ, ◌&&◌, ◌++◌, ◌+◌, ◌<◌, ◌==◌, ◌||◌, ◌∙◌, ◌∷◌, ◌≡◌, ◌≤◌}
-use Rattle.defs_token.specs.Key.{Line}
 use Rattle.defs_token.specs.Plain.{is_deeper}
-use Rattle.proof_loads.proofs.HasRows.Steps.{Reads, at, ended}
 use Rattle.proof_loads.proofs.HasRows.Json.{Ends}
-use Rattle.proof_loads.proofs.HasRows.Nodes.{or_true, Parts, Quiet, Then}
-use Rattle.proof_loads.proofs.HasRows.Blocks.{Here}
-use Rattle.proof_loads.proofs.Nul.{HasNone, both, text_none}
+use Rattle.proof_loads.proofs.HasRows.Nodes.{or_true, Parts, Quiet, Then, Reads, at, ended, HasNone, both, text_none, Line}
+pub use Rattle.proof_loads.proofs.HasRows.Blocks.{AreAbove, colon_reads, Comes, dash_reads, ended_append, ends_are, Here, IsScalarPiece, key_reads, Marked, question_reads, ShownAt, stood}
 pub use Rattle.proof_loads.proofs.BlockLines.{spaces_are}
 
 -- a gap, and at a column of the next line the rest; a gap, and the `---` of a next document with the rest; or a gap up to the end
