@@ -6,7 +6,7 @@ pub use Rattle.std.specs.Prelude.{All, codes, IfSome, if◌then◌else◌, map, 
 pub use Rattle.defs_event.proofs.OneByOne.{one_by_one}
 pub use Rattle.defs_event.specs.Event.{Ev}
 pub use Rattle.defs_event.specs.Meaning.{Means}
-pub use Rattle.defs_event.specs.Names.{are_allowed, both, named, Names, names_after, no_names, number, perhaps_resolved, resolved_event, under_name, with_anchor}
+pub use Rattle.defs_event.specs.Names.{are_allowed, named, Names, names_after, no_names, number, perhaps_resolved, resolved_event, under_name, with_anchor}
 pub use Rattle.defs_event.specs.Nested.{Nest, nest, nest_pair, nested_mapping, nested_scalar, nested_sequence, nested_stream, NestedDocument, no_nest_pairs, no_nests, with_node}
 pub use Rattle.defs_event.specs.PulledList.{Answer, event, fault, given, IsSettled, IsStreamEnd, MayFollow}
 pub use Rattle.defs_event.specs.Push.{before_stream, between, Ending, faulted, inside, load, load_from, Loaded, no_document, push, Standing, unfinished, well}

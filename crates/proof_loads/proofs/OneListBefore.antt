@@ -15,7 +15,7 @@ use Rattle.yaml_parser.specs.Apart.{StandsBefore}
 use Rattle.yaml_parser.proofs.Holding.{many}
 use Rattle.yaml_parser.proofs.Positions.{stood_raws, stood_positions}
 use Rattle.proof_loads.proofs.Texts.{same_beginning}
-use Rattle.proof_loads.proofs.Answers.{FaultAfter, fault_after, fault_taken}
+use Rattle.proof_loads.proofs.Answers.{FaultAfter, fault_after, fault_taken, Takes}
 
 keys_from : (n : ℕ) (ks : List (Option Key)) → AreBehind n ks → KeysFrom n ks
 keys_from n [] b = tt
@@ -290,7 +290,7 @@ pub one_pulled_list_before : OneListOfPulledEventsBefore
 one_pulled_list_before p q text f g setting steady other_steady scans scanned why other m n =
     agree_before p.keep_tags q.keep_tags text f g (read p) (read q) setting (fault_after text p f scans steady why) (fault_after text q g scanned other_steady other) m n
 
-pub one_pushed_list_before : {R S : Type 0} (takes : R → Ev → Position → Result (Unit {0}) ErrorReport → R → Type 0) (others : S → Ev → Position → Result (Unit {0}) ErrorReport → S → Type 0)
+pub one_pushed_list_before : {R S : Type 0} (takes : Takes R) (others : Takes S)
     → OneListOfPushedEventsBefore takes others
 one_pushed_list_before takes others p p' q q' r r' s s' text f g start began setting scans scanned one other kept held m n =
     let x = fault_taken takes p p' r r' f text start scans one kept in

@@ -38,13 +38,13 @@ pub use Rattle.defs_text.specs.Text.{has_no_nul, is_empty, up_to_nul}
 pub use Rattle.defs_token.specs.Account.{before_past, FlowKind, innermost_column, is_adjacent, mapping, sequence}
 pub use Rattle.defs_token.specs.BlockPiece.{block_read, read_body}
 pub use Rattle.defs_token.specs.Column.{innermost, is_deeper, is_in_column, not_ended, opened}
-pub use Rattle.defs_token.specs.FlowEntry.{begun_by, entries_past, Entry, filled, first_entry, fresh, Had, is_keyed, is_renewed, no_pair, past_end, settled, takes_pair}
+pub use Rattle.defs_token.specs.FlowEntry.{begun_by, entries_past, Entry, filled, first_entry, fresh, Had, is_keyed, is_renewed, no_pair, settled, takes_pair}
 pub use Rattle.defs_token.specs.Following.{are_empty, block_may_end, goes_on_quoted, may_precede, quoted_may_end}
 pub use Rattle.defs_token.specs.Indentation.{awaits_at, awaits_past, begins_line, colon_may_precede, dash_may_precede, has_tab_before_piece, has_tab_within, is_indented_by_spaces, last_line, least_column}
 pub use Rattle.defs_token.specs.Key.{begins_free_line, free, is_waiting, line_past, line_past_separation, taken}
-pub use Rattle.defs_token.specs.Lines.{blanks_before, elements_fit, ends_with_dash, further_lines_stand, has_dash_before_flow, has_more, lines_fit, plain_lines_fit, quoted_lines_fit, without_last}
+pub use Rattle.defs_token.specs.Lines.{ends_with_dash, further_lines_stand, has_dash_before_flow, lines_fit, plain_lines_fit, quoted_lines_fit, without_last}
 pub use Rattle.defs_token.specs.Piece.{begins_with_space_or_break, goes_on_with_name}
-pub use Rattle.defs_token.specs.Plain.{after_blank, begins_flow, begins_plain, ends_plain, ends_with_content, goes_on, inside, is_value_indicator, is_whole_plain, may_begin, on_line, Stand, stops}
+pub use Rattle.defs_token.specs.Plain.{after_blank, begins_flow, begins_plain, ends_with_content, goes_on, inside, is_value_indicator, is_whole_plain, may_begin, on_line, Stand, stops}
 pub use Rattle.defs_token.specs.Row.{IsRowFrom, IsShown}
 pub use Rattle.defs_token.specs.RowAccount.{Account, account_past, before_by, first_account, is_in_flow, least_for, level_of, may_stand, on_one_line, past_piece, Site, site_at}
 pub use Rattle.defs_token.specs.Separation.{is_separation}

@@ -36,8 +36,8 @@ EndsAt (next g d r) n = d < n
 EndsAt _ n = Unit {0}
 
 abbrev pub AllEnd : Trail → List ℕ → Type 0
-AllEnd t [] = Unit {0}
-AllEnd t (n ∷ ns) = EndsAt t n × AllEnd t ns
+AllEnd (next g d r) ns = AreAbove d ns
+AllEnd _ ns = Unit {0}
 
 -- ---- what is read after a trail
 
@@ -55,15 +55,16 @@ After t bs tokens =
 -- after a collection that ends there too
 pub one_more : (t : Trail) (n : ℕ) (bs : List ℕ) (tokens : List Tok) → EndsAt t n → After t bs tokens → After t (n ∷ bs) (Tok.block_end ∷ tokens)
 one_more t n bs tokens ends rest extra p awaits before l text all arrives =
-    rw (← append_assoc extra (n ∷ []) bs, ← same extra) (rest (extra ++ n ∷ []) p awaits before l text (more extra all) arrives)
+    rw (← append_assoc extra (n ∷ []) bs, ← same extra) (rest (extra ++ n ∷ []) p awaits before l text (more t extra ends all) arrives)
   where
     same : (extra : List ℕ) → ended (extra ++ n ∷ []) tokens ≡ ended extra (Tok.block_end ∷ tokens)
     same [] = refl
     same (m ∷ extra) = ap (λ o. Tok.block_end ∷ o) (same extra)
 
-    more : (extra : List ℕ) → AllEnd t extra → AllEnd t (extra ++ n ∷ [])
-    more [] all = (ends, tt)
-    more (m ∷ extra) all = (all.0, more extra all.1)
+    more : (t : Trail) (extra : List ℕ) → EndsAt t n → AllEnd t extra → AllEnd t (extra ++ n ∷ [])
+    more (next g d r) [] ends all = (ends, tt)
+    more (next g d r) (m ∷ extra) ends all = (all.0, more (next g d r) extra ends all.1)
+    more t extra ends all = tt
 
 -- ---- gaps as separations
 

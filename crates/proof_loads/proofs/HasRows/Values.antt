@@ -1,10 +1,10 @@
 -- Layouts have rows: scalars, values, arrays and hashes, roots, and documents one after the other. So has a text of one quoted scalar.
-use Rattle.proof_loads.proofs.TokensCommon.{[], act_of, all_field_tokens, all_of, Anchor, anchors_after, anchors_after_field, and_false, and_parts, another, ap, append-nil, append_assoc, are_marks, AreDocuments, AreEmptyLines, AreEntries, AreFields, arith, awaits_at, awaits_past, before_by, before_past, begins_with, begins_with_space_or_break, begun, begun_by, blanks_before, Block, block_tokens, BlockStyle, body_value, Bool, codes, colon_may_precede, Comment, dash_may_precede, Documents, documents_tokens, double, double_quoted, double_quoted_element, doubled, Element, elements, empty_hash, empty_line, Entries, entry_tokens, false, Field, field_tokens, Fields, first_account, first_position, flat_map, folded_header, free, further_lines_stand, GapLine, gives_node, goes_on_with_name, has_break, has_more, has_no_break, has_tab_before_piece, inl, Inline, inline_tokens, innermost, inr, inside, is_adjacent, is_anchor_name, is_ascii_alphanumeric, is_at_gap, is_blank, is_blank_or_end, is_break, is_empty, is_flow, is_line_character, is_name, is_nul, is_one_of, is_waiting, IsAfterRoot, IsBlock, IsComment, IsField, IsGap, IsInline, IsLayout, IsLineText, IsRoot, IsScalar, IsValue, Layout, leading, least_column, least_for, length, Lines, lines_fit, List, list_all, marked, may_precede, MayFollowScalarKey, nat_le, nat_tests, next_line, no_comment, None, not, Option, parts, plain, Position, position_after, Previous, previous_by, quote_of, quoted, quoted_lines_fit, quoted_may_end, Quotes, refl, replicate, Root, root_tokens, Scalar, scalar, scalar_token, single, single_quoted, single_quoted_element, Site, Some, spaces, spell_block, spell_comment, spell_documents, spell_ending, spell_entries, spell_field, spell_fields, spell_gap, spell_inline, spell_lines, spell_literal, spell_root, spell_scalar, spell_value, Spelled, spelling, stops, style_of, subst, suc, taken, Tok, true, Value, value_tokens, written_escapes, zero, ℕ, ◌&&◌, ◌++◌, ◌+◌, ◌-◌, ◌||◌, ◌∷◌, ◌≡◌, ◌≤◌, ◌⊎◌}
+use Rattle.proof_loads.proofs.TokensCommon.{[], act_of, all_field_tokens, all_of, Anchor, anchors_after, anchors_after_field, and_false, and_parts, another, ap, append-nil, append_assoc, are_marks, AreDocuments, AreEmptyLines, AreEntries, AreFields, arith, awaits_at, awaits_past, before_by, before_past, begins_with, begins_with_space_or_break, begun, begun_by, Block, block_tokens, BlockStyle, body_value, Bool, codes, colon_may_precede, Comment, dash_may_precede, Documents, documents_tokens, double, double_quoted, double_quoted_element, doubled, Element, elements, empty_hash, empty_line, Entries, entry_tokens, false, Field, field_tokens, Fields, first_account, first_position, flat_map, folded_header, free, further_lines_stand, GapLine, gives_node, goes_on_with_name, has_break, has_no_break, has_tab_before_piece, inl, Inline, inline_tokens, innermost, inr, is_adjacent, is_anchor_name, is_ascii_alphanumeric, is_at_gap, is_blank, is_blank_or_end, is_break, is_flow, is_line_character, is_name, is_nul, is_one_of, is_waiting, IsAfterRoot, IsBlock, IsComment, IsField, IsGap, IsInline, IsLayout, IsLineText, IsRoot, IsScalar, IsValue, Layout, leading, least_column, least_for, length, Lines, lines_fit, List, list_all, marked, may_precede, MayFollowScalarKey, nat_le, nat_tests, next_line, no_comment, None, Option, parts, plain, Position, position_after, Previous, previous_by, quote_of, quoted, quoted_lines_fit, quoted_may_end, Quotes, refl, replicate, Root, root_tokens, Scalar, scalar, scalar_token, single, single_quoted, single_quoted_element, Site, Some, spaces, spell_block, spell_comment, spell_documents, spell_ending, spell_entries, spell_field, spell_fields, spell_gap, spell_inline, spell_lines, spell_literal, spell_root, spell_scalar, spell_value, Spelled, spelling, style_of, subst, suc, taken, Tok, true, Value, value_tokens, written_escapes, zero, ℕ, ◌&&◌, ◌++◌, ◌+◌, ◌-◌, ◌||◌, ◌∷◌, ◌≡◌, ◌≤◌, ◌⊎◌}
 use Rattle.proof_loads.proofs.PlainTexts.{spelt_plain, IsPlainText, first_space}
 use Rattle.proof_loads.proofs.HasRows.Nodes.{none_ends, deep_piece, Parts, Quiet, From, node_reads, outside, or_true, Shown, Reads, at, step_of, Steps, step, ended, read_end, HasNone, of_class, quoted_none, Line}
 use Rattle.proof_loads.proofs.HasRows.Json.{column_is, empty_reads, value_reads, plain_piece, plain_char, first_char}
 use Rattle.proof_loads.proofs.HasRows.Strings.{quoted_piece, double_is, single_is, between, in_quotes}
-use Rattle.proof_loads.proofs.HasRows.Trails.{Trail, end, trail_text, Rest, arrive, trail_ends, in_line, here_after, spaced, here_beside, next, BeginsContent, content_first, IsTrail, EndsAt, AllEnd, After, marker, marker_text, here_gap, ShownAt, AreAbove, Here, stood, Comes, Marked, dash_reads, question_reads, colon_reads, IsScalarPiece, key_reads, ends_are, ended_append}
+use Rattle.proof_loads.proofs.HasRows.Trails.{Trail, end, trail_text, Rest, arrive, trail_ends, in_line, here_after, spaced, here_beside, next, BeginsContent, content_first, IsTrail, EndsAt, AllEnd, After, marker, marker_text, here_gap, AreAbove, Here, Comes, Marked, dash_reads, question_reads, colon_reads, IsScalarPiece, key_reads, ends_are, ended_append}
 use Rattle.defs_layout.specs.Json
 use Rattle.defs_token.specs.Piece as piece
 use Rattle.defs_layout.specs.Layout.{empty_array, spell}
@@ -189,20 +189,13 @@ ReadsIn c spells gives =
     (bs : List ℕ) (t : Trail) (tokens : List Tok) → least_column bs true ≤ c → IsTrail t → EndsAt t c → After t bs tokens
     → (p : Position) (awaits : Bool) (before : Previous) (l : Line) (text : List ℕ) → Here c text (spells (trail_text t)) p before l → Reads (at p bs awaits before l []) text (gives tokens)
 
-abbrev pub ReadsBlock : ℕ → Block → Type 0
-ReadsBlock c b = ReadsIn c (spell_block c b) (block_tokens b)
-
 collection_reads : (c : ℕ) (spells : List ℕ → List ℕ) (collection : Tok) (gives : List Tok → List Tok) → Begins c spells collection gives → ReadsIn c spells (λ o. collection ∷ gives (Tok.block_end ∷ o))
 collection_reads c spells collection gives one bs t tokens deep trail ends rest p awaits before l text here =
     one bs t (Tok.block_end ∷ tokens) (record { trail = trail; low = grind arith; after = Trails.one_more t c bs tokens ends rest }) false [] p awaits before l text tt (λ e. deep) here
 
 -- what comes at the column of a collection that is open, after an entry of it
 comes_after : (c : ℕ) (g : List GapLine) (bs r : List ℕ) (collection : Tok) (tokens : List Tok) → Comes c bs r collection tokens → After (next g c r) (c ∷ bs) tokens
-comes_after c g bs r collection tokens comes extra p awaits before l text ends here = comes true extra p awaits before l text (above extra ends) (λ e. cc) here
-  where
-    above : (extra : List ℕ) → AllEnd (next g c r) extra → AreAbove c extra
-    above [] h = tt
-    above (n ∷ extra) h = (h.0, above extra h.1)
+comes_after c g bs r collection tokens comes extra p awaits before l text ends here = comes true extra p awaits before l text ends (λ e. cc) here
 
 -- a value after an indicator
 after_mark : (c : ℕ) (v : Value) → ReadsValue c v → (bs : List ℕ) (t : Trail) (tokens : List Tok) → Rest t (c ∷ bs) tokens → Marked c bs (spell_value c v (trail_text t)) (value_tokens v tokens)
@@ -240,7 +233,7 @@ trail_no_name t = refl
 mutual
   unfolding is_blank is_break is_nul
 
-  pub block_reads : (c : ℕ) (a : List Anchor) (b : Block) → IsBlock c a b → ReadsBlock c b
+  pub block_reads : (c : ℕ) (a : List Anchor) (b : Block) → IsBlock c a b → ReadsIn c (spell_block c b) (block_tokens b)
   block_reads c a (Block.array es) h = collection_reads c (spell_entries c es) Tok.block_sequence_start (entry_tokens es) (entries_read c a es h)
   block_reads c a (Block.hash fs) h = collection_reads c (spell_fields c fs) Tok.block_mapping_start (all_field_tokens fs) (fields_read c a fs h.0)
 
