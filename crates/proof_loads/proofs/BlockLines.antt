@@ -329,16 +329,13 @@ ends_full [] = false
 ends_full (l ∷ []) = not (is_empty l)
 ends_full (l ∷ m ∷ ls) = ends_full (m ∷ ls)
 
-onto_full : (c : ℕ) (ls : List (List ℕ)) → ends_full ls ≡ true → ends_full (onto_first_line c ls) ≡ true
-onto_full c a h = grind arith
-
 two_step : (c d e : ℕ) (cs : List ℕ) → ends_with nat_eq (c ∷ d ∷ e ∷ cs) (10 ∷ 10 ∷ []) ≡ ends_with nat_eq (d ∷ e ∷ cs) (10 ∷ 10 ∷ [])
 two_step c d e cs = grind arith
 
 last_full : (c : ℕ) (cs : List ℕ) → ((c == 10) && is_empty cs) ≡ false → ends_with nat_eq (c ∷ cs) (codes "\n\n") ≡ false → ends_full (lines_of (c ∷ cs)) ≡ true
 last_full c [] h e = grind (arith, ends_full)
 last_full c (d ∷ []) h e = grind arith
-last_full c (d ∷ e ∷ cs) h f = grind (arith, and_false, two_step, onto_full, last_full d (e ∷ cs))
+last_full c (d ∷ e ∷ cs) h f = grind (arith, and_false, two_step, onto_first_line, last_full d (e ∷ cs))
 
 -- ---- the written lines
 

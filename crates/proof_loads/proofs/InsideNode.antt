@@ -106,9 +106,6 @@ of_event m n u (Ev.mapping_start a tag) i f = of_start m n (opened_mapping a [] 
 of_event m n u Ev.mapping_end le f = of_mapping_end n u u.opened (later m n u.anchors (numbers u.opened) le f)
 of_event m n u e le f = later m n u.anchors (numbers u.opened) le f
 
-is_next : (s : Names) (a : Option (List ℕ)) → IsNext s.count (number s a) (with_anchor s a).count
-is_next s a = grind arith
-
 abbrev OfSome : {A : Type 0} → (A → Type 0) → Option A → Type 0
 OfSome P None = Unit {0}
 OfSome P (Some x) = P x
@@ -120,7 +117,7 @@ allowed : (P : Ev → Type 0) (b : Bool) (e : Ev) → P e → OfSome P (if b the
 allowed a d e h = grind arith
 
 numbered : (keep_tags : Bool) (s : Names) (r : Raw) → OfSome (Follows s.count (names_after keep_tags s r).count) (resolved_event s r)
-numbered keep_tags s r = grind (arith, allowed, are_allowed, mapped, under_name, with_anchor, number, perhaps_resolved, is_next)
+numbered keep_tags s r = grind (arith, allowed, are_allowed, mapped, under_name, with_anchor, number, perhaps_resolved)
 
 -- ---- loaders
 
@@ -129,11 +126,8 @@ OfLoader m (at_work u) = IsStillOpen m u
 OfLoader m (noted documents key p) = Unit {0}
 OfLoader m (refused documents p) = Unit {0}
 
-of_after : (m : ℕ) (x : Step) (documents : List Tree) (p : Position) → OfStep m x → OfLoader m (loader_after x documents p)
-of_after m a b p h = grind arith
-
 of_event_at : (m n : ℕ) (l : Loader) (e : Ev) (p : Position) → Follows m n e → OfLoader m l → OfLoader n (with_event_at l e p)
-of_event_at m n l e p h f = grind (arith, of_after, with_event, of_event)
+of_event_at m n l e p h f = grind (arith, loader_after, with_event, of_event)
 
 stands_after : (keep_tags : Bool) (s : Names) (rs : List Raw) (l : Loader) (before : List (Ev × Position)) (more : List Ev)
     → named keep_tags s rs ≡ Some (events_of before ++ more) → OfLoader s.count l → (m : ℕ) × OfLoader m (with_events l before)

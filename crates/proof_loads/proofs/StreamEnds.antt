@@ -38,9 +38,6 @@ after_row h t w None = true
 after_row h t w (Some (takes ps)) = is_stream_end t || has_last (before grammar h t ps w)
 after_row h t w (Some (leaves ps)) = has_last (before grammar h t ps w)
 
-row_lasts : (g : Goal) (h : Held) (t : Tok) (w : Works) → is_last g ≡ true → after_row h t w (row_of (cases g) t) ≡ true
-row_lasts g h t w e = grind arith
-
 row_keeps : (h : Held) (t : Tok) (w : Works) (r : Option (Row Goal Raw)) → has_last w ≡ true → after_row h t w r ≡ true
 row_keeps h t w None k = refl
 row_keeps h t w (Some (takes ps)) k = or_right _ _ (kept h t ps w k)
@@ -50,7 +47,7 @@ after : (g : Goal) (h : Held) (t : Tok) (w : Works) {r : Row Goal Raw} → row_o
 after g h t w {r} q k = subst (λ o. after_row h t w o ≡ true) q (by (is_last g) refl k)
   where
     by : (b : Bool) → is_last g ≡ b → (b || has_last w) ≡ true → after_row h t w (row_of (cases g) t) ≡ true
-    by true e k = row_lasts g h t w e
+    by true e k = grind arith
     by false e k = row_keeps h t w (row_of (cases g) t) k
 
 or_more : (b : Bool) {c d : Bool} → (b || c) ≡ true → (c ≡ true → d ≡ true) → (b || d) ≡ true

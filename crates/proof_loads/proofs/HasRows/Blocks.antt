@@ -63,15 +63,8 @@ stands a c bs h = grind arith
 opens : (is_open : Bool) (c : ℕ) (bs : List ℕ) → MayBegin is_open c bs → opened c (stood is_open c bs) ≡ c ∷ bs
 opens a c bs h = grind (arith, le-ltb, deeper)
 
-is_deep : (is_open : Bool) (c : ℕ) (bs : List ℕ) → MayBegin is_open c bs → is_deeper c (stood is_open c bs) ≡ not is_open
-is_deep a c bs h = grind (arith, le-ltb, deeper)
-
 start_more : (is_open : Bool) (t : Tok) (a b : List Tok) → starts is_open t a ++ b ≡ starts is_open t (a ++ b)
 start_more is_open t a b = grind arith
-
--- the start of a collection, and what stands between it and a piece
-start_is : (is_open : Bool) (p : Position) (t : Tok) (own : List Token) → toks (start_if (not is_open) p t ++ own) ≡ starts is_open t (toks own)
-start_is is_open p t own = grind arith
 
 -- what a piece at the column says, where these collections go on there
 abbrev pub ShownAt : (bs w : List ℕ) → Tok → (key : Bool) → (next : List ℕ) → Type 0
@@ -96,7 +89,7 @@ module _ (c : ℕ) (bs w : List ℕ) (t : Tok) (key : Bool) (next : List ℕ) (c
       let stay : not_ended there.col (extra ++ at_c) ≡ at_c = rw (here.column) (left_open c extra at_c above (stands is_open c bs may)) in
       let waits = awaits_past false t (site_of a w' next).blocks (site_of a w' next).awaits next in
       let so_many : length (extra ++ at_c) - length at_c ≡ length extra = rw length-append (omega arith) in
-      let deep : is_deeper there.col at_c ≡ not is_open = rw (here.column) (is_deep is_open c bs may) in
+      let deep : is_deeper there.col at_c ≡ not is_open = rw (here.column) (grind (arith, le-ltb, deeper)) in
       let s : Steps a w' next (at (position_after there w next) (blocks is_open) waits (previous_by t) (after there) (begun_by t)) (ended extra (starts is_open collection own)) = record {
         is_separated = here.separates;
         is_shown = shown is_open (extra ++ at_c) p awaits before l here.by stay;
@@ -162,7 +155,7 @@ unfolding is_blank is_break is_nul
 key_reads c bs w t next tokens z short gap follows rest =
     at_column c bs w t true (58 ∷ next) Tok.block_mapping_start (Tok.key ∷ []) (Tok.value ∷ tokens) (λ o. stood o c bs) Line.waits (rw (z.node.0) refl) z.none
     (λ o. z.shown (stood o c bs) true (58 ∷ next) (rw gap refl) refl) z.further (λ o. z.precedes (stood o c bs) (58 ∷ next) (rw (z.no_break) refl))
-    (λ o must here col may. rw (z.node.0) refl) (λ here. rw (z.no_break) refl) (λ o here colon. start_is o colon Tok.block_mapping_start (put here Tok.key ∷ []))
+    (λ o must here col may. rw (z.node.0) refl) (λ here. rw (z.no_break) refl) (λ o here colon. grind arith)
     (λ o here awaits col may.
     let past = position_after here w (58 ∷ next) in
     let x = along w here (58 ∷ next) z.no_break in

@@ -225,10 +225,6 @@ at_mark c r no_blank hash mark = grind arith
 flow_ends : (collection : Option ℕ) (c : ℕ) (g : List Blank) (r : List ℕ) → is_blank c ≡ false → is_break c ≡ false → is_flow c ≡ true → (c == 35) ≡ false → is_one_of (codes ",]}:") c ≡ true → Ends true collection (spell_gap g (c ∷ r))
 flow_ends collection c g r no_blank break flow hash mark = ends true (c ∷ r) (at_mark c r no_blank hash mark) collection (λ s. rw (no_blank, break, flow) (or_true _)) g
 
-pub colon_follows : (g : List Blank) (r piece : List ℕ) → quoted_may_end true piece (spell_gap g (58 ∷ r)) ≡ true
-unfolding is_blank
-colon_follows g r piece = done_past true (58 ∷ r) (at_mark 58 r refl refl refl) g piece
-
 -- ---- what a colon stands before
 
 -- a text that begins neither with a TAB nor with a comment
@@ -313,12 +309,12 @@ module _ (bs : List ℕ) where
   -- a key and its colon
   key_goes : (ps : List Piece) → are_pieces ps ≡ true → (es : List Entry) (text : List ℕ) (g : List Blank) (r : List ℕ) (tokens : List Tok) → Parts bs text (spell_string ps (spell_gap g (58 ∷ r))) → MayStand bs g → colon_may_precede r ≡ true
       → From another bs (awaiting true ∷ es) r tokens → From another bs (entry_of true fresh ∷ es) text (Tok.key ∷ string_token ps ∷ Tok.value ∷ tokens)
-  unfolding is_break
+  unfolding is_blank is_break
   key_goes ps are es text g r tokens parts may follows rest =
       let next = spell_gap g (58 ∷ r) in
       let z = string_piece ps are in
       flow_reads bs (quoted ps) (string_token ps) text next (Tok.value ∷ tokens) (subst (Parts bs text) (quoted_is ps next) parts) z.none (deep_piece bs (quoted ps) next z.no_break) (λ s e. z.further _)
-      another (first_entry mapping) es (λ here. entry_of true (Had.waits here) ∷ es) true (Tok.key ∷ []) refl (λ p awaits l there. (refl, ((body_of ps, refl, z.value), refl))) (colon_follows g r (quoted ps)) (λ here. refl) (λ here colon own. refl)
+      another (first_entry mapping) es (λ here. entry_of true (Had.waits here) ∷ es) true (Tok.key ∷ []) refl (λ p awaits l there. (refl, ((body_of ps, refl, z.value), refl))) (done_past true (58 ∷ r) (at_mark 58 r refl refl refl) g (quoted ps)) (λ here. refl) (λ here colon own. refl)
       (λ begin. flow_reads bs (58 ∷ []) Tok.value next r tokens (blanks bs g (58 ∷ r) may) refl (deep_piece bs (58 ∷ []) r refl) (λ s e. refl) quoted_scalar (entry_of true (Had.waits begin)) es (λ here. awaiting true ∷ es) false [] refl
       (λ p awaits l there. (refl, (refl, rw (or_true (begins_flow r), or_true (is_at_gap r)) refl))) follows (λ here. refl) (λ here colon own. refl) (λ here. rest))
 

@@ -106,9 +106,6 @@ outside_line false l h = (l, refl, h)
 outside_line true (Line.waits begin) h = cc
 outside_line true l h = (free, refl, refl)
 
-node_line : (must : Bool) (here : Position) (bs : List ℕ) (l : Line) → must ≡ false → is_waiting l ≡ false → line_past must here bs gives_node false l ≡ Some (record { line = taken; blocks = bs })
-node_line a p bs b e h = grind arith
-
 -- outside flow, or in an entry of an array or an object
 pub data Place : Type 0 where
   outside : Place
@@ -183,7 +180,7 @@ module _ (bs w : List ℕ) (t : Tok) (text next : List ℕ) (tokens : List Tok) 
   pub node_reads : Over → Further → act_of t ≡ gives_node → Shown another bs [] (step_of parts.by w t false) next → may_precede false bs t w next ≡ true
       → From (previous_by t) bs (begun_by t) next tokens → From another bs [] text (t ∷ tokens)
   node_reads over further node shown precede rest =
-      outside_reads further taken refl (rw node refl) shown precede (λ must here l no line. rw node (node_line must here bs l no line)) (λ deeper here colon l. rw node refl) (λ here waits there. rest _ waits taken refl (over here there))
+      outside_reads further taken refl (rw node refl) shown precede (λ must here l no line. rw node (grind arith)) (λ deeper here colon l. rw node refl) (λ here waits there. rest _ waits taken refl (over here there))
 
   -- a node at a place
   pub place_reads : (pl : Place) → Over → Further → act_of t ≡ gives_node → Shown another bs (entries_before pl) (step_of parts.by w t false) next → may_precede (flows pl) bs t w next ≡ true

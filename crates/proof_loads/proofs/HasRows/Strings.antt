@@ -56,13 +56,6 @@ spelt : (ps : List Piece) (r : List ℕ) → spell_pieces ps r ≡ body_of ps ++
 spelt [] r = refl
 spelt (p ∷ ps) r = grind (arith, spelt ps r)
 
-small_digit : (c : ℕ) → is_digit c 16 ≡ true → digit_value c < 16
-small_digit c h = ltb-true (digit_value c) 16 h
-
-is_code : (v : ℕ) → v < 65536 → not (is_surrogate v) ≡ true → is_character_code v ≡ true
-unfolding is_character_code
-is_code v less h = grind (arith, nat_tests)
-
 digit_break : (c : ℕ) → is_digit c 16 ≡ true → is_break c ≡ false
 unfolding is_break
 digit_break c h = grind (arith, nat_tests)
@@ -76,7 +69,8 @@ pub record Code (a b c d v : ℕ) : Type 0 where
   pub value : (((0 * 16 + digit_value a) * 16 + digit_value b) * 16 + digit_value c) * 16 + digit_value d ≡ v
 
 code : (a b c d : ℕ) → is_piece (unicode a b c d) ≡ true → Code a b c d (four_digits a b c d)
-code a b c d h = grind (arith, nat_tests, and_parts, is_hex_digit, not, is_surrogate, four_digits, small_digit, digit_value, is_code)
+unfolding is_character_code
+code a b c d h = grind (arith, nat_tests, and_parts, is_hex_digit, not, is_surrogate, four_digits, ltb-true, digit_value)
 
 abbrev pub element_of : Quotes → ℕ → List ℕ → Option Spelled
 element_of single = single_quoted_element
@@ -152,18 +146,15 @@ string_piece ps h = quoted_piece double (body_of ps) (unescaped ps) (string_is p
 
 -- ---- in double quotes
 
-is_low_code : (c : ℕ) → c < 128 → is_character_code c ≡ true
-unfolding is_character_code
-is_low_code c h = grind (arith, nat_tests)
-
 hex_digit : (n : ℕ) → n < 16 → (is_digit (hexadecimal_digit n) 16 ≡ true) × (digit_value (hexadecimal_digit n) ≡ n)
 hex_digit n h = (grind (arith, nat_tests), grind (arith, nat_tests))
 
 coded : (c : ℕ) → c < 128 → Goes double (escaped_code c) c
+unfolding is_character_code
 coded c low =
     let high = hex_digit (c / 16) (omega (arith, low)) in
     let small = hex_digit (c % 16) (omega arith) in
-    unicode_goes 48 48 (hexadecimal_digit (c / 16)) (hexadecimal_digit (c % 16)) c (record { first = refl; second = refl; third = high.0; fourth = small.0; valid = is_low_code c low; value = rw (high.1, small.1) (omega arith) })
+    unicode_goes 48 48 (hexadecimal_digit (c / 16)) (hexadecimal_digit (c % 16)) c (record { first = refl; second = refl; third = high.0; fourth = small.0; valid = grind (arith, nat_tests); value = rw (high.1, small.1) (omega arith) })
 
 named : (l x c : ℕ) → (c == x) ≡ true → is_break l ≡ false → ((body : List ℕ) → escape (l ∷ body) ≡ Some (record { element = content x; further = 1 })) → Goes double (92 ∷ l ∷ []) c
 named l x c e no_break is = rw (eqb-true c x e) (named_goes l x no_break is)
@@ -198,15 +189,12 @@ plain_goes c h quote body text z =
     let no_break : is_break c ≡ false = grind (arith, nat_tests) in
     plain_step single_quoted_element c body text (rw (nul, quote) refl) no_break z
 
-two_go : Goes single (39 ∷ 39 ∷ []) 39
-unfolding single_quoted_element is_nul is_break
-two_go body text z = content_goes 39 z (rw (z.are) refl) z.no_break
-
 doubled_goes : (c : ℕ) → is_line_character c ≡ true → Goes single (doubled c) c
+unfolding single_quoted_element is_nul is_break
 doubled_goes c h = by (c == 39) refl
   where
     by : (b : Bool) → (c == 39) ≡ b → Goes single (if b then 39 ∷ 39 ∷ [] else c ∷ []) c
-    by true e = rw (eqb-true c 39 e) two_go
+    by true e = rw (eqb-true c 39 e) (λ body text z. content_goes 39 z (rw (z.are) refl) z.no_break)
     by false e = plain_goes c h e
 
 pub single_is : (w : List ℕ) → IsLineText w → IsBody single (flat_map doubled w) w

@@ -32,8 +32,5 @@ rest_words f e h i = rw (fraction_then f (spell_exponent e [])) (append_words (s
 whole_digits : (w : List ℕ) → is_whole w ≡ true → are_digits w ≡ true
 whole_digits a h = grind (arith, and_from)
 
-minus_words : (is_negative : Bool) (w : List ℕ) → are_words w ≡ true → are_words (spell_minus is_negative w) ≡ true
-minus_words a w h = grind arith
-
 pub number_word : (n : Number) → is_number n ≡ true → IsWord (spell_number n [])
-number_word n h = grind (arith, nat_tests, number, and_parts, is_whole, is_fraction, is_exponent, whole_digits, minus_words, append_words, are_digits_words, rest_words)
+number_word n h = grind (arith, nat_tests, number, and_parts, is_whole, is_fraction, is_exponent, whole_digits, spell_minus, append_words, are_digits_words, rest_words)
