@@ -105,13 +105,9 @@ module _ (column : ℕ) where
 
 -- ---- their value
 
-pub content_append : (rs ss : List Row) → has_content ss ≡ true → has_content (rs ++ ss) ≡ true
-content_append [] ss h = h
-content_append (m ∷ rs) ss h = grind (arith, content_append rs ss)
-
-pub content_more : (rs ss : List Row) → has_content rs ≡ true → has_content (rs ++ ss) ≡ true
-content_more [] ss h = cc
-content_more (m ∷ rs) ss h = grind (arith, content_more rs ss)
+pub content_append : (rs ss : List Row) → has_content (rs ++ ss) ≡ (has_content rs || has_content ss)
+content_append [] ss = refl
+content_append (m ∷ rs) ss = grind (arith, content_append rs ss)
 
 -- a header without digit, that strips or clips
 abbrev pub header_by : BlockStyle → (strips : Bool) → Header
@@ -133,12 +129,12 @@ module _ (s : BlockStyle) where
 
   -- before further text
   pub text_value : (strips : Bool) (rs : List Row) (n : ℕ) → has_content rs ≡ true → value_before_text (header_by s strips) (rs ++ map row_by (empties n)) ≡ value_before_text (header_by s strips) rs
-  text_value strips rs n h = rw (content_more rs (map row_by (empties n)) h, h) (grind (arith, same_text))
+  text_value strips rs n h = rw (content_append rs (map row_by (empties n)), h) (grind (arith, same_text))
 
   -- at the end of the text, in a line of spaces
   pub spaces_value : (strips : Bool) (column : ℕ) (rs : List Row) (n width : ℕ) → has_content rs ≡ true → width < max column 1
       → value_before_end (header_by s strips) column (rs ++ map row_by (empties n)) (spaces width []) empty_row ≡ value_before_text (header_by s strips) rs
-  spaces_value strips column rs n width h e = grind (arith, nat_tests, length, spaces, spaces_long, nat_le, max, content_more, map, row_by, empties, same_text)
+  spaces_value strips column rs n width h e = grind (arith, nat_tests, length, spaces, spaces_long, nat_le, max, content_append, map, row_by, empties, same_text)
 
   -- at the end of the text, in the last line
   pub last_value : (strips : Bool) (column : ℕ) (rs : List Row) (r : Row) (l : List ℕ) → has_content (r ∷ []) ≡ true → value_before_end (header_by s strips) column rs l r ≡ value_before_text (header_by s strips) (rs ++ r ∷ [])

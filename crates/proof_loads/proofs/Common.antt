@@ -14,7 +14,7 @@ pub use Rattle.defs_event.specs.Raw.{Raw}
 pub use Rattle.defs_event.specs.ReadAs.{ReadAs}
 pub use Rattle.defs_event.specs.Reading.{reading}
 pub use Rattle.defs_event.specs.Stream.{AgreeAt, BeginsPlaced, events_of, Foretells, HasPlacedTo, IsPlacedStream, IsStream, NoneBegins, raws_of, StreamSays, to_next, whole_stream}
-pub use Rattle.defs_event.specs.Unfinished.{at_work, documents_of, Loader, loader_after, new_loader, noted, Opened, opened_mapping, opened_sequence, out_of_nesting, reads, refused, repeats, Step, Unfinished, with_document_end, with_event, with_event_at, with_events, with_mapping_end, with_root, with_sequence_end, with_start, with_tree}
+pub use Rattle.defs_event.specs.Unfinished.{at_work, documents_of, Loader, loader_after, new_loader, noted, Opened, opened_mapping, opened_sequence, out_of_nesting, reads, refused, repeats, Step, Unfinished, with_event, with_event_at, with_events, with_mapping_end, with_root, with_sequence_end, with_start, with_tree}
 pub use Rattle.defs_layout.specs.Json.{spell_text, tree_of}
 pub use Rattle.defs_layout.specs.Layout.{spell, trees_of}
 pub use Rattle.defs_layout.specs.LayoutTokens.{layout_tokens}

@@ -1,5 +1,5 @@
 -- After the first events of a stream, no open node's anchor is finished: anchors are numbered as they come.
-use Rattle.proof_loads.proofs.Common.{[], AliasesInsideTheirNodeAreBadValues, ap, are_allowed, arith, array, at_work, bad_value, Bool, Ev, events_of, hash, if◌then◌else◌, inl, inr, IsOpen, items_of, List, Loader, loader_after, map, named, Names, names_after, ne_eqb, new_loader, no_names, None, noted, number, Opened, opened_mapping, opened_sequence, Option, option_map, out_of_nesting, pairs_of, perhaps_resolved, Position, Raw, reads, refl, refused, repeats, resolved_event, Some, Step, subst, suc, Tree, under_name, Unfinished, with_anchor, with_document_end, with_event, with_event_at, with_events, with_mapping_end, with_root, with_sequence_end, with_start, with_tree, ℕ, ◌++◌, ◌<◌, ◌∷◌, ◌≡◌, ◌≤◌, ◌⊎◌}
+use Rattle.proof_loads.proofs.Common.{[], AliasesInsideTheirNodeAreBadValues, ap, are_allowed, arith, array, at_work, bad_value, Bool, Ev, events_of, hash, if◌then◌else◌, inl, inr, IsOpen, items_of, List, Loader, loader_after, map, named, Names, names_after, ne_eqb, new_loader, no_names, None, noted, number, Opened, opened_mapping, opened_sequence, Option, option_map, out_of_nesting, pairs_of, perhaps_resolved, Position, Raw, reads, refl, refused, repeats, resolved_event, Some, Step, subst, suc, Tree, under_name, Unfinished, with_anchor, with_event, with_event_at, with_events, with_mapping_end, with_root, with_sequence_end, with_start, with_tree, ℕ, ◌++◌, ◌<◌, ◌∷◌, ◌≡◌, ◌≤◌, ◌⊎◌}
 use Rattle.defs_tree.specs.Pairs.{has_key, insert}
 use Rattle.defs_event.specs.Scalar.{scalar_tree}
 use Rattle.defs_event.specs.Anchors.{Anchors, aliased, finished}
@@ -67,9 +67,6 @@ of_mapping_end : (m : ℕ) (u : Unfinished) (opened : List Opened) → Fits m u.
 of_mapping_end m u (opened_mapping a ps None ∷ outer) f = of_node m a (hash (pairs_of ps)) u outer f
 of_mapping_end m u opened f = tt
 
-of_document_end : (m : ℕ) (u : Unfinished) (opened : List Opened) → IsStillOpen m u → OfStep m (with_document_end u opened)
-of_document_end m u opened h = grind arith
-
 -- a node's start or scalar has no anchor, or a number after m; n are the anchors after it
 abbrev IsNext : (m a n : ℕ) → Type 0
 IsNext m a n = (m ≤ n) × (a ≤ n) × (0 < a → m < a)
@@ -97,7 +94,7 @@ Follows m n (Ev.mapping_start a tag) = IsNext m a n
 Follows m n _ = m ≤ n
 
 of_event : (m n : ℕ) (u : Unfinished) (e : Ev) → Follows m n e → IsStillOpen m u → OfStep n (with_event u e)
-of_event m n u Ev.document_end le f = of_document_end n u u.opened (later m n u.anchors (numbers u.opened) le f)
+of_event m n u Ev.document_end le f = let fits = later m n u.anchors (numbers u.opened) le f in grind arith
 of_event m n u (Ev.alias k) le f = of_tree n (aliased k u.anchors) u u.opened (later m n u.anchors (numbers u.opened) le f)
 of_event m n u (Ev.scalar text style a tag) i f = of_node n a (scalar_tree text style tag) u u.opened (next_fits m a n u.anchors (numbers u.opened) i f)
 of_event m n u (Ev.sequence_start a tag) i f = of_start m n (opened_sequence a []) u u.opened u.root i f

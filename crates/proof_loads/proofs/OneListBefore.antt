@@ -1,9 +1,9 @@
 -- Tokens that are settled stay; a text has one fault, and the events before it are one list.
-use Rattle.proof_loads.proofs.Common.{[], AgreeAt, ap, append-nil, append_assoc, AreBehind, AreFirst, AreSettled, arith, BeginsPlaced, BeginsWith, Blames, Bool, both_ways, ComesAfter, EndsInAnchor, Err, ErrorReport, Ev, events_of, false, Fault, fetch, fits, HasPlacedTo, here, inl, inr, is_of_names, IsFaultOf, IsReached, IsRefusal, IsStream, Key, length, length-append, List, map-append, named, no_names, no_stream, no_token, NoneBegins, one_run, OneListOfEventsBefore, OneListOfPulledEventsBefore, OneListOfPushedEventsBefore, Option, Position, Problem, problem_of, Raw, raws_of, Reaches, read, refl, Result, ScannerState, SettledTokensStay, StandsAt, start, stood, stream_by, subst, sym, there, to_next, Tok, Token, toks, true, wants_memory, without_positions, ℕ, ◌++◌, ◌+◌, ◌∙◌, ◌∷◌, ◌≡◌, ◌⊎◌, list_any, append_cancel_left}
+use Rattle.proof_loads.proofs.Common.{[], AgreeAt, ap, append-nil, append_assoc, AreBehind, AreFirst, AreSettled, arith, BeginsPlaced, BeginsWith, Blames, Bool, both_ways, ComesAfter, EndsInAnchor, Err, ErrorReport, Ev, events_of, false, Fault, fetch, fits, HasPlacedTo, here, inl, inr, is_of_names, IsFaultOf, IsReached, IsRefusal, IsStream, Key, length, length-append, List, map-append, named, no_names, no_stream, no_token, NoneBegins, one_run, OneListOfEventsBefore, OneListOfPulledEventsBefore, OneListOfPushedEventsBefore, Option, Position, Problem, problem_of, Raw, raws_of, Reaches, read, refl, ScannerState, SettledTokensStay, StandsAt, start, stood, stream_by, subst, sym, there, to_next, Tok, Token, toks, true, wants_memory, without_positions, ℕ, ◌++◌, ◌+◌, ◌∙◌, ◌∷◌, ◌≡◌, ◌⊎◌, list_any, append_cancel_left}
 use Rattle.model_scanner.proofs.Given.{KeysFrom, reached}
 use Rattle.yaml_scanner.specs.Waits.{comes_before}
 use Rattle.yaml_tokens.specs.Problem.{fault_of}
-use Rattle.yaml_tokens.specs.declared.problem.Fault.TheVariants.{At, OutOfMemory}
+use Rattle.yaml_tokens.specs.declared.problem.Fault.TheVariants.{At}
 use Rattle.yaml_tokens.specs.declared.problem.Problem.TheVariants as problem
 use Rattle.model_parser.specs.declared.kind.Kind.{Kind}
 use Rattle.model_parser.specs.declared.kind.Kind.TheVariants as kind
@@ -101,16 +101,12 @@ last_of xs ys t u e =
 
 -- ---- of the scanner
 
--- what is shown of a fault, but for its kind
-of_fault : (e : Fault) (p q : Position) → (fault_of e p).memory ≡ false → fault_of e p ≡ fault_of e q
-of_fault OutOfMemory p q m = absurd cc
-of_fault (At why at) p q m = refl
-
 pub one_refusal : (text : List ℕ) (f g : ErrorReport) → IsRefusal text f → IsRefusal text g → f.memory ≡ false → f ≡ g
 one_refusal text f g r s m =
     let same : r.fault ≡ s.fault = runs.one_fault text r.fault s.fault r.refused s.refused in
     let none : (fault_of r.fault r.position).memory ≡ false = ap (λ x. x.memory) (sym r.shown) ∙ m in
-    r.shown ∙ of_fault r.fault r.position s.position none ∙ ap (λ e. fault_of e s.position) same ∙ sym s.shown
+    let placed : fault_of r.fault r.position ≡ fault_of r.fault s.position = grind (arith, none) in
+    r.shown ∙ placed ∙ ap (λ e. fault_of e s.position) same ∙ sym s.shown
 
 -- ---- of the parser
 

@@ -50,7 +50,7 @@ pub use Rattle.defs_token.specs.RowAccount.{Account, account_past, before_by, fi
 pub use Rattle.defs_token.specs.Separation.{is_separation}
 pub use Rattle.defs_token.specs.Step.{act_of, another, block_scalar, flow_collection, gives_block_scalar, gives_node, has_break, is_marker, is_on_line, plain_scalar, Previous, previous_by, quoted_scalar, spelled, Step}
 pub use Rattle.defs_token.specs.Token.{flow_entry, flow_mapping_end, flow_mapping_start, flow_sequence_end, flow_sequence_start, Style, Tok, Token}
-pub use Rattle.defs_token.specs.Tokens.{begun_inside, begun_outside, Colon, ends_with_stream, put, start_if, stream_position, tokens_before, tokens_from, tokens_of_row}
+pub use Rattle.defs_token.specs.Tokens.{begun_inside, begun_outside, Colon, ends_with_stream, put, stream_position, tokens_before, tokens_from, tokens_of_row}
 pub use Rattle.defs_token.specs.Toks.{toks}
 pub use Rattle.defs_tree.proofs.LinesLaws.{ends_with-one, ends_with-step, lines_of_ended}
 pub use Rattle.defs_tree.proofs.RealTexts.{is_real_character, real_text-characters}

@@ -3,7 +3,7 @@ use Rattle.proof_loads.proofs.TokensCommon.{[], and_false, another, ap, append-n
 use Rattle.proof_lexers.proofs.Blocks.Written as written
 use Rattle.proof_lexers.proofs.Blocks.Written.{spell}
 use Rattle.proof_lexers.proofs.Blocks.Positions.{spell_more}
-use Rattle.proof_loads.proofs.BlockLines.{line_of, lines_at, empties, texts_are, spelt_feeds, spelt_more, Last, last_of, row_by, row_spaces, content_more, header_by, text_value, spaces_value, last_value, header_line, block_text, header_inner, IsInside, AreEach, AreBlockLines, tab_more, some_lines, in_column_with, text_body, end_body, is_block, each_more, each_split, rows_are, are_lines, lines_none, header_none, content_last}
+use Rattle.proof_loads.proofs.BlockLines.{line_of, lines_at, empties, texts_are, spelt_feeds, spelt_more, Last, last_of, row_by, row_spaces, content_append, header_by, text_value, spaces_value, last_value, header_line, block_text, header_inner, IsInside, AreEach, AreBlockLines, tab_more, some_lines, in_column_with, text_body, end_body, is_block, each_more, each_split, rows_are, are_lines, lines_none, header_none, content_last}
 use Rattle.proof_loads.proofs.BlockLines as scans
 use Rattle.defs_token.specs.Key
 use Rattle.proof_loads.proofs.HasRows.Nodes.{none_ends, Parts, From, outside_reads, Reads, at, HasNone}
@@ -149,9 +149,6 @@ module _ (s : BlockStyle) (i column : ℕ) (strips : Bool) (text : List ℕ) (ls
     spelt_all : (more_text : List ℕ) → block_text s strips (spell_lines column ls (10 ∷ spell (lines_at column (empties n)) more_text)) ≡ piece ++ more_text
     spelt_all more_text = grind (arith, nat_tests, block_text, strips, spelt_feeds, column, ls, spell, lines_at, empties, spell_append, map-append, line_of, spell_more, header, all_lines)
 
-    piece_none : HasNone piece
-    piece_none = header_none s strips (spell (lines_at column all_lines) []) (lines_none column all_lines [] each refl)
-
     block_piece : (more_text : List ℕ) → Next column more_text → IsBlockPiece bs s text piece more_text
     block_piece [] at_end =
         let more = texts (lines_at column (empties n)) ++ [] ∷ [] in
@@ -163,8 +160,8 @@ module _ (s : BlockStyle) (i column : ℕ) (strips : Bool) (text : List ℕ) (ls
         let known = in_column (texts (lines_at column (empties n))) in
         let body = text_body s i column strips (texts (lines_at column all_lines)) more_text _ (ap (column_by None (collection_of i)) all_texts ∙ known.0) some_text is_further (ap starts_with_tab all_texts ∙ known.1) all_rows ∙ ap (λ t. Some (is_block s i column strips t)) value in
         let read : block_read (innermost bs) piece more_text ≡ Some (is_block s i column strips text) = rw (same, is_split, some_text) body in
-        let content = not_all_empty column (texts (lines_at column all_lines)) _ all_rows (content_more (map row_by ls) (map row_by (empties n)) some) in
-        record { column = column; read = read; may = rw (read, is_split, content, tabless, some_text, and_false (is_empty (texts (lines_at column all_lines)))) refl; none = piece_none; some = refl }
+        let content = not_all_empty column (texts (lines_at column all_lines)) _ all_rows (rw (content_append, some) refl) in
+        record { column = column; read = read; may = rw (read, is_split, content, tabless, some_text, and_false (is_empty (texts (lines_at column all_lines)))) refl; none = header_none s strips (spell (lines_at column all_lines) []) (lines_none column all_lines [] each refl); some = refl }
 
     -- a line begins after it
     piece_column : (more_text : List ℕ) (p : Position) → (position_after p piece more_text).col ≡ 0

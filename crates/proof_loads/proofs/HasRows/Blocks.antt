@@ -1,5 +1,5 @@
 -- Steps outside flow that begin at a column, after block collections that end there.
-use Rattle.proof_loads.proofs.TokensCommon.{[], act_of, and_parts, another, ap, arith, awaits_past, begins_free_line, begins_with, begins_with_space_or_break, begun_by, begun_outside, Bool, colon_may_precede, dash_may_precede, false, free, further_lines_stand, gives_node, has_break, has_no_break, has_tab_before_piece, has_tab_within, inl, innermost, inside, is_at_gap, is_blank, is_break, is_deeper, is_in_column, is_marker, is_nul, is_separation, is_waiting, IsShown, last_line, le-ltb, least_column, length, length-append, line_past, line_past_separation, List, may_precede, nat_lt, not, not-true, not_ended, opened, Position, position_after, Previous, previous_by, put, quoted_may_end, refl, replicate, Some, start_if, stops, suc, taken, Tok, Token, toks, true, ℕ, ◌&&◌, ◌++◌, ◌+◌, ◌-◌, ◌<◌, ◌∙◌, ◌∷◌, ◌≡◌, ◌≤◌}
+use Rattle.proof_loads.proofs.TokensCommon.{[], act_of, and_parts, another, ap, arith, awaits_past, begins_free_line, begins_with, begins_with_space_or_break, begun_by, begun_outside, Bool, colon_may_precede, dash_may_precede, false, free, further_lines_stand, gives_node, has_break, has_no_break, has_tab_before_piece, has_tab_within, inl, innermost, inside, is_at_gap, is_blank, is_break, is_deeper, is_in_column, is_marker, is_nul, is_separation, is_waiting, IsShown, last_line, le-ltb, least_column, length, length-append, line_past, line_past_separation, List, may_precede, nat_lt, not, not-true, not_ended, opened, Position, position_after, Previous, previous_by, put, quoted_may_end, refl, replicate, Some, stops, suc, taken, Tok, Token, toks, true, ℕ, ◌&&◌, ◌++◌, ◌+◌, ◌-◌, ◌<◌, ◌∙◌, ◌∷◌, ◌≡◌, ◌≤◌}
 use Rattle.proof_loads.proofs.HasRows.Nodes.{or_true, deeper, Quiet, Reads, at, step_of, site_of, Steps, step, ended, HasNone, Line}
 
 -- ---- columns

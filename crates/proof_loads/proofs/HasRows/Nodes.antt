@@ -20,9 +20,6 @@ none_ends a n h = grind (arith, le-ltb)
 pub deeper : (bs : List ℕ) (n : ℕ) → least_column bs true ≤ n → is_deeper n bs ≡ true
 deeper a n h = grind arith
 
-pub no_column : (bs : List ℕ) (n : ℕ) → least_column bs true ≤ n → is_in_column n bs ≡ false
-no_column a n h = grind (arith, ne_eqb)
-
 pub deep_char : (bs : List ℕ) (p : Position) (c : ℕ) (next : List ℕ) → (is_empty bs ≡ false → is_break c ≡ false) → IsDeep bs p → IsDeep bs (position_past p c next)
 deep_char a p c b h deep = grind arith
 
@@ -170,7 +167,7 @@ module _ (bs w : List ℕ) (t : Tok) (text next : List ℕ) (tokens : List Tok) 
         is_separated = parts.separates;
         is_shown = shown p awaits l there;
         stands = rw (fits, indented another bs awaits parts, no_marker, none_ends bs here.col there, precede) refl;
-        leads = rw (no_marker, none_ends bs here.col there, m.1, leads (is_in_column here.col bs) here m.0 (no_column bs here.col there) m.2, quiet, and_false (has_break w)) refl;
+        leads = rw (no_marker, none_ends bs here.col there, m.1, leads (is_in_column here.col bs) here m.0 (grind (arith, ne_eqb)) m.2, quiet, and_false (has_break w)) refl;
         begins = λ past colon. rw (no_marker, none_ends bs here.col there, no_less, begins) refl;
         none = (parts.none, none);
       } in

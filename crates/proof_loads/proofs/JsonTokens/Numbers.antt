@@ -1,5 +1,5 @@
 -- The words of JSON and its numbers are words.
-use Rattle.proof_loads.proofs.TokensCommon.{[], and_from, and_parts, ap, append-nil, append_assoc, are_digits, arith, Bool, Exponent, Fraction, is_ascii_digit, is_exponent, is_fraction, is_number, is_whole, List, list_all, nat_tests, Number, number, refl, spell_exponent, spell_fraction, spell_minus, spell_number, sym, true, ℕ, ◌++◌, ◌∙◌, ◌≡◌, list_all-append, list_all-more}
+use Rattle.proof_loads.proofs.TokensCommon.{[], and_from, and_parts, ap, append-nil, append_assoc, are_digits, arith, Exponent, Fraction, is_ascii_digit, is_exponent, is_fraction, is_number, is_whole, List, list_all, nat_tests, Number, number, refl, spell_exponent, spell_fraction, spell_minus, spell_number, sym, true, ℕ, ◌++◌, ◌∙◌, ◌≡◌, list_all-append, list_all-more}
 use Rattle.proof_loads.proofs.PlainTexts.{is_word, are_words, IsWord}
 
 digits_words : (w : List ℕ) → list_all is_ascii_digit w ≡ true → are_words w ≡ true
