@@ -307,16 +307,13 @@ folded_lines c column strips text ls deep h =
 
 -- ---- characters
 
-in_line : (c : ℕ) → is_literal_character c ≡ true → (c == 10) ≡ false → is_line_character c ≡ true
-unfolding is_literal_character is_line_character
-in_line c h e = grind (arith, nat_tests)
-
 abbrev are_line_texts : List (List ℕ) → Bool
 are_line_texts ls = list_all (λ l. list_all is_line_character l) ls
 
 text_lines : (text : List ℕ) → list_all is_literal_character text ≡ true → are_line_texts (lines_of text) ≡ true
+unfolding is_literal_character is_line_character
 text_lines [] h = refl
-text_lines (c ∷ cs) h = grind (arith, and_parts, in_line, text_lines cs)
+text_lines (c ∷ cs) h = grind (arith, nat_tests, and_parts, text_lines cs)
 
 -- ---- the last line
 

@@ -328,15 +328,6 @@ module _ (bs : List ℕ) where
   ReadsValue v = (pl : Place) (text r : List ℕ) (tokens : List Tok) → Parts bs text (spell v r) → Ends (flows pl) (innermost bs) r → length (entries_before pl) + levels v ≤ 255
       → Then bs (entries_after pl []) r tokens → From another bs (entries_before pl) text (json_tokens v tokens)
 
-  -- elements up to the closing bracket, and over it
-  abbrev ReadsElements : Elements → Type 0
-  ReadsElements es = (around : List Entry) (g : List Blank) (r : List ℕ) (tokens : List Tok) → MayStand bs g → begins_with 35 r ≡ false → length around + 1 + element_levels es ≤ 255
-      → Then bs around r tokens → From another bs (entry_of false fresh ∷ around) (spell_gap g (spell_elements es (93 ∷ r))) (element_tokens es (flow_sequence_end ∷ tokens))
-
-  abbrev ReadsMembers : Members → Type 0
-  ReadsMembers ms = (around : List Entry) (g : List Blank) (r : List ℕ) (tokens : List Tok) → MayStand bs g → begins_with 35 r ≡ false → length around + 1 + member_levels ms ≤ 255
-      → Then bs around r tokens → From another bs (entry_of true fresh ∷ around) (spell_gap g (spell_members ms (125 ∷ r))) (member_tokens ms (flow_mapping_end ∷ tokens))
-
   pub empty_reads : (b : Bool) (a : List Blank) → MayStand bs a → (pl : Place) (text r : List ℕ) (tokens : List Tok) → Parts bs text (opening_bracket b ∷ spell_gap a (closing_bracket b ∷ r)) → begins_with 35 r ≡ false → length (entries_before pl) < 255
       → Then bs (entries_after pl []) r tokens → From another bs (entries_before pl) text (opening b ∷ closing b ∷ tokens)
   empty_reads b a may pl text r tokens parts no_comment few rest =
@@ -369,7 +360,10 @@ module _ (bs : List ℕ) where
         opens bs true pl text (spell_gap a (spell_members ms (125 ∷ r))) _ parts (solid_past a _ is.0 (members_solid ms _)).no_comment (omega (arith, few))
         (members_read ms is.1 (λ e. (may e).1) (entries_after pl []) a r tokens (λ e. (may e).0) ends.no_comment (omega (arith, few, n)) rest)
 
-    elements_read : (es : Elements) → AreElements es → (is_empty bs ≡ false → HaveSpaces es) → ReadsElements es
+    -- elements up to the closing bracket, and over it; and so members
+    elements_read : (es : Elements) → AreElements es → (is_empty bs ≡ false → HaveSpaces es)
+        → (around : List Entry) (g : List Blank) (r : List ℕ) (tokens : List Tok) → MayStand bs g → begins_with 35 r ≡ false → length around + 1 + element_levels es ≤ 255
+        → Then bs around r tokens → From another bs (entry_of false fresh ∷ around) (spell_gap g (spell_elements es (93 ∷ r))) (element_tokens es (flow_sequence_end ∷ tokens))
     elements_read (last_element v a) are may around g r tokens gap no_comment few rest =
         value_reads v are.0 (λ e. (may e).0) (within false around) _ (spell_gap a (93 ∷ r)) (flow_sequence_end ∷ tokens) (blanks bs g _ gap) (flow_ends (innermost bs) 93 a r refl refl refl refl refl) (omega (arith, few))
         (bracket_closes bs false filled refl around a r tokens (λ e. (may e).1) no_comment rest)
@@ -378,7 +372,9 @@ module _ (bs : List ℕ) where
         (comma_goes bs false filled refl around a (spell_gap b (spell_elements es (93 ∷ r))) _ (λ e. (may e).1) (solid_past b _ are.2 (elements_solid es _ are.3)).no_comment
         (elements_read es are.3 (λ e. (may e).3) around b r tokens (λ e. (may e).2) no_comment (omega (arith, few)) rest))
 
-    members_read : (ms : Members) → AreMembers ms → (is_empty bs ≡ false → MembersHaveSpaces ms) → ReadsMembers ms
+    members_read : (ms : Members) → AreMembers ms → (is_empty bs ≡ false → MembersHaveSpaces ms)
+        → (around : List Entry) (g : List Blank) (r : List ℕ) (tokens : List Tok) → MayStand bs g → begins_with 35 r ≡ false → length around + 1 + member_levels ms ≤ 255
+        → Then bs around r tokens → From another bs (entry_of true fresh ∷ around) (spell_gap g (spell_members ms (125 ∷ r))) (member_tokens ms (flow_mapping_end ∷ tokens))
     members_read (last_member k g h v a) are may around f r tokens gap no_comment few rest =
         let next = spell_gap h (spell v (spell_gap a (125 ∷ r))) in
         key_goes bs k are.0 around _ g next _ (blanks bs f _ gap) (λ e. (may e).0) (colon_stands next (solid_past h _ are.2 (value_solid v _ are.3)))
