@@ -107,14 +107,8 @@ abbrev OfSome : {A : Type 0} → (A → Type 0) → Option A → Type 0
 OfSome P None = Unit {0}
 OfSome P (Some x) = P x
 
-mapped : {A B : Type 0} (P : B → Type 0) (f : A → B) (o : Option A) → ((x : A) → P (f x)) → OfSome P (option_map f o)
-mapped a f b h = grind arith
-
-allowed : (P : Ev → Type 0) (b : Bool) (e : Ev) → P e → OfSome P (if b then Some e else None)
-allowed a d e h = grind arith
-
 numbered : (keep_tags : Bool) (s : Names) (r : Raw) → OfSome (Follows s.count (names_after keep_tags s r).count) (resolved_event s r)
-numbered keep_tags s r = grind (arith, allowed, are_allowed, mapped, under_name, with_anchor, number, perhaps_resolved)
+numbered keep_tags s r = grind (arith, are_allowed, option_map, under_name, with_anchor, number, perhaps_resolved)
 
 -- ---- loaders
 

@@ -50,15 +50,12 @@ after g h t w {r} q k = subst (λ o. after_row h t w o ≡ true) q (by (is_last 
     by true e k = grind arith
     by false e k = row_keeps h t w (row_of (cases g) t) k
 
-or_more : (b : Bool) {c d : Bool} → (b || c) ≡ true → (c ≡ true → d ≡ true) → (b || d) ≡ true
-or_more b h f = grind arith
-
 -- the stream's end is among the tokens
 ends_at : (w : Works) (ts : List Tok) (es : List Raw) → Derives grammar w ts es → has_last w ≡ true → list_any is_stream_end ts ≡ true
 ends_at [] ts es d k = cc
 ends_at (saying e ∷ w) ts _ (says {es = es} d) k = ends_at w ts es d k
 ends_at (reading g h ∷ w) [] es d k = elim d [ ]
-ends_at (reading g h ∷ w) (t ∷ ts) es (by_taking ps q d) k = or_more (is_stream_end t) (after g h t w q k) (ends_at (before grammar h t ps w) ts es d)
+ends_at (reading g h ∷ w) (t ∷ ts) es (by_taking ps q d) k = let next = after g h t w q k in grind (arith, ends_at (before grammar h t ps w) ts es d)
 ends_at (reading g h ∷ w) (t ∷ ts) es (by_leaving ps q d) k = ends_at (before grammar h t ps w) (t ∷ ts) es d (after g h t w q k)
 
 -- ---- among tokens with their positions

@@ -128,12 +128,9 @@ last_past x y = rw (last_line, (broken_at x y).2) refl
 
 -- ---- positions
 
-feed_ends : (next : List ℕ) → ends_line 10 next ≡ true
-unfolding is_break
-feed_ends a = grind arith
-
 pub over_break : (w x r : List ℕ) (p : Position) → (q : Position) × (position_after p (w ++ 10 ∷ x) r ≡ position_after q x r) × (q.col ≡ 0)
-over_break [] x r p = (record { index = suc p.index; line = suc p.line; col = 0 }, rw (position_after, feed_ends (x ++ r)) refl, refl)
+unfolding is_break
+over_break [] x r p = (record { index = suc p.index; line = suc p.line; col = 0 }, grind (arith, position_after), refl)
 over_break (c ∷ w) x r p = over_break w x r (position_past p c ((w ++ 10 ∷ x) ++ r))
 
 pub spaces_column : (n : ℕ) (r : List ℕ) (p : Position) → (position_after p (spaces n []) r).col ≡ p.col + n
