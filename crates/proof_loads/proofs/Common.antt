@@ -1,7 +1,7 @@
 -- The words of other crates and of specs/ that the proofs here use, passed on from one place. Declares nothing.
 pub use Rattle.std.proofs.Common.{[], ap, append-nil, append_assoc, arith, Bool, Err, false, inl, inr, length, length-append, List, None, Ok, refl, Some, subst, suc, sym, true, ℕ, ◌++◌, ◌+◌, ◌<◌, ◌||◌, ◌∙◌, ◌∷◌, ◌≡◌, ◌≤◌, ◌⊎◌}
 pub use Rattle.std.proofs.lemmas.Bool.{both_ways, ne_eqb, or_right}
-pub use Rattle.std.proofs.lemmas.List.{append_cancel_left, map-append}
+pub use Rattle.std.proofs.lemmas.List.{append_cancel_left, length-map, map-append}
 pub use Rattle.std.specs.Prelude.{All, codes, IfSome, if◌then◌else◌, map, Option, option_map, Result, take}
 pub use Rattle.defs_event.proofs.OneByOne.{one_by_one}
 pub use Rattle.defs_event.specs.Event.{Ev}

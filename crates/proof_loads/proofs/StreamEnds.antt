@@ -67,15 +67,12 @@ record EndAmong (given : List Token) : Type 0 where
   whole : given ≡ before ++ end ∷ more
   is_end : end.tok ≡ Tok.stream_end
 
-is_end : (t : Tok) → is_stream_end t ≡ true → t ≡ Tok.stream_end
-is_end t h = grind arith
-
 end_among : (given : List Token) → list_any is_stream_end (toks given) ≡ true → EndAmong given
 end_among [] h = cc
 end_among (t ∷ given) h = by (is_stream_end t.tok) refl h (end_among given)
   where
     by : (b : Bool) → is_stream_end t.tok ≡ b → (b || list_any is_stream_end (toks given)) ≡ true → (list_any is_stream_end (toks given) ≡ true → EndAmong given) → EndAmong (t ∷ given)
-    by true e h rest = record { before = []; end = t; more = given; whole = refl; is_end = is_end t.tok e }
+    by true e h rest = record { before = []; end = t; more = given; whole = refl; is_end = grind (arith, e) }
     by false e h rest = let z = rest h in record { before = t ∷ z.before; end = z.end; more = z.more; whole = ap (λ xs. t ∷ xs) z.whole; is_end = z.is_end }
 
 nothing_after : (xs ys : List Token) → xs ++ ys ≡ [] → ys ≡ []

@@ -27,7 +27,7 @@ pub use Rattle.defs_layout.specs.LayoutTokens.{all_field_tokens, block_tokens, d
 pub use Rattle.defs_layout.specs.QuotedText.{body_value, double, quote_of, QuotedText, Quotes, single, style_of}
 pub use Rattle.defs_text.specs.BlockScalar.{BlockStyle, body, breaks, Chomping, column_by, content_row, deepest_start, empty_row, further_text, has_content, Header, header_of, is_further_text, is_outside, is_spaces, leading_spaces, Row, rows_of, starts_with_tab, text_after, text_of, unbroken, value_before_end, value_before_text}
 unfoldable pub use Rattle.defs_text.specs.BlockScalar.{digit_of, is_content_line, is_empty_line, row_of, sign_of}
-pub use Rattle.defs_text.specs.Breaks.{ends_line, has_no_break, is_before_line_feed, is_blanks_and_comment, split, split_by}
+pub use Rattle.defs_text.specs.Breaks.{has_no_break, is_before_line_feed, is_blanks_and_comment, split, split_by}
 pub use Rattle.defs_text.specs.Classes.{is_at_end, is_at_gap, is_document_marker, is_one_of, tab}
 unfoldable pub use Rattle.defs_text.specs.Classes.{are_marks, is_anchor_name, is_blank, is_blank_or_end, is_break, is_flow, is_nul}
 pub use Rattle.defs_text.specs.FlowScalar.{begins_with, content, Element, elements, has_document_marker, Lines, Spelled, value_by}

@@ -1,5 +1,5 @@
 -- JSON values have rows, with the white space between their parts; plain scalars on one line as pieces.
-use Rattle.proof_loads.proofs.TokensCommon.{[], after, after_blank, and_false, and_from, and_parts, another, ap, are_marks, are_pieces, AreElements, AreMembers, arith, array, begins_flow, begins_plain, begins_with, Blank, blank_character, Bool, codes, colon_may_precede, element, element_levels, element_tokens, Elements, empty_array, empty_object, ends_with_content, ends_with_dash, Entry, false, false_word, filled, first_entry, flow_collection, flow_entry, flow_mapping_end, flow_mapping_start, flow_sequence_end, flow_sequence_start, fresh, goes_on, goes_on_quoted, Had, has_dash_before_flow, has_no_break, has_tab_within, inl, innermost, innermost_column, inside, is_at_gap, is_blank, is_blank_or_end, is_blanks_and_comment, is_break, is_document_marker, is_empty, is_flow, is_keyed, is_nul, is_on_line, is_one_of, is_separation, is_whole_plain, IsJson, Json, json_tokens, last_element, last_line, last_member, leading, least_column, length, length-map, level_of, levels, List, list_all, map, mapping, may_begin, member, member_levels, member_tokens, Members, nat_lt, nat_tests, not, not-true, null_word, object, Option, Piece, plain_element, plain_lines_fit, plain_scalar, plain_value, Position, position_after, quoted_may_end, quoted_scalar, refl, settled, Some, space, spell, spell_elements, spell_members, spell_number, spell_string, split, Stand, stops, string, string_token, Style, subst, suc, TabsBeginLines, Tok, true, true_word, zero, ℕ, ◌&&◌, ◌++◌, ◌+◌, ◌<◌, ◌==◌, ◌||◌, ◌∷◌, ◌≡◌, ◌≤◌, list_all-more}
+use Rattle.proof_loads.proofs.TokensCommon.{[], after, after_blank, and_false, and_from, and_parts, another, ap, are_marks, are_pieces, AreElements, AreMembers, arith, array, begins_flow, begins_plain, begins_with, Blank, blank_character, Bool, codes, colon_may_precede, element, element_levels, element_tokens, Elements, empty_array, empty_object, ends_with_content, ends_with_dash, Entry, false, false_word, filled, first_entry, flow_collection, flow_entry, flow_mapping_end, flow_mapping_start, flow_sequence_end, flow_sequence_start, fresh, goes_on, goes_on_quoted, Had, has_dash_before_flow, has_no_break, has_tab_within, inl, innermost, innermost_column, inside, is_at_gap, is_blank, is_blank_or_end, is_blanks_and_comment, is_break, is_document_marker, is_empty, is_flow, is_keyed, is_nul, is_on_line, is_one_of, is_separation, is_whole_plain, IsJson, Json, json_tokens, last_element, last_member, leading, length, length-map, level_of, levels, List, list_all, map, mapping, may_begin, member, member_levels, member_tokens, Members, nat_lt, nat_tests, not, not-true, null_word, object, Option, Piece, plain_element, plain_lines_fit, plain_scalar, plain_value, Position, position_after, quoted_may_end, quoted_scalar, refl, settled, Some, space, spell, spell_elements, spell_members, spell_number, spell_string, split, Stand, stops, string, string_token, Style, subst, suc, TabsBeginLines, Tok, true, true_word, zero, ℕ, ◌&&◌, ◌++◌, ◌+◌, ◌<◌, ◌==◌, ◌||◌, ◌∷◌, ◌≡◌, ◌≤◌, list_all-more}
 use Rattle.proof_loads.proofs.HasRows.Strings.{IsOneLine, nothing, plain_step, value_is, body_of, quoted, quoted_is, string_piece}
 use Rattle.proof_loads.proofs.PlainTexts.{is_plain_char, are_plain, closes, IsPlainText, is_first, is_second, first_space, is_word, are_words, IsWord, word_text}
 use Rattle.defs_layout.specs.JsonGap.{spell_gap}
@@ -166,10 +166,7 @@ deep_gap bs [] p next may deep = deep
 deep_gap bs (b ∷ g) p next may deep = grind (arith, deep_char, deep_gap bs g)
 
 pub blanks : (bs : List ℕ) (g : List Blank) (rest : List ℕ) → MayStand bs g → Parts bs (spell_gap g rest) rest
-blanks bs g rest may = record { by = white g; is = spelt g rest; separates = separates g rest; tabless = tabless bs may; deep = λ p. deep_gap bs g p rest may; none = white_none g }
-  where
-    tabless : (bs : List ℕ) → MayStand bs g → (awaits : Bool) → has_tab_within (least_column bs awaits) (last_line (white g)) ≡ false
-    tabless a may b = grind (arith, one_line, no_tab)
+blanks bs g rest may = record { by = white g; is = spelt g rest; separates = separates g rest; tabless = λ awaits. grind (arith, one_line, no_tab); deep = λ p. deep_gap bs g p rest may; none = white_none g }
 
 -- ---- what follows a value
 
@@ -331,11 +328,8 @@ module _ (bs : List ℕ) where
   pub empty_reads : (b : Bool) (a : List Blank) → MayStand bs a → (pl : Place) (text r : List ℕ) (tokens : List Tok) → Parts bs text (opening_bracket b ∷ spell_gap a (closing_bracket b ∷ r)) → begins_with 35 r ≡ false → length (entries_before pl) < 255
       → Then bs (entries_after pl []) r tokens → From another bs (entries_before pl) text (opening b ∷ closing b ∷ tokens)
   empty_reads b a may pl text r tokens parts no_comment few rest =
-      opens bs b pl text (spell_gap a (closing_bracket b ∷ r)) (closing b ∷ tokens) parts (no_comment_past (closing_bracket b ∷ r) (hash b) a) few
+      opens bs b pl text (spell_gap a (closing_bracket b ∷ r)) (closing b ∷ tokens) parts (no_comment_past (closing_bracket b ∷ r) (grind arith) a) few
       (bracket_closes bs b fresh refl (entries_after pl []) a r tokens may no_comment rest another (λ f. refl))
-    where
-      hash : (b : Bool) → begins_with 35 (closing_bracket b ∷ r) ≡ false
-      hash a = grind arith
 
   mutual
     unfolding is_blank is_break is_flow

@@ -184,7 +184,4 @@ module _ (bs w : List ℕ) (t : Tok) (text next : List ℕ) (tokens : List Tok) 
       → From (previous_by t) bs (entries_after pl (begun_by t)) next tokens → From another bs (entries_before pl) text (t ∷ tokens)
   place_reads outside over further node shown precede rest = node_reads over further node shown precede rest
   place_reads (within b es) over further node shown precede rest =
-      flow_reads over further another (awaiting b) es (λ here. begun_by t ++ filled_by b ∷ es) false [] (rw node refl) shown precede (λ here. rw node (past here b)) (λ here colon own. rw node refl) (λ here. rest)
-    where
-      past : (here : Position) (b : Bool) → entries_past here false gives_node (begun_by t) false (awaiting b) es ≡ Some (begun_by t ++ filled_by b ∷ es)
-      past here b = grind arith
+      flow_reads over further another (awaiting b) es (λ here. begun_by t ++ filled_by b ∷ es) false [] (rw node refl) shown precede (λ here. rw node (grind arith)) (λ here colon own. rw node refl) (λ here. rest)

@@ -1,5 +1,5 @@
 -- What stands after a value of a layout: gaps and comments as separations, and how the next piece is read.
-use Rattle.proof_loads.proofs.TokensCommon.{[], after_blank, and_parts, another, ap, append_assoc, are_marks, arith, Bool, codes, comment, Comment, comment_line, empty_line, ends_line, false, free, GapLine, has_break, has_tab_within, innermost, inside, is_before_line_feed, is_blank, is_blank_or_end, is_blanks_and_comment, is_break, is_document_marker, is_line_character, is_nul, is_on_line, is_separation, is_value_indicator, is_waiting, IsComment, IsGap, IsLineText, last_line, leading, least_column, List, list_all, nat_le, nat_tests, next_line, no_comment, not, on_line, Option, Position, position_after, position_past, Previous, refl, Some, spaces, spell_comment, spell_ending, spell_gap, split, split_by, Stand, stops, suc, sym, Tok, true, zero, ℕ, ◌&&◌, ◌++◌, ◌+◌, ◌<◌, ◌==◌, ◌||◌, ◌∙◌, ◌∷◌, ◌≡◌, ◌≤◌}
+use Rattle.proof_loads.proofs.TokensCommon.{[], after_blank, and_parts, another, ap, append_assoc, are_marks, arith, Bool, codes, comment, Comment, comment_line, empty_line, false, free, GapLine, has_break, has_tab_within, innermost, inside, is_before_line_feed, is_blank, is_blank_or_end, is_blanks_and_comment, is_break, is_document_marker, is_line_character, is_nul, is_on_line, is_separation, is_value_indicator, is_waiting, IsComment, IsGap, IsLineText, last_line, leading, least_column, List, list_all, nat_le, nat_tests, next_line, no_comment, not, on_line, Option, Position, position_after, position_past, Previous, refl, Some, spaces, spell_comment, spell_ending, spell_gap, split, split_by, Stand, stops, suc, sym, Tok, true, zero, ℕ, ◌&&◌, ◌++◌, ◌+◌, ◌<◌, ◌==◌, ◌||◌, ◌∙◌, ◌∷◌, ◌≡◌, ◌≤◌}
 use Rattle.defs_token.specs.Plain.{is_deeper}
 use Rattle.proof_loads.proofs.HasRows.Json.{Ends}
 use Rattle.proof_loads.proofs.HasRows.Nodes.{or_true, Parts, Quiet, Then, Reads, at, ended, HasNone, both, text_none, Line}
