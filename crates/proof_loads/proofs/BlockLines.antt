@@ -185,12 +185,9 @@ pub record AreBlockLines (s : BlockStyle) (column : ℕ) (strips : Bool) (text :
 abbrev pub AreFree : ℕ → List Line → Type 0
 AreFree column ls = column ≡ 0 → list_any begins_as_marker (contents ls) ≡ false
 
-pub tab_more : (ls more : List (List ℕ)) (b : Bool) → ls ≢ [] → starts_with_tab ls ≡ b → starts_with_tab (ls ++ more) ≡ b
-tab_more a more b d h = grind arith
-
-pub some_lines : (column : ℕ) (ls : List Line) → BeginsWithText ls → indented_lines column ls ≢ []
-some_lines column [] h = absurd h
-some_lines column (l ∷ ls) h = λ e. cc
+pub tab_more : (column : ℕ) (ls : List Line) (more : List (List ℕ)) → BeginsWithText ls → starts_with_tab (indented_lines column ls) ≡ false → starts_with_tab (indented_lines column ls ++ more) ≡ false
+tab_more column [] more begins h = absurd begins
+tab_more column (l ∷ ls) more begins h = grind (arith, h)
 
 pub high : (i column : ℕ) → IsInside i column → i ≤ column
 high i column h = grind (arith, nat_tests)

@@ -3,7 +3,7 @@ use Rattle.proof_loads.proofs.TokensCommon.{[], and_false, another, ap, append-n
 use Rattle.proof_lexers.proofs.Blocks.Written as written
 use Rattle.proof_lexers.proofs.Blocks.Written.{spell}
 use Rattle.proof_lexers.proofs.Blocks.Positions.{spell_more}
-use Rattle.proof_loads.proofs.BlockLines.{line_of, lines_at, empties, texts_are, spelt_feeds, spelt_more, Last, last_of, row_by, row_spaces, content_append, header_by, text_value, spaces_value, last_value, header_line, block_text, header_inner, IsInside, AreEach, AreBlockLines, tab_more, some_lines, in_column_with, text_body, end_body, is_block, each_more, each_split, rows_are, are_lines, lines_none, header_none, content_last}
+use Rattle.proof_loads.proofs.BlockLines.{line_of, lines_at, empties, texts_are, spelt_feeds, spelt_more, Last, last_of, row_by, row_spaces, content_append, header_by, text_value, spaces_value, last_value, header_line, block_text, header_inner, IsInside, AreEach, AreBlockLines, tab_more, in_column_with, text_body, end_body, is_block, each_more, each_split, rows_are, are_lines, lines_none, header_none, content_last}
 use Rattle.proof_loads.proofs.BlockLines as scans
 use Rattle.defs_token.specs.Key
 use Rattle.proof_loads.proofs.HasRows.Nodes.{none_ends, Parts, From, outside_reads, Reads, at, HasNone}
@@ -111,7 +111,7 @@ module _ (s : BlockStyle) (i column : ℕ) (strips : Bool) (text : List ℕ) (ls
 
   -- the lines' column is theirs, and no TAB begins them, whatever lines stand after them
   in_column : (more : List (List ℕ)) → (column_by None (collection_of i) (indented_lines column ls ++ more) ≡ column) × (starts_with_tab (indented_lines column ls ++ more) ≡ false)
-  in_column more = (in_column_with i column ls more inside h.begins h.lines, tab_more (indented_lines column ls) more false (some_lines column ls h.begins) h.tabless)
+  in_column more = (in_column_with i column ls more inside h.begins h.lines, tab_more column ls more h.begins h.tabless)
 
   -- a block up to the end of the text, by its complete lines and its last
   ends_so : (ms : List Line) (l : List ℕ) (r : Row) (more : List (List ℕ)) → AreEach column ms → row_of column l ≡ Some r → is_in_line l ≡ true → HasNone l → texts (lines_at column ms) ++ l ∷ [] ≡ indented_lines column ls ++ more
