@@ -1,16 +1,19 @@
 -- What a load answers of any text, by a parser that is at its start.
-use Rattle.proof_loads.proofs.Common.{[], Answer, AnswersText, ap, append-nil, append_assoc, AreFirst, AreSettled, before_stream, BeginsEvents, BeginsPlaced, Blames, Bool, codes, ComesAfter, EndsSo, Err, ErrorReport, Ev, events_of, Explains, false, Foretells, given, has_end, HasEvents, inl, inr, IsAtStart, IsCause, IsDerived, IsFaultOf, IsOfScanner, IsPlacedStream, IsRefusal, IsStream, length, List, load, load_from, Loads, nested_stream, no_names, no_stream, no_token, None, NoneBegins, Parsed, Position, Raw, raws_of, read, Receives, refl, Refused, Result, ScansIn, Some, subst, sym, TextsAreAnswered, Tok, Token, toks, true, wants_memory, whole, without_positions, ℕ, ◌++◌, ◌∙◌, ◌∷◌, ◌≡◌}
+use Rattle.proof_loads.proofs.Common.{[], Answer, AnswersText, ap, append-nil, append_assoc, AreFirst, AreSettled, before_stream, BeginsEvents, BeginsPlaced, Blames, Bool, codes, ComesAfter, EndsSo, Err, ErrorReport, Ev, events_of, Explains, false, Foretells, given, has_end, HasEvents, inl, inr, IsAtStart, IsCause, IsDerived, IsFaultOf, IsOfScanner, IsPlacedStream, IsRefusal, IsStream, length, List, load, load_from, Loads, nested_stream, no_names, no_stream, no_token, None, NoneBegins, Parsed, Position, Raw, raws_of, read, Receives, refl, Refused, Result, ScansIn, Some, subst, sym, TextsAreAnswered, Tok, Token, toks, true, wants_memory, whole, without_positions, ℕ, ◌++◌, ◌∙◌, ◌∷◌, ◌≡◌, IsSound}
 use Rattle.yaml_parser.specs.Settings.{AreAll}
 use Rattle.yaml_parser.proofs.Since.{since_same, names_same}
 use Rattle.defs_event.specs.Push as run
 use Rattle.defs_event.proofs.AllPushed.{all_pushed}
 use Rattle.defs_event.proofs.StreamNests.{stream_nests}
 use Rattle.yaml_parser.specs.Loads as loads
-use Rattle.yaml_parser.specs.Pulls.{IsSound}
 use Rattle.proof_loads.specs.TextEvents.{faulted, refused}
 use Rattle.proof_loads.proofs.Pulled.{Noted, given_alone, Answered, events, faults, answered, read_given, settings_stay, IsOver, Pushes, pushes, fault_is_reached, end_is_reached, faulted_pushes, PushesAll, ended_within, ended_after, given_append}
 use Rattle.proof_loads.proofs.Texts.{first_tokens, foretells_beginning, if_kept}
 use Rattle.proof_loads.proofs.StreamEnds.{all_tokens}
+
+-- what a receiver makes of an event at its position: a result, and itself after it
+abbrev pub Takes : Type 0 → Type 1
+Takes R = R → Ev → Position → Result (Unit {0}) ErrorReport → R → Type 0
 
 derived_steady : {settings : List Bool} {keep_tags : Bool} {tokens : List Token} {raw : List Raw} {events : List (Ev × Position)} → AreAll keep_tags settings → IsDerived settings keep_tags tokens raw events → IsDerived [] keep_tags tokens raw events
 derived_steady {settings} {keep_tags} {tokens} {raw} {events} all d = record {
@@ -192,13 +195,13 @@ never_misplaced text answers p scans steady (faults g first rest are is ahead wh
     fault_is_reached ErrorReport before_stream p.given first rest q (ap (λ bs. (so bs).ending) (sym are) ∙ e) (ap (λ bs. (so bs).taken) (sym are) ∙ taken ∙ ap length are)
 
 -- Where a fault is kept after a load: the receiver took the events before it.
-pub record FaultTaken {R : Type 0} (takes : R → Ev → Position → Result (Unit {0}) ErrorReport → R → Type 0) (keep_tags : Bool) (text : List ℕ) (f : ErrorReport) (r s : R) : Type 0 where
+pub record FaultTaken {R : Type 0} (takes : Takes R) (keep_tags : Bool) (text : List ℕ) (f : ErrorReport) (r s : R) : Type 0 where
   pub events : List (Ev × Position)
   pub took : Receives takes r events s
   pub why : FaultAfter keep_tags text f events
 
 -- Before a fault all events that were read are pushed.
-at_fault : {R : Type 0} {takes : R → Ev → Position → Result (Unit {0}) ErrorReport → R → Type 0} {r s : R} {text : List ℕ} (answers : List (Answer ErrorReport)) (p : Parsed) → ScansIn text p.scanner → p.steady ≡ true → Answered answers p
+at_fault : {R : Type 0} {takes : Takes R} {r s : R} {text : List ℕ} (answers : List (Answer ErrorReport)) (p : Parsed) → ScansIn text p.scanner → p.steady ≡ true → Answered answers p
     → (f : ErrorReport) → (so answers).ending ≡ run.faulted f → p.fault ≡ Some f → Receives takes r (so answers).pushed s → FaultTaken takes p.keep_tags text f r s
 at_fault answers p scans steady (events n clear o) f e kept received = cc
 at_fault {text = text} answers p scans steady (faults g first rest are is ahead why) f e kept received =
@@ -206,7 +209,7 @@ at_fault {text = text} answers p scans steady (faults g first rest are is ahead 
     let all = ap (λ bs. (so bs).pushed) are ∙ faulted_pushes ErrorReport before_stream p.given f first rest (sym (ap (λ bs. (so bs).ending) are) ∙ e) ∙ sym (read_given p.given p.ended p.ahead ahead) in
     record { events = (so answers).pushed; took = received; why = subst (FaultAfter p.keep_tags text f) (sym all) (fault_after text p f scans steady (subst (λ x. Explains x p) same why)) }
 
-ends_so : {R : Type 0} {takes : R → Ev → Position → Result (Unit {0}) ErrorReport → R → Type 0} {r s : R} {text : List ℕ} {result : Result (Unit {0}) ErrorReport} {new : Parsed} (answers : List (Answer ErrorReport)) (p : Parsed)
+ends_so : {R : Type 0} {takes : Takes R} {r s : R} {text : List ℕ} {result : Result (Unit {0}) ErrorReport} {new : Parsed} (answers : List (Answer ErrorReport)) (p : Parsed)
     → ScansIn text p.scanner → p.steady ≡ true → Answered answers p → (so answers).taken ≡ length answers → EndsSo takes r (so answers) p result new s → AnswersText takes p.keep_tags text r result s
 ends_so answers p scans steady (events n clear (inl none)) taken (loads.well e _ received) = let no : run.unfinished ≡ run.well = ap (λ bs. (so bs).ending) (sym none) ∙ e in cc
 ends_so {takes = takes} {r} {s} {text} answers p scans steady (events n clear (inr (ahead, sound))) taken (loads.well e _ received) =
@@ -224,19 +227,19 @@ ends_so {text = text} answers p scans steady (events n clear (inr (ahead, sound)
     refused es e q (begins_text text answers p scans steady n ahead sound (es ++ (e, q) ∷ []) pushed) received takes
 ends_so answers p scans steady (faults f first rest are kept ahead why) taken (loads.refused e q pushed clear received takes) = let no : None ≡ Some f = sym clear ∙ kept in cc
 
-fault_ends : {R : Type 0} {takes : R → Ev → Position → Result (Unit {0}) ErrorReport → R → Type 0} {r s : R} {text : List ℕ} {f : ErrorReport} {new : Parsed} (answers : List (Answer ErrorReport)) (p : Parsed)
+fault_ends : {R : Type 0} {takes : Takes R} {r s : R} {text : List ℕ} {f : ErrorReport} {new : Parsed} (answers : List (Answer ErrorReport)) (p : Parsed)
     → ScansIn text p.scanner → p.steady ≡ true → Answered answers p → (so answers).taken ≡ length answers → EndsSo takes r (so answers) p (Err f) new s → new.fault ≡ Some f → FaultTaken takes p.keep_tags text f r s
 fault_ends answers p scans steady a taken (loads.faulted {f = f} e kept received) h = at_fault answers p scans steady a f e kept received
 fault_ends {text = text} answers p scans steady a taken (loads.misplaced q e received) h = absurd (never_misplaced text answers p scans steady a q e taken)
 fault_ends {f = f} answers p scans steady a taken (loads.refused e q pushed clear received takes) h = let no : None ≡ Some f = sym clear ∙ h in cc
 
-scanner_stays : {R : Type 0} {takes : R → Ev → Position → Result (Unit {0}) ErrorReport → R → Type 0} {r s : R} {l : run.Loaded ErrorReport} {p new : Parsed} {result : Result (Unit {0}) ErrorReport}
+scanner_stays : {R : Type 0} {takes : Takes R} {r s : R} {l : run.Loaded ErrorReport} {p new : Parsed} {result : Result (Unit {0}) ErrorReport}
     → EndsSo takes r l p result new s → new.scanner ≡ p.scanner
 scanner_stays (loads.misplaced q e received) = refl
 scanner_stays e = refl
 
 -- what holds after the answers of a load from the start on
-of_load : {R : Type 0} (takes : R → Ev → Position → Result (Unit {0}) ErrorReport → R → Type 0) (old new : Parsed) (r s : R) (result : Result (Unit {0}) ErrorReport) (text : List ℕ) (P : Bool → Type 0)
+of_load : {R : Type 0} (takes : Takes R) (old new : Parsed) (r s : R) (result : Result (Unit {0}) ErrorReport) (text : List ℕ) (P : Bool → Type 0)
     → IsAtStart old → ScansIn text new.scanner → Loads takes true old r result new s
     → ((answers : List (Answer ErrorReport)) (p : Parsed) → ScansIn text p.scanner → p.steady ≡ true → Answered answers p → (so answers).taken ≡ length answers → EndsSo takes r (so answers) p result new s → P p.keep_tags) → P old.keep_tags
 of_load takes old new r s result text P start scans l f =
@@ -245,10 +248,10 @@ of_load takes old new r s result text P start scans l f =
     subst P k.keep_tags (f l.answers l.after (subst (ScansIn text) (scanner_stays l.ends) scans) (k.steady ∙ start.steady) (answered start l.pulled) (sym (ap (λ u. u.taken) from_start) ∙ l.taken)
     (subst (λ u. EndsSo takes r u l.after result new s) from_start l.ends))
 
-pub texts_are_answered : {R : Type 0} (takes : R → Ev → Position → Result (Unit {0}) ErrorReport → R → Type 0) → TextsAreAnswered takes
+pub texts_are_answered : {R : Type 0} (takes : Takes R) → TextsAreAnswered takes
 texts_are_answered takes old new r s result text start scans l = of_load takes old new r s result text (λ k. AnswersText takes k text r result s) start scans l (λ answers p. ends_so answers p)
 
-pub fault_taken : {R : Type 0} (takes : R → Ev → Position → Result (Unit {0}) ErrorReport → R → Type 0) (old new : Parsed) (r s : R) (f : ErrorReport) (text : List ℕ) → IsAtStart old → ScansIn text new.scanner
+pub fault_taken : {R : Type 0} (takes : Takes R) (old new : Parsed) (r s : R) (f : ErrorReport) (text : List ℕ) → IsAtStart old → ScansIn text new.scanner
     → Loads takes true old r (Err f) new s → new.fault ≡ Some f → FaultTaken takes old.keep_tags text f r s
 fault_taken takes old new r s f text start scans l kept =
     of_load takes old new r s (Err f) text (λ k. FaultTaken takes k text f r s) start scans l (λ answers p scanned steady a taken ends. fault_ends answers p scanned steady a taken ends kept)

@@ -1,13 +1,11 @@
 -- The lines of a literal or folded block as the definitions of block scalars read them: their column, their rows and their value.
-use Rattle.proof_loads.proofs.TokensCommon.{[], and_false, and_parts, ap, append-nil, append_assoc, append_cancel_right, are_marks, AreFoldedLines, AreLines, AreLinesOf, AreLineTexts, arith, begins_as_marker, begins_with, BeginsWithText, blank, BlockStyle, body, Bool, breaks, Chomping, codes, collection_of, column_by, content_row, contents, deepest_start, digit_of, drop, empty_row, ends_with, EndsInText, false, feed, first_full_line_is_indented, full, further_text, has_content, Header, header_of, if◌then◌else◌, indented_lines, indicator_of, is_at_end, is_blank, is_blank_or_end, is_content_line, is_document_marker, is_empty, is_empty_line, is_further_text, is_in_line, is_line_character, is_line_feed, is_literal_character, is_literal_text, is_nul, is_outside, is_root_literal, is_spaces, IsLineText, leading_spaces, length, Line, lines_of, lines_of_ended, List, list_all, list_any, literal_header, map, max, nat_eq, nat_le, nat_tests, ne_eqb, None, not, not-true, onto_first_line, or_parts, read_body, refl, Row, row_of, rows_of, sign_of, Some, spaces, spell_line, spell_lines, starts_with_tab, suc, sym, text_after, text_of, texts, true, unbroken, value_before_end, value_before_text, zero, ℕ, ◌&&◌, ◌++◌, ◌+◌, ◌<◌, ◌==◌, ◌||◌, ◌∙◌, ◌∷◌, ◌≡◌, ◌≢◌, ◌≤◌}
+use Rattle.proof_loads.proofs.TokensCommon.{[], and_false, and_parts, ap, append-nil, append_assoc, append_cancel_right, are_marks, AreFoldedLines, AreLines, AreLinesOf, AreLineTexts, arith, begins_as_marker, begins_with, BeginsWithText, blank, BlockStyle, body, Bool, breaks, Chomping, codes, collection_of, column_by, content_row, contents, deepest_start, digit_of, drop, empty_row, ends_with, EndsInText, false, feed, first_full_line_is_indented, full, further_text, has_content, Header, header_of, if◌then◌else◌, indented_lines, indicator_of, is_at_end, is_blank, is_blank_or_end, is_content_line, is_document_marker, is_empty, is_empty_line, is_further_text, is_in_line, is_line_character, is_line_feed, is_literal_character, is_literal_text, is_nul, is_outside, is_root_literal, is_spaces, IsLineText, leading_spaces, length, Line, lines_of, lines_of_ended, List, list_all, list_any, literal_header, map, max, nat_eq, nat_le, nat_tests, ne_eqb, None, not, not-true, onto_first_line, or_parts, read_body, refl, Row, row_of, rows_of, sign_of, Some, spaces, spell_line, spell_lines, starts_with_tab, suc, sym, text_after, text_of, texts, true, unbroken, value_before_end, value_before_text, zero, ℕ, ◌&&◌, ◌++◌, ◌+◌, ◌<◌, ◌==◌, ◌||◌, ◌∙◌, ◌∷◌, ◌≡◌, ◌≢◌, ◌≤◌, tab, ended}
 use Rattle.proof_lexers.proofs.Blocks.Written as written
 use Rattle.defs_text.specs.Classes as classes
-use Rattle.defs_text.specs.Classes.{tab}
 use Rattle.defs_token.specs.BlockPiece as cut
 use Rattle.proof_lexers.proofs.Blocks.Written.{spell}
 use Rattle.proof_loads.proofs.Nul.{HasNone, both, text_none, spaces_none}
 use Rattle.proof_lexers.proofs.Blocks.First.{least_is}
-use Rattle.defs_tree.specs.Lines.{ended}
 use Rattle.defs_tree.specs.Literal as literal_defs
 use Rattle.defs_layout.specs.BlockLines.{content}
 
@@ -107,13 +105,9 @@ module _ (column : ℕ) where
 
 -- ---- their value
 
-pub content_append : (rs ss : List Row) → has_content ss ≡ true → has_content (rs ++ ss) ≡ true
-content_append [] ss h = h
-content_append (m ∷ rs) ss h = grind (arith, content_append rs ss)
-
-pub content_more : (rs ss : List Row) → has_content rs ≡ true → has_content (rs ++ ss) ≡ true
-content_more [] ss h = cc
-content_more (m ∷ rs) ss h = grind (arith, content_more rs ss)
+pub content_append : (rs ss : List Row) → has_content (rs ++ ss) ≡ (has_content rs || has_content ss)
+content_append [] ss = refl
+content_append (m ∷ rs) ss = grind (arith, content_append rs ss)
 
 -- a header without digit, that strips or clips
 abbrev pub header_by : BlockStyle → (strips : Bool) → Header
@@ -135,12 +129,12 @@ module _ (s : BlockStyle) where
 
   -- before further text
   pub text_value : (strips : Bool) (rs : List Row) (n : ℕ) → has_content rs ≡ true → value_before_text (header_by s strips) (rs ++ map row_by (empties n)) ≡ value_before_text (header_by s strips) rs
-  text_value strips rs n h = rw (content_more rs (map row_by (empties n)) h, h) (grind (arith, same_text))
+  text_value strips rs n h = rw (content_append rs (map row_by (empties n)), h) (grind (arith, same_text))
 
   -- at the end of the text, in a line of spaces
   pub spaces_value : (strips : Bool) (column : ℕ) (rs : List Row) (n width : ℕ) → has_content rs ≡ true → width < max column 1
       → value_before_end (header_by s strips) column (rs ++ map row_by (empties n)) (spaces width []) empty_row ≡ value_before_text (header_by s strips) rs
-  spaces_value strips column rs n width h e = grind (arith, nat_tests, length, spaces, spaces_long, nat_le, max, content_more, map, row_by, empties, same_text)
+  spaces_value strips column rs n width h e = grind (arith, nat_tests, length, spaces, spaces_long, nat_le, max, content_append, map, row_by, empties, same_text)
 
   -- at the end of the text, in the last line
   pub last_value : (strips : Bool) (column : ℕ) (rs : List Row) (r : Row) (l : List ℕ) → has_content (r ∷ []) ≡ true → value_before_end (header_by s strips) column rs l r ≡ value_before_text (header_by s strips) (rs ++ r ∷ [])
@@ -191,12 +185,9 @@ pub record AreBlockLines (s : BlockStyle) (column : ℕ) (strips : Bool) (text :
 abbrev pub AreFree : ℕ → List Line → Type 0
 AreFree column ls = column ≡ 0 → list_any begins_as_marker (contents ls) ≡ false
 
-pub tab_more : (ls more : List (List ℕ)) (b : Bool) → ls ≢ [] → starts_with_tab ls ≡ b → starts_with_tab (ls ++ more) ≡ b
-tab_more a more b d h = grind arith
-
-pub some_lines : (column : ℕ) (ls : List Line) → BeginsWithText ls → indented_lines column ls ≢ []
-some_lines column [] h = absurd h
-some_lines column (l ∷ ls) h = λ e. cc
+pub tab_more : (column : ℕ) (ls : List Line) (more : List (List ℕ)) → BeginsWithText ls → starts_with_tab (indented_lines column ls) ≡ false → starts_with_tab (indented_lines column ls ++ more) ≡ false
+tab_more column [] more begins h = absurd begins
+tab_more column (l ∷ ls) more begins h = grind (arith, h)
 
 pub high : (i column : ℕ) → IsInside i column → i ≤ column
 high i column h = grind (arith, nat_tests)
@@ -313,16 +304,13 @@ folded_lines c column strips text ls deep h =
 
 -- ---- characters
 
-in_line : (c : ℕ) → is_literal_character c ≡ true → (c == 10) ≡ false → is_line_character c ≡ true
-unfolding is_literal_character is_line_character
-in_line c h e = grind (arith, nat_tests)
-
 abbrev are_line_texts : List (List ℕ) → Bool
 are_line_texts ls = list_all (λ l. list_all is_line_character l) ls
 
 text_lines : (text : List ℕ) → list_all is_literal_character text ≡ true → are_line_texts (lines_of text) ≡ true
+unfolding is_literal_character is_line_character
 text_lines [] h = refl
-text_lines (c ∷ cs) h = grind (arith, and_parts, in_line, text_lines cs)
+text_lines (c ∷ cs) h = grind (arith, nat_tests, and_parts, text_lines cs)
 
 -- ---- the last line
 
@@ -331,16 +319,13 @@ ends_full [] = false
 ends_full (l ∷ []) = not (is_empty l)
 ends_full (l ∷ m ∷ ls) = ends_full (m ∷ ls)
 
-onto_full : (c : ℕ) (ls : List (List ℕ)) → ends_full ls ≡ true → ends_full (onto_first_line c ls) ≡ true
-onto_full c a h = grind arith
-
 two_step : (c d e : ℕ) (cs : List ℕ) → ends_with nat_eq (c ∷ d ∷ e ∷ cs) (10 ∷ 10 ∷ []) ≡ ends_with nat_eq (d ∷ e ∷ cs) (10 ∷ 10 ∷ [])
 two_step c d e cs = grind arith
 
 last_full : (c : ℕ) (cs : List ℕ) → ((c == 10) && is_empty cs) ≡ false → ends_with nat_eq (c ∷ cs) (codes "\n\n") ≡ false → ends_full (lines_of (c ∷ cs)) ≡ true
 last_full c [] h e = grind (arith, ends_full)
 last_full c (d ∷ []) h e = grind arith
-last_full c (d ∷ e ∷ cs) h f = grind (arith, and_false, two_step, onto_full, last_full d (e ∷ cs))
+last_full c (d ∷ e ∷ cs) h f = grind (arith, and_false, two_step, onto_first_line, last_full d (e ∷ cs))
 
 -- ---- the written lines
 

@@ -1,12 +1,12 @@
 -- The words of other crates and of specs/ that the proofs here use, passed on from one place. Declares nothing.
 pub use Rattle.std.proofs.Common.{[], ap, append-nil, append_assoc, arith, Bool, Err, false, inl, inr, length, length-append, List, None, Ok, refl, Some, subst, suc, sym, true, ℕ, ◌++◌, ◌+◌, ◌<◌, ◌||◌, ◌∙◌, ◌∷◌, ◌≡◌, ◌≤◌, ◌⊎◌}
-pub use Rattle.std.proofs.lemmas.Bool.{both_ways, ne_eqb}
-pub use Rattle.std.proofs.lemmas.List.{map-append}
-pub use Rattle.std.specs.Prelude.{All, codes, IfSome, if◌then◌else◌, map, Option, option_map, Result}
+pub use Rattle.std.proofs.lemmas.Bool.{both_ways, ne_eqb, or_right}
+pub use Rattle.std.proofs.lemmas.List.{append_cancel_left, length-map, map-append}
+pub use Rattle.std.specs.Prelude.{All, codes, IfSome, if◌then◌else◌, map, Option, option_map, Result, take}
 pub use Rattle.defs_event.proofs.OneByOne.{one_by_one}
 pub use Rattle.defs_event.specs.Event.{Ev}
 pub use Rattle.defs_event.specs.Meaning.{Means}
-pub use Rattle.defs_event.specs.Names.{are_allowed, both, named, Names, names_after, no_names, number, perhaps_resolved, resolved_event, under_name, with_anchor}
+pub use Rattle.defs_event.specs.Names.{are_allowed, named, Names, names_after, no_names, number, perhaps_resolved, resolved_event, under_name, with_anchor}
 pub use Rattle.defs_event.specs.Nested.{Nest, nest, nest_pair, nested_mapping, nested_scalar, nested_sequence, nested_stream, NestedDocument, no_nest_pairs, no_nests, with_node}
 pub use Rattle.defs_event.specs.PulledList.{Answer, event, fault, given, IsSettled, IsStreamEnd, MayFollow}
 pub use Rattle.defs_event.specs.Push.{before_stream, between, Ending, faulted, inside, load, load_from, Loaded, no_document, push, Standing, unfinished, well}
@@ -14,7 +14,7 @@ pub use Rattle.defs_event.specs.Raw.{Raw}
 pub use Rattle.defs_event.specs.ReadAs.{ReadAs}
 pub use Rattle.defs_event.specs.Reading.{reading}
 pub use Rattle.defs_event.specs.Stream.{AgreeAt, BeginsPlaced, events_of, Foretells, HasPlacedTo, IsPlacedStream, IsStream, NoneBegins, raws_of, StreamSays, to_next, whole_stream}
-pub use Rattle.defs_event.specs.Unfinished.{at_work, documents_of, Loader, loader_after, new_loader, noted, Opened, opened_mapping, opened_sequence, out_of_nesting, reads, refused, repeats, Step, Unfinished, with_document_end, with_event, with_event_at, with_events, with_mapping_end, with_root, with_sequence_end, with_start, with_tree}
+pub use Rattle.defs_event.specs.Unfinished.{at_work, documents_of, Loader, loader_after, new_loader, noted, Opened, opened_mapping, opened_sequence, out_of_nesting, reads, refused, repeats, Step, Unfinished, with_event, with_event_at, with_events, with_mapping_end, with_root, with_sequence_end, with_start, with_tree}
 pub use Rattle.defs_layout.specs.Json.{spell_text, tree_of}
 pub use Rattle.defs_layout.specs.Layout.{spell, trees_of}
 pub use Rattle.defs_layout.specs.LayoutTokens.{layout_tokens}
@@ -50,9 +50,10 @@ pub use Rattle.yaml_parser.specs.Derived.{IsDerived, stood}
 pub use Rattle.yaml_parser.specs.Follows.{Explains, Follows, IsOfScanner, Refused}
 pub use Rattle.yaml_parser.specs.Loads.{EndsSo, Loads, no_call, one_call, PullsAll, Receives}
 pub use Rattle.yaml_parser.specs.Parsed.{has_end, is_stream_end, Parsed, read, read_so}
-pub use Rattle.yaml_parser.specs.Pulls.{GivesEvent, KeepsSettings, Pulls}
+pub use Rattle.yaml_parser.specs.Pulls.{GivesEvent, IsSound, KeepsSettings, Pulls}
 pub use Rattle.yaml_scanner.specs.Follows.{AreBehind, AreSettled, BeginsWith, IsReached}
 pub use Rattle.yaml_scanner.specs.Scanned.{IsRefusal, MayBe, Scanned, ScansIn}
 pub use Rattle.yaml_tokens.specs.ErrorReport.{ErrorReport}
 pub use Rattle.yaml_tokens.specs.declared.problem.Fault.{Fault}
 pub use Rattle.yaml_tokens.specs.declared.problem.Problem.{Problem}
+pub use Rattle.std.specs.List.{list_any}

@@ -1,9 +1,10 @@
 -- After the first events of a stream, no open node's anchor is finished: anchors are numbered as they come.
-use Rattle.proof_loads.proofs.Common.{[], AliasesInsideTheirNodeAreBadValues, ap, are_allowed, arith, array, at_work, bad_value, Bool, both, Ev, events_of, hash, if◌then◌else◌, inl, inr, IsOpen, items_of, List, Loader, loader_after, map, named, Names, names_after, ne_eqb, new_loader, no_names, None, noted, number, Opened, opened_mapping, opened_sequence, Option, option_map, out_of_nesting, pairs_of, perhaps_resolved, Position, Raw, reads, refl, refused, repeats, resolved_event, Some, Step, subst, suc, Tree, under_name, Unfinished, with_anchor, with_document_end, with_event, with_event_at, with_events, with_mapping_end, with_root, with_sequence_end, with_start, with_tree, ℕ, ◌++◌, ◌<◌, ◌∷◌, ◌≡◌, ◌≤◌, ◌⊎◌}
+use Rattle.proof_loads.proofs.Common.{[], AliasesInsideTheirNodeAreBadValues, ap, are_allowed, arith, array, at_work, bad_value, Bool, Ev, events_of, hash, if◌then◌else◌, inl, inr, IsOpen, items_of, List, Loader, loader_after, map, named, Names, names_after, ne_eqb, new_loader, no_names, None, noted, number, Opened, opened_mapping, opened_sequence, Option, option_map, out_of_nesting, pairs_of, perhaps_resolved, Position, Raw, reads, refl, refused, repeats, resolved_event, Some, Step, subst, suc, Tree, under_name, Unfinished, with_anchor, with_event, with_event_at, with_events, with_mapping_end, with_root, with_sequence_end, with_start, with_tree, ℕ, ◌++◌, ◌<◌, ◌∷◌, ◌≡◌, ◌≤◌, ◌⊎◌}
 use Rattle.defs_tree.specs.Pairs.{has_key, insert}
 use Rattle.defs_event.specs.Scalar.{scalar_tree}
 use Rattle.defs_event.specs.Anchors.{Anchors, aliased, finished}
 use Rattle.defs_event.specs.Unfinished.{with_node}
+use Rattle.defs_event.proofs.NameLemmas.{both_some}
 
 -- ---- numbers of anchors
 
@@ -66,9 +67,6 @@ of_mapping_end : (m : ℕ) (u : Unfinished) (opened : List Opened) → Fits m u.
 of_mapping_end m u (opened_mapping a ps None ∷ outer) f = of_node m a (hash (pairs_of ps)) u outer f
 of_mapping_end m u opened f = tt
 
-of_document_end : (m : ℕ) (u : Unfinished) (opened : List Opened) → IsStillOpen m u → OfStep m (with_document_end u opened)
-of_document_end m u opened h = grind arith
-
 -- a node's start or scalar has no anchor, or a number after m; n are the anchors after it
 abbrev IsNext : (m a n : ℕ) → Type 0
 IsNext m a n = (m ≤ n) × (a ≤ n) × (0 < a → m < a)
@@ -96,7 +94,7 @@ Follows m n (Ev.mapping_start a tag) = IsNext m a n
 Follows m n _ = m ≤ n
 
 of_event : (m n : ℕ) (u : Unfinished) (e : Ev) → Follows m n e → IsStillOpen m u → OfStep n (with_event u e)
-of_event m n u Ev.document_end le f = of_document_end n u u.opened (later m n u.anchors (numbers u.opened) le f)
+of_event m n u Ev.document_end le f = let fits = later m n u.anchors (numbers u.opened) le f in grind arith
 of_event m n u (Ev.alias k) le f = of_tree n (aliased k u.anchors) u u.opened (later m n u.anchors (numbers u.opened) le f)
 of_event m n u (Ev.scalar text style a tag) i f = of_node n a (scalar_tree text style tag) u u.opened (next_fits m a n u.anchors (numbers u.opened) i f)
 of_event m n u (Ev.sequence_start a tag) i f = of_start m n (opened_sequence a []) u u.opened u.root i f
@@ -105,21 +103,12 @@ of_event m n u (Ev.mapping_start a tag) i f = of_start m n (opened_mapping a [] 
 of_event m n u Ev.mapping_end le f = of_mapping_end n u u.opened (later m n u.anchors (numbers u.opened) le f)
 of_event m n u e le f = later m n u.anchors (numbers u.opened) le f
 
-is_next : (s : Names) (a : Option (List ℕ)) → IsNext s.count (number s a) (with_anchor s a).count
-is_next s a = grind arith
-
 abbrev OfSome : {A : Type 0} → (A → Type 0) → Option A → Type 0
 OfSome P None = Unit {0}
 OfSome P (Some x) = P x
 
-mapped : {A B : Type 0} (P : B → Type 0) (f : A → B) (o : Option A) → ((x : A) → P (f x)) → OfSome P (option_map f o)
-mapped a f b h = grind arith
-
-allowed : (P : Ev → Type 0) (b : Bool) (e : Ev) → P e → OfSome P (if b then Some e else None)
-allowed a d e h = grind arith
-
 numbered : (keep_tags : Bool) (s : Names) (r : Raw) → OfSome (Follows s.count (names_after keep_tags s r).count) (resolved_event s r)
-numbered keep_tags s r = grind (arith, allowed, are_allowed, mapped, under_name, with_anchor, number, perhaps_resolved, is_next)
+numbered keep_tags s r = grind (arith, are_allowed, option_map, under_name, with_anchor, number, perhaps_resolved)
 
 -- ---- loaders
 
@@ -128,28 +117,19 @@ OfLoader m (at_work u) = IsStillOpen m u
 OfLoader m (noted documents key p) = Unit {0}
 OfLoader m (refused documents p) = Unit {0}
 
-of_after : (m : ℕ) (x : Step) (documents : List Tree) (p : Position) → OfStep m x → OfLoader m (loader_after x documents p)
-of_after m a b p h = grind arith
-
 of_event_at : (m n : ℕ) (l : Loader) (e : Ev) (p : Position) → Follows m n e → OfLoader m l → OfLoader n (with_event_at l e p)
-of_event_at m n l e p h f = grind (arith, of_after, with_event, of_event)
-
-record FirstNamed (keep_tags : Bool) (s : Names) (r : Raw) (rs : List Raw) (e : Ev) (es : List Ev) : Type 0 where
-  follows : Follows s.count (names_after keep_tags s r).count e
-  rest : named keep_tags (names_after keep_tags s r) rs ≡ Some es
-
-both_named : (keep_tags : Bool) (s : Names) (r : Raw) (rs : List Raw) (e : Ev) (es : List Ev) (o : Option Ev) (os : Option (List Ev))
-    → OfSome (Follows s.count (names_after keep_tags s r).count) o → named keep_tags (names_after keep_tags s r) rs ≡ os → both o os ≡ Some (e ∷ es) → FirstNamed keep_tags s r rs e es
-both_named k s r rs e es a os f n q = grind arith
+of_event_at m n l e p h f = grind (arith, loader_after, with_event, of_event)
 
 stands_after : (keep_tags : Bool) (s : Names) (rs : List Raw) (l : Loader) (before : List (Ev × Position)) (more : List Ev)
     → named keep_tags s rs ≡ Some (events_of before ++ more) → OfLoader s.count l → (m : ℕ) × OfLoader m (with_events l before)
 stands_after k s rs l [] more q h = (s.count, h)
 stands_after k s [] l (e ∷ before) more q h = cc
 stands_after k s (r ∷ rs) l (e ∷ before) more q h =
-    let first = both_named k s r rs e.0 (events_of before ++ more) (resolved_event s r) (named k (names_after k s r) rs) (numbered k s r) refl q in
-    stands_after k (names_after k s r) rs (with_event_at l e.0 e.1) before more first.rest
-    (of_event_at s.count (names_after k s r).count l e.0 e.1 first.follows h)
+    let f = both_some (resolved_event s r) (named k (names_after k s r) rs) (e.0 ∷ (events_of before ++ more)) q in
+    let is : resolved_event s r ≡ Some e.0 = cc (f.is_first, f.whole) in
+    let rest : named k (names_after k s r) rs ≡ Some (events_of before ++ more) = cc (f.are_more, f.whole) in
+    stands_after k (names_after k s r) rs (with_event_at l e.0 e.1) before more rest
+    (of_event_at s.count (names_after k s r).count l e.0 e.1 (rw is at (numbered k s r)) h)
 
 open_in : (n : ℕ) (opened : List Opened) → IsOpen n opened → IsIn n (numbers opened)
 open_in n [] o = o

@@ -1,6 +1,5 @@
 -- Texts without NUL.
-use Rattle.proof_loads.proofs.TokensCommon.{[], and_parts, ap, body_value, Bool, false, is_line_character, is_nul, IsLineText, List, list_all, ne_eqb, not-true, parts, quote_of, Quotes, refl, Some, spaces, suc, true, up_to_nul, zero, ℕ, ◌++◌, ◌==◌, ◌∷◌, ◌≡◌}
-use Rattle.std.proofs.lemmas.List.Folds.{list_all-append}
+use Rattle.proof_loads.proofs.TokensCommon.{[], and_parts, ap, body_value, Bool, false, is_line_character, is_nul, IsLineText, List, list_all, ne_eqb, not-true, parts, quote_of, Quotes, refl, Some, spaces, suc, true, up_to_nul, zero, ℕ, ◌++◌, ◌==◌, ◌∷◌, ◌≡◌, list_all-append}
 use Rattle.defs_layout.specs.QuotedText as laid
 use Rattle.proof_lexers.specs.QuotedScan.{is_some}
 use Rattle.proof_lexers.proofs.Quoted.NoNul.{has_none}

@@ -1,10 +1,9 @@
 -- Tokens that are settled stay; a text has one fault, and the events before it are one list.
-use Rattle.std.specs.List.{list_any}
-use Rattle.proof_loads.proofs.Common.{[], AgreeAt, ap, append-nil, append_assoc, AreBehind, AreFirst, AreSettled, arith, BeginsPlaced, BeginsWith, Blames, Bool, both_ways, ComesAfter, EndsInAnchor, Err, ErrorReport, Ev, events_of, false, Fault, fetch, fits, HasPlacedTo, here, inl, inr, is_of_names, IsFaultOf, IsReached, IsRefusal, IsStream, Key, length, length-append, List, map-append, named, no_names, no_stream, no_token, NoneBegins, one_run, OneListOfEventsBefore, OneListOfPulledEventsBefore, OneListOfPushedEventsBefore, Option, Position, Problem, problem_of, Raw, raws_of, Reaches, read, refl, Result, ScannerState, SettledTokensStay, StandsAt, start, stood, stream_by, subst, sym, there, to_next, Tok, Token, toks, true, wants_memory, without_positions, ℕ, ◌++◌, ◌+◌, ◌∙◌, ◌∷◌, ◌≡◌, ◌⊎◌}
+use Rattle.proof_loads.proofs.Common.{[], AgreeAt, ap, append-nil, append_assoc, AreBehind, AreFirst, AreSettled, arith, BeginsPlaced, BeginsWith, Blames, Bool, both_ways, ComesAfter, EndsInAnchor, Err, ErrorReport, Ev, events_of, false, Fault, fetch, fits, HasPlacedTo, here, inl, inr, is_of_names, IsFaultOf, IsReached, IsRefusal, IsStream, Key, length, length-append, List, map-append, named, no_names, no_stream, no_token, NoneBegins, one_run, OneListOfEventsBefore, OneListOfPulledEventsBefore, OneListOfPushedEventsBefore, Option, Position, Problem, problem_of, Raw, raws_of, Reaches, read, refl, ScannerState, SettledTokensStay, StandsAt, start, stood, stream_by, subst, sym, there, to_next, Tok, Token, toks, true, wants_memory, without_positions, ℕ, ◌++◌, ◌+◌, ◌∙◌, ◌∷◌, ◌≡◌, ◌⊎◌, list_any, append_cancel_left}
 use Rattle.model_scanner.proofs.Given.{KeysFrom, reached}
 use Rattle.yaml_scanner.specs.Waits.{comes_before}
 use Rattle.yaml_tokens.specs.Problem.{fault_of}
-use Rattle.yaml_tokens.specs.declared.problem.Fault.TheVariants.{At, OutOfMemory}
+use Rattle.yaml_tokens.specs.declared.problem.Fault.TheVariants.{At}
 use Rattle.yaml_tokens.specs.declared.problem.Problem.TheVariants as problem
 use Rattle.model_parser.specs.declared.kind.Kind.{Kind}
 use Rattle.model_parser.specs.declared.kind.Kind.TheVariants as kind
@@ -15,7 +14,8 @@ use Rattle.model_scanner.specs.Document.{fetch_stream_start}
 use Rattle.yaml_parser.specs.Apart.{StandsBefore}
 use Rattle.yaml_parser.proofs.Holding.{many}
 use Rattle.yaml_parser.proofs.Positions.{stood_raws, stood_positions}
-use Rattle.proof_loads.proofs.Answers.{FaultAfter, fault_after, fault_taken}
+use Rattle.proof_loads.proofs.Texts.{same_beginning}
+use Rattle.proof_loads.proofs.Answers.{FaultAfter, fault_after, fault_taken, Takes}
 
 keys_from : (n : ℕ) (ks : List (Option Key)) → AreBehind n ks → KeysFrom n ks
 keys_from n [] b = tt
@@ -92,27 +92,21 @@ settled_first text all given s r = elim (one_begins given all last.held.tokens t
 -- ---- the last of a list
 
 last_of : (xs ys : List Token) (t u : Token) → xs ++ t ∷ [] ≡ ys ++ u ∷ [] → (xs ≡ ys) × (t ≡ u)
-last_of [] [] t u e = (refl, cc)
-last_of [] (y ∷ []) t u e = absurd cc
-last_of (x ∷ []) [] t u e = absurd cc
-last_of (x ∷ xs) (y ∷ ys) t u e =
-    let rest : xs ++ t ∷ [] ≡ ys ++ u ∷ [] = cc in
-    let r = last_of xs ys t u rest in
-    (cc (r.0), r.1)
-last_of xs ys t u e = absurd cc
+last_of xs ys t u e =
+    let x = ap length e ∙ length-append ys (u ∷ []) in
+    let y = length-append xs (t ∷ []) in
+    let same = same_beginning xs ys (t ∷ []) (u ∷ []) (omega (arith, x, y)) e in
+    let last : t ∷ [] ≡ u ∷ [] = append_cancel_left ys _ _ (ap (λ zs. zs ++ t ∷ []) (sym same) ∙ e) in
+    (same, cc)
 
 -- ---- of the scanner
-
--- what is shown of a fault, but for its kind
-of_fault : (e : Fault) (p q : Position) → (fault_of e p).memory ≡ false → fault_of e p ≡ fault_of e q
-of_fault OutOfMemory p q m = absurd cc
-of_fault (At why at) p q m = refl
 
 pub one_refusal : (text : List ℕ) (f g : ErrorReport) → IsRefusal text f → IsRefusal text g → f.memory ≡ false → f ≡ g
 one_refusal text f g r s m =
     let same : r.fault ≡ s.fault = runs.one_fault text r.fault s.fault r.refused s.refused in
     let none : (fault_of r.fault r.position).memory ≡ false = ap (λ x. x.memory) (sym r.shown) ∙ m in
-    r.shown ∙ of_fault r.fault r.position s.position none ∙ ap (λ e. fault_of e s.position) same ∙ sym s.shown
+    let placed : fault_of r.fault r.position ≡ fault_of r.fault s.position = grind (arith, none) in
+    r.shown ∙ placed ∙ ap (λ e. fault_of e s.position) same ∙ sym s.shown
 
 -- ---- of the parser
 
@@ -156,8 +150,7 @@ same_blame keep_tags tokens es fs f g a b =
 pub one_blame : (keep_tags : Bool) (tokens : List Token) (es fs : List (Ev × Position)) (f g : ErrorReport) → Blames f [] keep_tags tokens es → Blames g [] keep_tags tokens fs → f ≡ g
 one_blame keep_tags tokens es fs f g a b =
     let same = same_blame keep_tags tokens es fs f g a b in
-    let stands : StandsAt a.problem g.position a.before a.last =
-    subst (λ p. StandsAt p g.position a.before a.last) (sym same.2) (subst (λ ts. StandsAt b.problem g.position ts a.last) (sym same.0) (subst (StandsAt b.problem g.position b.before) (sym same.1) b.stands)) in
+    let stands : StandsAt a.problem g.position a.before a.last = rw (same.2, same.0, same.1) (b.stands) in
     let place : f.position ≡ g.position = one_place a.problem a.before a.last f.position g.position a.stands stands in
     a.shown ∙ ap (λ p. fault_of (At p f.position) f.position) same.2 ∙ ap (λ x. fault_of (At b.problem x) x) place ∙ sym b.shown
 
@@ -178,29 +171,20 @@ refused_first keep_tags before ts last events none b w =
 
 -- a list that begins another one with a last token begins what stands before it, or is all
 pub last_or_before : (xs ys more : List Token) (u : Token) → ys ++ u ∷ [] ≡ xs ++ more → (xs ≡ ys ++ u ∷ []) ⊎ BeginsWith xs ys
-last_or_before xs ys [] u e = inl (sym (e ∙ append-nil xs))
-last_or_before xs ys (t ∷ more) u e = inr (by more t e)
-  where
-    ends : (ts : List Token) (t : Token) → (zs : List Token) × (z : Token) × (t ∷ ts ≡ zs ++ z ∷ [])
-    ends [] t = ([], t, refl)
-    ends (x ∷ ts) t = let r = ends ts x in (t ∷ r.0, r.1, ap (λ us. t ∷ us) r.2)
-
-    by : (more : List Token) (t : Token) → ys ++ u ∷ [] ≡ xs ++ t ∷ more → BeginsWith xs ys
-    by more t e =
-        let r = ends more t in
-        record { more = r.0; whole = (last_of ys (xs ++ r.0) u r.1 (e ∙ ap (λ us. xs ++ us) r.2 ∙ sym (append_assoc xs r.0 (r.1 ∷ [])))).0 }
+last_or_before [] ys more u e = inr (record { more = ys; whole = refl })
+last_or_before (x ∷ []) [] more u e = inl cc
+last_or_before (x ∷ y ∷ xs) [] more u e = absurd cc
+last_or_before (x ∷ xs) (y ∷ ys) more u e =
+    let rest : ys ++ u ∷ [] ≡ xs ++ more = cc in
+    elim (last_or_before xs ys more u rest) [ inl d ↦ inl (cc (d)) | inr d ↦ inr (record { more = d.more; whole = cc (d.whole) }) ]
 
 -- ---- of the scanner
 
 both_begin : (xs ys : List Token) → BeginsWith xs ys → BeginsWith ys xs → xs ≡ ys
-both_begin xs ys b c = by b.more b.whole
-  where
-    by : (more : List Token) → ys ≡ xs ++ more → xs ≡ ys
-    by [] e = sym (e ∙ append-nil xs)
-    by (t ∷ more) e =
-        let one : length ys ≡ length xs + length (t ∷ more) = ap length e ∙ length-append xs (t ∷ more) in
-        let other : length xs ≡ length ys + length c.more = ap length c.whole ∙ length-append ys c.more in
-        absurd (omega (arith, one, other))
+both_begin xs ys b c =
+    let x = ap length b.whole ∙ length-append xs b.more in
+    let y = ap length c.whole ∙ length-append ys c.more in
+    same_beginning xs ys b.more [] (omega (arith, x, y)) (sym b.whole ∙ sym (append-nil ys))
 
 reached_all : (text : List ℕ) (given : List Token) → AreSettled text given → IsReached text given
 reached_all text given s = record { last = s.refused.last; run = s.refused.run; begins = s.begins; behind = λ going. s.behind }
@@ -241,10 +225,7 @@ beside_one : (keep_tags : Bool) (text : List ℕ) (tokens : List Token) (es fs :
 beside_one keep_tags text tokens es fs f g first none a b =
     let same = same_blame keep_tags tokens es fs f g a b in
     let going : toks b.before ≡ [] → ⊥ = λ nothing. alone b.before nothing b.whole in
-    let one : StandsBefore b.problem b.before b.last.position (stood a.raw es) =
-    subst (λ q. StandsBefore q b.before b.last.position (stood a.raw es)) same.2
-    (subst (λ ts. StandsBefore a.problem ts b.last.position (stood a.raw es)) same.0
-    (subst (λ (t : Token). StandsBefore a.problem a.before t.position (stood a.raw es)) same.1 (a.beside (λ nothing. going (ap toks (sym same.0) ∙ nothing))))) in
+    let one : StandsBefore b.problem b.before b.last.position (stood a.raw es) = rw (← same.2, ← same.0, ← same.1) (a.beside (λ nothing. going (ap toks (sym same.0) ∙ nothing))) in
     let count = many [] keep_tags a.raw es a.derived.named in
     let other_count = many [] keep_tags b.raw fs b.derived.named in
     same_events keep_tags no_names (stood a.raw es) (stood b.raw fs) es fs (one_beside b.problem b.before b.last.position (stood a.raw es) (stood b.raw fs) one (b.beside going))
@@ -305,7 +286,7 @@ pub one_pulled_list_before : OneListOfPulledEventsBefore
 one_pulled_list_before p q text f g setting steady other_steady scans scanned why other m n =
     agree_before p.keep_tags q.keep_tags text f g (read p) (read q) setting (fault_after text p f scans steady why) (fault_after text q g scanned other_steady other) m n
 
-pub one_pushed_list_before : {R S : Type 0} (takes : R → Ev → Position → Result (Unit {0}) ErrorReport → R → Type 0) (others : S → Ev → Position → Result (Unit {0}) ErrorReport → S → Type 0)
+pub one_pushed_list_before : {R S : Type 0} (takes : Takes R) (others : Takes S)
     → OneListOfPushedEventsBefore takes others
 one_pushed_list_before takes others p p' q q' r r' s s' text f g start began setting scans scanned one other kept held m n =
     let x = fault_taken takes p p' r r' f text start scans one kept in

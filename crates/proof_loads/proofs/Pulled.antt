@@ -1,7 +1,5 @@
 -- Runs of `load` with `multi` over answers, whatever they are. The calls of a parser from its start on: what it answered and has given.
-use Rattle.proof_loads.proofs.Common.{[], Answer, ap, append-nil, append_assoc, arith, before_stream, between, Bool, Ending, ErrorReport, Ev, event, Explains, false, fault, faulted, given, GivesEvent, has_end, IfSome, inl, inr, inside, is_stream_end, IsAtStart, KeepsSettings, length, length-append, List, load_from, Loaded, no_call, no_document, None, one_call, Option, Parsed, Position, PullsAll, push, read_so, refl, Some, Standing, subst, sym, true, unfinished, well, ◌++◌, ◌||◌, ◌∙◌, ◌∷◌, ◌≡◌, ◌⊎◌}
-use Rattle.yaml_parser.specs.Pulls.{IsSound}
-use Rattle.std.proofs.lemmas.Bool.{or_right}
+use Rattle.proof_loads.proofs.Common.{[], Answer, ap, append-nil, append_assoc, arith, before_stream, between, Bool, Ending, ErrorReport, Ev, event, Explains, false, fault, faulted, given, GivesEvent, has_end, IfSome, inl, inr, inside, is_stream_end, IsAtStart, KeepsSettings, length, length-append, List, load_from, Loaded, no_call, no_document, None, one_call, Option, Parsed, Position, PullsAll, push, read_so, refl, Some, Standing, subst, sym, true, unfinished, well, ◌++◌, ◌||◌, ◌∙◌, ◌∷◌, ◌≡◌, ◌⊎◌, IsSound, or_right}
 use Rattle.std.proofs.Math.Bool.{or_assoc}
 use Rattle.proof_lexers.proofs.Bridges.{or_false}
 

@@ -20,25 +20,20 @@ may_follow q r (event e at) b l g = tt
 may_follow q r (fault f) (event e p) l g = let no : Some f ≡ None = sym l ∙ g.clear in cc
 may_follow q r (fault f) (fault g) l h = let same_fault : g ≡ f = (subst (λ o. IfSome o (λ x. (g ≡ x) × (r ≡ q))) l h.again).0 in ap (λ x. fault x) (same_fault)
 
--- Each answer may follow the one before, and of the last the parser is what that leaves.
-abbrev Ends : Parsed → List (Answer ErrorReport) → Type 0
-Ends q [] = Unit {0}
-Ends q (a ∷ []) = Leaves q a
-Ends q (a ∷ b ∷ answers) = MayFollow a b × Ends q (b ∷ answers)
+-- of the last answer the parser is what that leaves
+abbrev Last : Parsed → List (Answer ErrorReport) → Type 0
+Last q [] = Unit {0}
+Last q (a ∷ []) = Leaves q a
+Last q (a ∷ b ∷ answers) = Last q (b ∷ answers)
 
-one_more : (q r : Parsed) (answers : List (Answer ErrorReport)) (b : Answer ErrorReport) → Pulls q b r → Ends q answers → Ends r (answers ++ b ∷ [])
-one_more q r [] b g h = leaves q r b g
-one_more q r (a ∷ []) b g h = (may_follow q r a b h g, leaves q r b g)
-one_more q r (a ∷ c ∷ answers) b g h = (h.0, one_more q r (c ∷ answers) b g h.1)
+one_more : (q r : Parsed) (answers : List (Answer ErrorReport)) (b : Answer ErrorReport) → Pulls q b r → IsSettled answers × Last q answers → IsSettled (answers ++ b ∷ []) × Last r (answers ++ b ∷ [])
+one_more q r [] b g h = (tt, leaves q r b g)
+one_more q r (a ∷ []) b g h = ((may_follow q r a b h.1 g, tt), leaves q r b g)
+one_more q r (a ∷ c ∷ answers) b g h = let z = one_more q r (c ∷ answers) b g (h.0.1, h.1) in ((h.0.0, z.0), z.1)
 
-ends : {p q : Parsed} {answers : List (Answer ErrorReport)} → PullsAll p answers q → Ends q answers
-ends no_call = tt
+ends : {p q : Parsed} {answers : List (Answer ErrorReport)} → PullsAll p answers q → IsSettled answers × Last q answers
+ends no_call = (tt, tt)
 ends (one_call {q = q} {r = r} {answers = answers} a calls gives) = one_more q r answers a gives (ends calls)
 
-settled : (q : Parsed) (answers : List (Answer ErrorReport)) → Ends q answers → IsSettled answers
-settled q [] h = tt
-settled q (a ∷ []) h = tt
-settled q (a ∷ b ∷ answers) h = (h.0, settled q (b ∷ answers) h.1)
-
 pub answers_settled : AnswersAreSettled
-answers_settled p q answers calls = settled q answers (ends calls)
+answers_settled p q answers calls = (ends calls).0

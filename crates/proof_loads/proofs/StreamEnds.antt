@@ -1,10 +1,8 @@
 -- A stream's tokens hold the stream's end; so a text has no more tokens than a stream that it begins with.
-use Rattle.std.specs.List.{list_any}
-use Rattle.proof_loads.proofs.Common.{[], ap, append-nil, append_assoc, arith, Bool, false, has_no_nul, IsReached, IsRead, List, None, Option, Raw, refl, Some, StreamSays, subst, Tok, Token, tokens_are_of_a_row, toks, true, whole_stream, ℕ, ◌++◌, ◌||◌, ◌∙◌, ◌∷◌, ◌≡◌}
+use Rattle.proof_loads.proofs.Common.{[], ap, append-nil, append_assoc, arith, Bool, false, has_no_nul, IsReached, IsRead, List, None, Option, Raw, refl, Some, StreamSays, subst, Tok, Token, tokens_are_of_a_row, toks, true, whole_stream, ℕ, ◌++◌, ◌||◌, ◌∙◌, ◌∷◌, ◌≡◌, list_any, or_right}
 use Rattle.defs_event.specs.Kinds.{is_stream_end}
 use Rattle.defs_event.specs.Table.{Part, Row, takes, leaves, row_of, Work, reading, saying, before, Derives, says, by_taking, by_leaving, say, show, empty}
 use Rattle.defs_event.specs.Grammar.{Held, Goal, stream, documents, directives, explicit_document, document_end, cases, grammar}
-use Rattle.std.proofs.lemmas.Bool.{or_right}
 use Rattle.model_scanner.proofs.Ends.{end_is_last}
 
 -- ---- by the table
@@ -40,9 +38,6 @@ after_row h t w None = true
 after_row h t w (Some (takes ps)) = is_stream_end t || has_last (before grammar h t ps w)
 after_row h t w (Some (leaves ps)) = has_last (before grammar h t ps w)
 
-row_lasts : (g : Goal) (h : Held) (t : Tok) (w : Works) → is_last g ≡ true → after_row h t w (row_of (cases g) t) ≡ true
-row_lasts g h t w e = grind arith
-
 row_keeps : (h : Held) (t : Tok) (w : Works) (r : Option (Row Goal Raw)) → has_last w ≡ true → after_row h t w r ≡ true
 row_keeps h t w None k = refl
 row_keeps h t w (Some (takes ps)) k = or_right _ _ (kept h t ps w k)
@@ -52,18 +47,15 @@ after : (g : Goal) (h : Held) (t : Tok) (w : Works) {r : Row Goal Raw} → row_o
 after g h t w {r} q k = subst (λ o. after_row h t w o ≡ true) q (by (is_last g) refl k)
   where
     by : (b : Bool) → is_last g ≡ b → (b || has_last w) ≡ true → after_row h t w (row_of (cases g) t) ≡ true
-    by true e k = row_lasts g h t w e
+    by true e k = grind arith
     by false e k = row_keeps h t w (row_of (cases g) t) k
-
-or_more : (b : Bool) {c d : Bool} → (b || c) ≡ true → (c ≡ true → d ≡ true) → (b || d) ≡ true
-or_more b h f = grind arith
 
 -- the stream's end is among the tokens
 ends_at : (w : Works) (ts : List Tok) (es : List Raw) → Derives grammar w ts es → has_last w ≡ true → list_any is_stream_end ts ≡ true
 ends_at [] ts es d k = cc
 ends_at (saying e ∷ w) ts _ (says {es = es} d) k = ends_at w ts es d k
 ends_at (reading g h ∷ w) [] es d k = elim d [ ]
-ends_at (reading g h ∷ w) (t ∷ ts) es (by_taking ps q d) k = or_more (is_stream_end t) (after g h t w q k) (ends_at (before grammar h t ps w) ts es d)
+ends_at (reading g h ∷ w) (t ∷ ts) es (by_taking ps q d) k = let next = after g h t w q k in grind (arith, ends_at (before grammar h t ps w) ts es d)
 ends_at (reading g h ∷ w) (t ∷ ts) es (by_leaving ps q d) k = ends_at (before grammar h t ps w) (t ∷ ts) es d (after g h t w q k)
 
 -- ---- among tokens with their positions
@@ -75,15 +67,12 @@ record EndAmong (given : List Token) : Type 0 where
   whole : given ≡ before ++ end ∷ more
   is_end : end.tok ≡ Tok.stream_end
 
-is_end : (t : Tok) → is_stream_end t ≡ true → t ≡ Tok.stream_end
-is_end t h = grind arith
-
 end_among : (given : List Token) → list_any is_stream_end (toks given) ≡ true → EndAmong given
 end_among [] h = cc
 end_among (t ∷ given) h = by (is_stream_end t.tok) refl h (end_among given)
   where
     by : (b : Bool) → is_stream_end t.tok ≡ b → (b || list_any is_stream_end (toks given)) ≡ true → (list_any is_stream_end (toks given) ≡ true → EndAmong given) → EndAmong (t ∷ given)
-    by true e h rest = record { before = []; end = t; more = given; whole = refl; is_end = is_end t.tok e }
+    by true e h rest = record { before = []; end = t; more = given; whole = refl; is_end = grind (arith, e) }
     by false e h rest = let z = rest h in record { before = t ∷ z.before; end = z.end; more = z.more; whole = ap (λ xs. t ∷ xs) z.whole; is_end = z.is_end }
 
 nothing_after : (xs ys : List Token) → xs ++ ys ≡ [] → ys ≡ []

@@ -1,5 +1,6 @@
 -- A parser somewhere in a text that means trees, and two of them.
-use Rattle.proof_loads.proofs.Common.{[], ap, append_assoc, AreFirst, arith, Bool, ErrorReport, Ev, events_of, EventsOfReadTextsAreRead, Follows, Foretells, foretold_are_not_refused, IfSome, inl, inr, IsStream, length, List, map-append, Means, nested_stream, Option, Parsed, Position, read, ReadAs, ReadTextsAreNotRefused, ReadTextsHaveNoFaultButMemory, ReadTextsHaveOneListOfEvents, ReadTextsHaveTheirTrees, refl, Scanned, ScansIn, Some, streams_are_loaded, streams_are_not_cut, subst, sym, Tok, Token, toks, Tree, true, ℕ, ◌++◌, ◌∙◌, ◌∷◌, ◌≡◌}
+use Rattle.std.proofs.Math.Seq.{take-append_seam}
+use Rattle.proof_loads.proofs.Common.{[], length-map, ap, append_assoc, AreFirst, Bool, ErrorReport, Ev, events_of, EventsOfReadTextsAreRead, Follows, Foretells, foretold_are_not_refused, IfSome, inl, inr, IsStream, length, List, map-append, Means, nested_stream, Option, Parsed, Position, read, ReadAs, ReadTextsAreNotRefused, ReadTextsHaveNoFaultButMemory, ReadTextsHaveOneListOfEvents, ReadTextsHaveTheirTrees, refl, Scanned, ScansIn, Some, streams_are_loaded, streams_are_not_cut, subst, sym, Tok, Token, toks, Tree, true, ℕ, ◌++◌, ◌∙◌, ◌∷◌, ◌≡◌, take}
 
 -- The tokens handed out, with some more, are read as the trees.
 pub record GoesOn (keep_tags : Bool) (given : List Token) (trees : List Tree) : Type 0 where
@@ -59,20 +60,12 @@ begins_all p keep_tags text trees x same_setting scans follows =
     let all = nested_stream x.read.documents in
     follows.only (toks b.more) all (subst (λ k. IsStream k (toks p.scanner.given ++ toks b.more) all) (sym same_setting) (subst (λ ts. IsStream keep_tags ts all) same x.read.stream))
 
-same_beginning : (xs ys us vs : List Ev) → length xs ≡ length ys → xs ++ us ≡ ys ++ vs → xs ≡ ys
-same_beginning [] [] us vs l h = refl
-same_beginning [] (y ∷ ys) us vs l h = absurd (omega (arith, l))
-same_beginning (x ∷ xs) [] us vs l h = absurd (omega (arith, l))
-same_beginning (x ∷ xs) (y ∷ ys) us vs l h =
-    let rest : xs ++ us ≡ ys ++ vs = cc in
-    cc (same_beginning xs ys us vs (omega (arith, l)) rest)
-
-as_many : (es : List (Ev × Position)) → length (events_of es) ≡ length es
-as_many [] = refl
-as_many (e ∷ es) = omega (arith, as_many es)
+-- two beginnings of a list that are equally long
+pub same_beginning : {A : Type 0} (xs ys us vs : List A) → length xs ≡ length ys → xs ++ us ≡ ys ++ vs → xs ≡ ys
+same_beginning xs ys us vs l h = sym (take-append_seam xs us) ∙ ap (λ n. take n (xs ++ us)) l ∙ ap (take (length ys)) h ∙ take-append_seam ys vs
 
 pub same_events : ReadTextsHaveOneListOfEvents
 same_events p q text trees x same_setting scans others follows other_follows l =
     let b = begins_all p p.keep_tags text trees x refl scans follows in
     let c = begins_all q p.keep_tags text trees x same_setting others other_follows in
-    same_beginning (events_of (read p)) (events_of (read q)) b.0 c.0 (as_many (read p) ∙ l ∙ sym (as_many (read q))) (sym b.1 ∙ c.1)
+    same_beginning (events_of (read p)) (events_of (read q)) b.0 c.0 (rw (length-map, length-map) l) (sym b.1 ∙ c.1)

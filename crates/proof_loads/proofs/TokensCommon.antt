@@ -7,6 +7,7 @@ pub use Rattle.std.proofs.lemmas.List.{append_cancel_right, length-append, lengt
 pub use Rattle.std.proofs.lemmas.Str.Parse.{digit_from_value}
 pub use Rattle.std.specs.Char.{digit_value, is_ascii_alphanumeric, is_ascii_digit, is_digit}
 pub use Rattle.std.specs.Fmt.{decimal}
+unfoldable pub use Rattle.std.specs.Fmt.{digits}
 pub use Rattle.std.specs.List.{ends_with, list_all, list_any}
 pub use Rattle.std.specs.Prelude.{nat_eq, pos}
 pub use Rattle.std.specs.Str.Parse.{AllDigits, IsNumeral}
@@ -26,8 +27,8 @@ pub use Rattle.defs_layout.specs.LayoutTokens.{all_field_tokens, block_tokens, d
 pub use Rattle.defs_layout.specs.QuotedText.{body_value, double, quote_of, QuotedText, Quotes, single, style_of}
 pub use Rattle.defs_text.specs.BlockScalar.{BlockStyle, body, breaks, Chomping, column_by, content_row, deepest_start, empty_row, further_text, has_content, Header, header_of, is_further_text, is_outside, is_spaces, leading_spaces, Row, rows_of, starts_with_tab, text_after, text_of, unbroken, value_before_end, value_before_text}
 unfoldable pub use Rattle.defs_text.specs.BlockScalar.{digit_of, is_content_line, is_empty_line, row_of, sign_of}
-pub use Rattle.defs_text.specs.Breaks.{ends_line, has_no_break, is_before_line_feed, is_blanks_and_comment, split, split_by}
-pub use Rattle.defs_text.specs.Classes.{is_at_end, is_at_gap, is_document_marker, is_one_of}
+pub use Rattle.defs_text.specs.Breaks.{has_no_break, is_before_line_feed, is_blanks_and_comment, split, split_by}
+pub use Rattle.defs_text.specs.Classes.{is_at_end, is_at_gap, is_document_marker, is_one_of, tab}
 unfoldable pub use Rattle.defs_text.specs.Classes.{are_marks, is_anchor_name, is_blank, is_blank_or_end, is_break, is_flow, is_nul}
 pub use Rattle.defs_text.specs.FlowScalar.{begins_with, content, Element, elements, has_document_marker, Lines, Spelled, value_by}
 unfoldable pub use Rattle.defs_text.specs.FlowScalar.{begins_with_marker, double_quoted_element, double_quoted_value, escape, is_character_code, numeric_escape, plain_element, plain_value, single_quoted_element, single_quoted_value}
@@ -37,26 +38,26 @@ pub use Rattle.defs_text.specs.Text.{has_no_nul, is_empty, up_to_nul}
 pub use Rattle.defs_token.specs.Account.{before_past, FlowKind, innermost_column, is_adjacent, mapping, sequence}
 pub use Rattle.defs_token.specs.BlockPiece.{block_read, read_body}
 pub use Rattle.defs_token.specs.Column.{innermost, is_deeper, is_in_column, not_ended, opened}
-pub use Rattle.defs_token.specs.FlowEntry.{begun_by, Entry, filled, first_entry, fresh, Had, is_keyed, is_renewed, no_pair, past_end, settled}
+pub use Rattle.defs_token.specs.FlowEntry.{begun_by, entries_past, Entry, filled, first_entry, fresh, Had, is_keyed, is_renewed, no_pair, settled, takes_pair}
 pub use Rattle.defs_token.specs.Following.{are_empty, block_may_end, goes_on_quoted, may_precede, quoted_may_end}
 pub use Rattle.defs_token.specs.Indentation.{awaits_at, awaits_past, begins_line, colon_may_precede, dash_may_precede, has_tab_before_piece, has_tab_within, is_indented_by_spaces, last_line, least_column}
 pub use Rattle.defs_token.specs.Key.{begins_free_line, free, is_waiting, line_past, line_past_separation, taken}
-pub use Rattle.defs_token.specs.Lines.{blanks_before, elements_fit, ends_with_dash, further_lines_stand, has_dash_before_flow, has_more, lines_fit, plain_lines_fit, quoted_lines_fit, without_last}
+pub use Rattle.defs_token.specs.Lines.{ends_with_dash, further_lines_stand, has_dash_before_flow, lines_fit, plain_lines_fit, quoted_lines_fit, without_last}
 pub use Rattle.defs_token.specs.Piece.{begins_with_space_or_break, goes_on_with_name}
-pub use Rattle.defs_token.specs.Plain.{after_blank, begins_flow, begins_plain, ends_plain, ends_with_content, goes_on, inside, is_value_indicator, is_whole_plain, may_begin, on_line, Stand, stops}
+pub use Rattle.defs_token.specs.Plain.{after_blank, begins_flow, begins_plain, ends_with_content, goes_on, inside, is_value_indicator, is_whole_plain, may_begin, on_line, Stand, stops}
 pub use Rattle.defs_token.specs.Row.{IsRowFrom, IsShown}
 pub use Rattle.defs_token.specs.RowAccount.{Account, account_past, before_by, first_account, is_in_flow, least_for, level_of, may_stand, on_one_line, past_piece, Site, site_at}
 pub use Rattle.defs_token.specs.Separation.{is_separation}
 pub use Rattle.defs_token.specs.Step.{act_of, another, block_scalar, flow_collection, gives_block_scalar, gives_node, has_break, is_marker, is_on_line, plain_scalar, Previous, previous_by, quoted_scalar, spelled, Step}
 pub use Rattle.defs_token.specs.Token.{flow_entry, flow_mapping_end, flow_mapping_start, flow_sequence_end, flow_sequence_start, Style, Tok, Token}
-pub use Rattle.defs_token.specs.Tokens.{begun_outside, Colon, ends_with_stream, put, start_if, stream_position, tokens_before, tokens_from, tokens_of_row}
+pub use Rattle.defs_token.specs.Tokens.{begun_inside, begun_outside, Colon, ends_with_stream, put, stream_position, tokens_before, tokens_from, tokens_of_row}
 pub use Rattle.defs_token.specs.Toks.{toks}
 pub use Rattle.defs_tree.proofs.LinesLaws.{ends_with-one, ends_with-step, lines_of_ended}
 pub use Rattle.defs_tree.proofs.RealTexts.{is_real_character, real_text-characters}
 pub use Rattle.defs_tree.proofs.Unquoted.{unquoted}
 pub use Rattle.defs_tree.specs.Escapes.{double_quoted, escaped_code, hexadecimal_digit, written_escapes}
 unfoldable pub use Rattle.defs_tree.specs.Escapes.{written_character}
-pub use Rattle.defs_tree.specs.Lines.{lines_of, onto_first_line}
+pub use Rattle.defs_tree.specs.Lines.{ended, lines_of, onto_first_line}
 pub use Rattle.defs_tree.specs.Literal.{begins_as_marker, first_full_line_is_indented, is_line_feed, literal_header}
 unfoldable pub use Rattle.defs_tree.specs.Literal.{is_literal_character, is_literal_text, is_root_literal}
 pub use Rattle.defs_tree.specs.Order.{tree_eq}
@@ -79,3 +80,5 @@ pub use Rattle.proof_lexers.specs.HeaderEnds.{indicator_of, is_in_line}
 pub use Rattle.proof_lexers.specs.PlainEnds.{collection_of}
 pub use Rattle.yaml_tokens.specs.declared.problem.Fault.{Fault}
 pub use Rattle.yaml_tokens.specs.declared.problem.Fault.TheVariants.{At}
+pub use Rattle.std.proofs.lemmas.List.Folds.{list_all-append}
+pub use Rattle.defs_tree.proofs.GrammarLaws.{list_all-more}

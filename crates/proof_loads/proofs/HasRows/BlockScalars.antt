@@ -1,18 +1,14 @@
 -- Literal and folded blocks have rows: the pieces that they are, before what stands after them.
-use Rattle.proof_loads.proofs.TokensCommon.{[], and_false, another, ap, append-nil, append_assoc, are_empty, AreEmptyLines, arith, begins_with, block_may_end, block_read, block_scalar, BlockStyle, Bool, collection_of, column_by, comment_line, content_row, empty_line, false, feed, free, full, GapLine, gives_block_scalar, has_content, indented_lines, indicator_of, innermost, is_at_end, is_blank, is_break, is_empty, is_further_text, is_nul, is_separation, is_waiting, IsGap, Line, line_past, List, map, map-append, nat_tests, None, not, Position, position_after, refl, Row, row_of, rows_of, Some, spaces, spell_append, spell_ending, spell_gap, spell_gap_line, spell_line, spell_lines, split, split_spell, starts_with_tab, Style, subst, suc, sym, texts, texts_append, Tok, true, value_before_text, ℕ, ◌++◌, ◌<◌, ◌∙◌, ◌∷◌, ◌≡◌}
-use Rattle.defs_text.specs.Classes.{tab}
+use Rattle.proof_loads.proofs.TokensCommon.{[], and_false, another, ap, append-nil, append_assoc, are_empty, AreEmptyLines, arith, begins_with, block_may_end, block_read, block_scalar, BlockStyle, Bool, collection_of, column_by, comment_line, content_row, empty_line, empty_row, false, feed, free, full, GapLine, gives_block_scalar, has_content, indented_lines, indicator_of, innermost, is_at_end, is_blank, is_break, is_empty, is_further_text, is_in_line, is_nul, is_separation, is_waiting, IsGap, Line, line_past, List, map, map-append, nat_tests, None, not, Position, position_after, refl, Row, row_of, rows_of, Some, spaces, spell_append, spell_ending, spell_gap, spell_gap_line, spell_line, spell_lines, split, split_spell, starts_with_tab, Style, subst, suc, sym, texts, texts_append, Tok, true, value_before_end, value_before_text, ℕ, ◌++◌, ◌<◌, ◌∙◌, ◌∷◌, ◌≡◌, tab}
 use Rattle.proof_lexers.proofs.Blocks.Written as written
 use Rattle.proof_lexers.proofs.Blocks.Written.{spell}
 use Rattle.proof_lexers.proofs.Blocks.Positions.{spell_more}
-use Rattle.proof_loads.proofs.BlockLines.{line_of, lines_at, empties, texts_are, spelt_feeds, spelt_more, Last, last_of, row_by, row_spaces, content_more, header_by, text_value, spaces_value, last_value, header_line, block_text, header_inner, IsInside, AreEach, AreBlockLines, tab_more, some_lines, in_column_with, text_body, end_body, is_block, each_more, each_split, rows_are, are_lines, lines_none, header_none, content_last}
+use Rattle.proof_loads.proofs.BlockLines.{line_of, lines_at, empties, texts_are, spelt_feeds, spelt_more, Last, last_of, row_by, row_spaces, content_append, header_by, text_value, spaces_value, last_value, header_line, block_text, header_inner, IsInside, AreEach, AreBlockLines, tab_more, in_column_with, text_body, end_body, is_block, each_more, each_split, rows_are, are_lines, lines_none, header_none, content_last}
 use Rattle.proof_loads.proofs.BlockLines as scans
 use Rattle.defs_token.specs.Key
-use Rattle.proof_loads.proofs.HasRows.Steps.{Reads, at}
-use Rattle.proof_loads.proofs.HasRows.Nodes.{none_ends, Parts, From, outside_reads}
+use Rattle.proof_loads.proofs.HasRows.Nodes.{none_ends, Parts, From, outside_reads, Reads, at, HasNone}
 use Rattle.proof_loads.proofs.HasRows.Json.{column_is}
-use Rattle.proof_loads.proofs.HasRows.Trails.{over_break, ending_parts, here_gap, Trail, next, marker, end, marker_text, trail_text, BeginsContent, content_first, IsTrail, IsLow, After}
-use Rattle.proof_loads.proofs.HasRows.Blocks.{Here}
-use Rattle.proof_loads.proofs.Nul.{HasNone}
+use Rattle.proof_loads.proofs.HasRows.Trails.{over_break, ending_parts, here_gap, Trail, next, marker, end, marker_text, trail_text, BeginsContent, content_first, IsTrail, IsLow, After, Here}
 
 -- what may stand directly after a block's last break: the end, or further text that begins with no TAB
 pub data Next (column : ℕ) : List ℕ → Type 0 where
@@ -115,7 +111,20 @@ module _ (s : BlockStyle) (i column : ℕ) (strips : Bool) (text : List ℕ) (ls
 
   -- the lines' column is theirs, and no TAB begins them, whatever lines stand after them
   in_column : (more : List (List ℕ)) → (column_by None (collection_of i) (indented_lines column ls ++ more) ≡ column) × (starts_with_tab (indented_lines column ls ++ more) ≡ false)
-  in_column more = (in_column_with i column ls more inside h.begins h.lines, tab_more (indented_lines column ls) more false (some_lines column ls h.begins) h.tabless)
+  in_column more = (in_column_with i column ls more inside h.begins h.lines, tab_more column ls more h.begins h.tabless)
+
+  -- a block up to the end of the text, by its complete lines and its last
+  ends_so : (ms : List Line) (l : List ℕ) (r : Row) (more : List (List ℕ)) → AreEach column ms → row_of column l ≡ Some r → is_in_line l ≡ true → HasNone l → texts (lines_at column ms) ++ l ∷ [] ≡ indented_lines column ls ++ more
+      → value_before_end (header_by s strips) column (map row_by ms) l r ≡ text → IsBlockPiece bs s text (spell (header ∷ lines_at column ms) l) []
+  ends_so ms l r more each row inner none lines value =
+      let body = end_body s i column strips (texts (lines_at column ms)) l _ r (ap (column_by None (collection_of i)) lines ∙ (in_column more).0) (ap starts_with_tab lines ∙ (in_column more).1) (rows_are column ms each) row in
+      record {
+        column = column;
+        read = rw (same, split_spell (header ∷ lines_at column ms) l (header_inner s strips, tt, are_lines column ms l each) inner) (body ∙ ap (λ t. Some (is_block s i column strips t)) value);
+        may = refl;
+        none = header_none s strips (spell (lines_at column ms) l) (lines_none column ms l each none);
+        some = refl;
+      }
 
   -- ---- with empty lines after it
   module _ (n : ℕ) where
@@ -140,23 +149,19 @@ module _ (s : BlockStyle) (i column : ℕ) (strips : Bool) (text : List ℕ) (ls
     spelt_all : (more_text : List ℕ) → block_text s strips (spell_lines column ls (10 ∷ spell (lines_at column (empties n)) more_text)) ≡ piece ++ more_text
     spelt_all more_text = grind (arith, nat_tests, block_text, strips, spelt_feeds, column, ls, spell, lines_at, empties, spell_append, map-append, line_of, spell_more, header, all_lines)
 
-    piece_none : HasNone piece
-    piece_none = header_none s strips (spell (lines_at column all_lines) []) (lines_none column all_lines [] each refl)
-
     block_piece : (more_text : List ℕ) → Next column more_text → IsBlockPiece bs s text piece more_text
     block_piece [] at_end =
-        let value = spaces_value s strips column (map row_by ls) n 0 some (omega arith) ∙ h.value in
         let more = texts (lines_at column (empties n)) ++ [] ∷ [] in
         let lines : texts (lines_at column all_lines) ++ [] ∷ [] ≡ indented_lines column ls ++ more = ap (λ x. x ++ [] ∷ []) all_texts ∙ append_assoc (indented_lines column ls) (texts (lines_at column (empties n))) ([] ∷ []) in
-        let body = end_body s i column strips (texts (lines_at column all_lines)) [] _ _ (ap (column_by None (collection_of i)) lines ∙ (in_column more).0) (ap starts_with_tab lines ∙ (in_column more).1) all_rows (row_spaces column 0 (omega arith)) ∙ ap (λ t. Some (is_block s i column strips t)) value in
-        record { column = column; read = rw (same, is_split) body; may = refl; none = piece_none; some = refl }
+        let value = ap (λ rs. value_before_end (header_by s strips) column rs [] empty_row) (map-append row_by ls (empties n)) ∙ spaces_value s strips column (map row_by ls) n 0 some (omega arith) ∙ h.value in
+        ends_so all_lines [] empty_row more each (row_spaces column 0 (omega arith)) refl refl lines value
     block_piece more_text (at_text further some_text is_further tabless) =
         let value = text_value s strips (map row_by ls) n some ∙ h.value in
         let known = in_column (texts (lines_at column (empties n))) in
         let body = text_body s i column strips (texts (lines_at column all_lines)) more_text _ (ap (column_by None (collection_of i)) all_texts ∙ known.0) some_text is_further (ap starts_with_tab all_texts ∙ known.1) all_rows ∙ ap (λ t. Some (is_block s i column strips t)) value in
         let read : block_read (innermost bs) piece more_text ≡ Some (is_block s i column strips text) = rw (same, is_split, some_text) body in
-        let content = not_all_empty column (texts (lines_at column all_lines)) _ all_rows (content_more (map row_by ls) (map row_by (empties n)) some) in
-        record { column = column; read = read; may = rw (read, is_split, content, tabless, some_text, and_false (is_empty (texts (lines_at column all_lines)))) refl; none = piece_none; some = refl }
+        let content = not_all_empty column (texts (lines_at column all_lines)) _ all_rows (rw (content_append, some) refl) in
+        record { column = column; read = read; may = rw (read, is_split, content, tabless, some_text, and_false (is_empty (texts (lines_at column all_lines)))) refl; none = header_none s strips (spell (lines_at column all_lines) []) (lines_none column all_lines [] each refl); some = refl }
 
     -- a line begins after it
     piece_column : (more_text : List ℕ) (p : Position) → (position_after p piece more_text).col ≡ 0
@@ -183,14 +188,7 @@ module _ (s : BlockStyle) (i column : ℕ) (strips : Bool) (text : List ℕ) (ls
       let lines : texts before ++ last_text ∷ [] ≡ indented_lines column ls ++ [] =
       sym (texts_append before (line_of column (full end_of.last) ∷ [])) ∙ ap texts (sym (map-append (line_of column) end_of.init (full end_of.last ∷ []))) ∙ ap (λ l. texts (lines_at column l)) (sym end_of.is) ∙ texts_are column ls ∙ sym (append-nil (indented_lines column ls)) in
       let value = last_value s strips column (map row_by end_of.init) (content_row end_of.last) last_text refl ∙ ap (value_before_text (header_by s strips)) (sym (map-append row_by end_of.init (full end_of.last ∷ [])) ∙ ap (map row_by) (sym end_of.is)) ∙ h.value in
-      let body = end_body s i column strips (texts before) last_text _ _ (ap (column_by None (collection_of i)) lines ∙ (in_column []).0) (ap starts_with_tab lines ∙ (in_column []).1) (rows_are column end_of.init q.0) q.1.row ∙ ap (λ t. Some (is_block s i column strips t)) value in
-      record {
-        column = column;
-        read = rw (same, split_spell (header ∷ before) last_text (header_inner s strips, tt, are_lines column end_of.init last_text q.0) q.1.inner) body;
-        may = refl;
-        none = header_none s strips (spell before last_text) (lines_none column end_of.init last_text q.0 q.1.none);
-        some = refl;
-      }
+      ends_so end_of.init last_text (content_row end_of.last) [] q.0 q.1.row q.1.inner q.1.none lines value
 
   last_spelt : block_text s strips (spell_lines column ls []) ≡ last_piece ++ []
   last_spelt = ap (λ x. block_text s strips x) (ap (λ l. spell_lines column l []) end_of.is ∙ spelt_more column end_of.init (full end_of.last ∷ []) [] ∙ spelt_feeds column end_of.init last_text) ∙ sym (append-nil last_piece)

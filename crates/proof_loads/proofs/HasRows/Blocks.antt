@@ -1,9 +1,6 @@
 -- Steps outside flow that begin at a column, after block collections that end there.
-use Rattle.proof_loads.proofs.TokensCommon.{[], act_of, and_parts, another, ap, arith, awaits_past, begins_free_line, begins_with_space_or_break, begun_by, begun_outside, Bool, colon_may_precede, dash_may_precede, false, free, further_lines_stand, gives_node, has_break, has_no_break, has_tab_before_piece, has_tab_within, inl, is_at_gap, is_break, is_deeper, is_in_column, is_marker, is_separation, is_waiting, IsShown, last_line, le-ltb, least_column, length, length-append, line_past, line_past_separation, List, may_precede, nat_lt, not, not-true, not_ended, opened, Position, position_after, Previous, previous_by, put, refl, replicate, Some, start_if, suc, taken, Tok, Token, toks, true, ℕ, ◌&&◌, ◌++◌, ◌+◌, ◌-◌, ◌<◌, ◌∙◌, ◌∷◌, ◌≡◌, ◌≤◌}
-use Rattle.defs_token.specs.Key.{Line}
-use Rattle.proof_loads.proofs.HasRows.Steps.{Reads, at, step_of, site_of, Steps, step, ended}
-use Rattle.proof_loads.proofs.HasRows.Nodes.{or_true, deeper}
-use Rattle.proof_loads.proofs.Nul.{HasNone}
+use Rattle.proof_loads.proofs.TokensCommon.{[], act_of, and_parts, another, ap, arith, awaits_past, begins_free_line, begins_with, begins_with_space_or_break, begun_by, begun_outside, Bool, colon_may_precede, dash_may_precede, false, free, further_lines_stand, gives_node, has_break, has_no_break, has_tab_before_piece, has_tab_within, inl, innermost, inside, is_at_gap, is_blank, is_break, is_deeper, is_in_column, is_marker, is_nul, is_separation, is_waiting, IsShown, last_line, le-ltb, least_column, length, length-append, line_past, line_past_separation, List, may_precede, nat_lt, not, not-true, not_ended, opened, Position, position_after, Previous, previous_by, put, quoted_may_end, refl, replicate, Some, stops, suc, taken, Tok, Token, toks, true, ℕ, ◌&&◌, ◌++◌, ◌+◌, ◌-◌, ◌<◌, ◌∙◌, ◌∷◌, ◌≡◌, ◌≤◌}
+use Rattle.proof_loads.proofs.HasRows.Nodes.{or_true, deeper, Quiet, Reads, at, step_of, site_of, Steps, step, ended, HasNone, Line}
 
 -- ---- columns
 
@@ -66,15 +63,8 @@ stands a c bs h = grind arith
 opens : (is_open : Bool) (c : ℕ) (bs : List ℕ) → MayBegin is_open c bs → opened c (stood is_open c bs) ≡ c ∷ bs
 opens a c bs h = grind (arith, le-ltb, deeper)
 
-is_deep : (is_open : Bool) (c : ℕ) (bs : List ℕ) → MayBegin is_open c bs → is_deeper c (stood is_open c bs) ≡ not is_open
-is_deep a c bs h = grind (arith, le-ltb, deeper)
-
 start_more : (is_open : Bool) (t : Tok) (a b : List Tok) → starts is_open t a ++ b ≡ starts is_open t (a ++ b)
 start_more is_open t a b = grind arith
-
--- the start of a collection, and what stands between it and a piece
-start_is : (is_open : Bool) (p : Position) (t : Tok) (own : List Token) → toks (start_if (not is_open) p t ++ own) ≡ starts is_open t (toks own)
-start_is is_open p t own = grind arith
 
 -- what a piece at the column says, where these collections go on there
 abbrev pub ShownAt : (bs w : List ℕ) → Tok → (key : Bool) → (next : List ℕ) → Type 0
@@ -99,7 +89,7 @@ module _ (c : ℕ) (bs w : List ℕ) (t : Tok) (key : Bool) (next : List ℕ) (c
       let stay : not_ended there.col (extra ++ at_c) ≡ at_c = rw (here.column) (left_open c extra at_c above (stands is_open c bs may)) in
       let waits = awaits_past false t (site_of a w' next).blocks (site_of a w' next).awaits next in
       let so_many : length (extra ++ at_c) - length at_c ≡ length extra = rw length-append (omega arith) in
-      let deep : is_deeper there.col at_c ≡ not is_open = rw (here.column) (is_deep is_open c bs may) in
+      let deep : is_deeper there.col at_c ≡ not is_open = rw (here.column) (grind (arith, le-ltb, deeper)) in
       let s : Steps a w' next (at (position_after there w next) (blocks is_open) waits (previous_by t) (after there) (begun_by t)) (ended extra (starts is_open collection own)) = record {
         is_separated = here.separates;
         is_shown = shown is_open (extra ++ at_c) p awaits before l here.by stay;
@@ -148,18 +138,27 @@ module _ (bs bs' next : List ℕ) (begin p : Position) (awaits : Bool) (before :
   colon_step : Steps (at p bs awaits before (Line.waits begin) []) (step_of [] (58 ∷ []) Tok.value false) next (at (position_after p (58 ∷ []) next) bs' true another taken []) []
   colon_step = grind arith
 
+-- what the piece of a scalar and its token say
+pub record IsScalarPiece (w : List ℕ) (t : Tok) : Type 0 where
+  pub node : (act_of t ≡ gives_node) × (begun_by t ≡ []) × Quiet (previous_by t)
+  pub no_break : has_no_break w ≡ true
+  pub none : HasNone w
+  pub further : (column : ℕ) → further_lines_stand column t w ≡ true
+  pub shown : (bs : List ℕ) (key : Bool) (r : List ℕ) → stops false (innermost bs) inside r ≡ true → begins_with 39 r ≡ false → ShownAt bs w t key r
+  pub precedes : (bs r : List ℕ) → quoted_may_end false w r ≡ true → may_precede false bs t w r ≡ true
+
 -- a key and its colon
-pub key_reads : (c : ℕ) (bs w : List ℕ) (t : Tok) (next : List ℕ) (tokens : List Tok) → act_of t ≡ gives_node → begun_by t ≡ [] → begins_free_line (previous_by t) [] ≡ false → has_no_break w ≡ true → HasNone w → length w ≤ 1024
-    → ((is_open : Bool) → ShownAt (stood is_open c bs) w t true (58 ∷ next)) → ((column : ℕ) → further_lines_stand column t w ≡ true) → ((is_open : Bool) → may_precede false (stood is_open c bs) t w (58 ∷ next) ≡ true)
+pub key_reads : (c : ℕ) (bs w : List ℕ) (t : Tok) (next : List ℕ) (tokens : List Tok) → IsScalarPiece w t → length w ≤ 1024
     → is_at_gap next ≡ true → colon_may_precede next ≡ true → ((p : Position) → suc c ≤ p.col → Reads (at p (c ∷ bs) true another taken []) next tokens)
     → Comes c bs (w ++ 58 ∷ next) Tok.block_mapping_start (Tok.key ∷ t ∷ Tok.value ∷ tokens)
-unfolding is_break
-key_reads c bs w t next tokens node none quiet one_line clean short shown further precede gap follows rest =
-    at_column c bs w t true (58 ∷ next) Tok.block_mapping_start (Tok.key ∷ []) (Tok.value ∷ tokens) (λ o. stood o c bs) Line.waits (rw node refl) clean shown further precede
-    (λ o must here col may. rw node refl) (λ here. rw one_line refl) (λ o here colon. start_is o colon Tok.block_mapping_start (put here Tok.key ∷ []))
+unfolding is_blank is_break is_nul
+key_reads c bs w t next tokens z short gap follows rest =
+    at_column c bs w t true (58 ∷ next) Tok.block_mapping_start (Tok.key ∷ []) (Tok.value ∷ tokens) (λ o. stood o c bs) Line.waits (rw (z.node.0) refl) z.none
+    (λ o. z.shown (stood o c bs) true (58 ∷ next) (rw gap refl) refl) z.further (λ o. z.precedes (stood o c bs) (58 ∷ next) (rw (z.no_break) refl))
+    (λ o must here col may. rw (z.node.0) refl) (λ here. rw (z.no_break) refl) (λ o here colon. grind arith)
     (λ o here awaits col may.
     let past = position_after here w (58 ∷ next) in
-    let z = along w here (58 ∷ next) one_line in
+    let x = along w here (58 ∷ next) z.no_break in
     let on : Stay past.col (stood o c bs) = let low = stands o c bs may in grind arith in
     let opened_at : opened here.col (stood o c bs) ≡ c ∷ bs = rw col (opens o c bs may) in
-    rw none (step (step_of [] (58 ∷ []) Tok.value false) next (colon_step (stood o c bs) (c ∷ bs) next here past awaits (previous_by t) on (omega (arith, z, short)) opened_at gap follows quiet) (rest (position_after past (58 ∷ []) next) (omega (arith, z, col)))))
+    rw (z.node.1) (step (step_of [] (58 ∷ []) Tok.value false) next (colon_step (stood o c bs) (c ∷ bs) next here past awaits (previous_by t) on (omega (arith, x, short)) opened_at gap follows (z.node.2 [])) (rest (position_after past (58 ∷ []) next) (omega (arith, x, col)))))

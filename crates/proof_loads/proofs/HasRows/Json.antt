@@ -1,15 +1,12 @@
 -- JSON values have rows, with the white space between their parts; plain scalars on one line as pieces.
-use Rattle.proof_loads.proofs.TokensCommon.{[], after, after_blank, and_false, and_from, and_parts, another, ap, are_marks, are_pieces, AreElements, AreMembers, arith, array, begins_flow, begins_plain, begins_with, Blank, blank_character, Bool, codes, colon_may_precede, element, element_levels, element_tokens, Elements, empty_array, empty_object, ends_plain, ends_with_content, ends_with_dash, Entry, false, false_word, filled, first_entry, flow_collection, flow_entry, flow_mapping_end, flow_mapping_start, flow_sequence_end, flow_sequence_start, fresh, goes_on, goes_on_quoted, Had, has_dash_before_flow, has_no_break, has_tab_within, inl, innermost, innermost_column, inside, is_at_gap, is_blank, is_blank_or_end, is_blanks_and_comment, is_break, is_document_marker, is_empty, is_flow, is_keyed, is_nul, is_on_line, is_one_of, is_separation, is_whole_plain, IsJson, Json, json_tokens, last_element, last_line, last_member, leading, least_column, length, length-map, level_of, levels, List, list_all, map, mapping, may_begin, member, member_levels, member_tokens, Members, nat_lt, nat_tests, not, not-true, null_word, object, Option, Piece, plain_element, plain_lines_fit, plain_scalar, plain_value, Position, position_after, quoted_may_end, quoted_scalar, refl, settled, Some, space, spell, spell_elements, spell_members, spell_number, spell_string, split, Stand, stops, string, string_token, Style, subst, suc, TabsBeginLines, Tok, true, true_word, zero, ℕ, ◌&&◌, ◌++◌, ◌+◌, ◌<◌, ◌==◌, ◌||◌, ◌∷◌, ◌≡◌, ◌≤◌}
+use Rattle.proof_loads.proofs.TokensCommon.{[], after, after_blank, and_false, and_from, and_parts, another, ap, are_marks, are_pieces, AreElements, AreMembers, arith, array, begins_flow, begins_plain, begins_with, Blank, blank_character, Bool, codes, colon_may_precede, element, element_levels, element_tokens, Elements, empty_array, empty_object, ends_with_content, ends_with_dash, Entry, false, false_word, filled, first_entry, flow_collection, flow_entry, flow_mapping_end, flow_mapping_start, flow_sequence_end, flow_sequence_start, fresh, goes_on, goes_on_quoted, Had, has_dash_before_flow, has_no_break, has_tab_within, inl, innermost, innermost_column, inside, is_at_gap, is_blank, is_blank_or_end, is_blanks_and_comment, is_break, is_document_marker, is_empty, is_flow, is_keyed, is_nul, is_on_line, is_one_of, is_separation, is_whole_plain, IsJson, Json, json_tokens, last_element, last_member, leading, length, length-map, level_of, levels, List, list_all, map, mapping, may_begin, member, member_levels, member_tokens, Members, nat_lt, nat_tests, not, not-true, null_word, object, Option, Piece, plain_element, plain_lines_fit, plain_scalar, plain_value, Position, position_after, quoted_may_end, quoted_scalar, refl, settled, Some, space, spell, spell_elements, spell_members, spell_number, spell_string, split, Stand, stops, string, string_token, Style, subst, suc, TabsBeginLines, Tok, true, true_word, zero, ℕ, ◌&&◌, ◌++◌, ◌+◌, ◌<◌, ◌==◌, ◌||◌, ◌∷◌, ◌≡◌, ◌≤◌, list_all-more}
 use Rattle.proof_loads.proofs.HasRows.Strings.{IsOneLine, nothing, plain_step, value_is, body_of, quoted, quoted_is, string_piece}
 use Rattle.proof_loads.proofs.PlainTexts.{is_plain_char, are_plain, closes, IsPlainText, is_first, is_second, first_space, is_word, are_words, IsWord, word_text}
-use Rattle.proof_loads.proofs.Nul.{HasNone, of_class}
 use Rattle.defs_layout.specs.JsonGap.{spell_gap}
 use Rattle.proof_loads.proofs.JsonTokens.Spaces.{AreSpaces, HasSpaces, HaveSpaces, MembersHaveSpaces}
-use Rattle.proof_loads.proofs.HasRows.Nodes.{IsDeep, deep_char, Parts, or_true, closing_bracket, deep_piece, none_ends, entry_of, awaiting, opening, closing, opening_bracket, From, Then, Shown, flow_reads, Place, outside, within, entries_before, entries_after, flows, place_reads}
-use Rattle.defs_tree.proofs.GrammarLaws.{list_all-more}
+use Rattle.proof_loads.proofs.HasRows.Nodes.{IsDeep, deep_char, Parts, or_true, closing_bracket, deep_piece, none_ends, entry_of, awaiting, opening, closing, opening_bracket, From, Then, Shown, flow_reads, Place, outside, within, entries_before, entries_after, flows, place_reads, step_of, HasNone, of_class}
 use Rattle.defs_layout.specs.Json.{number}
 use Rattle.proof_loads.proofs.JsonTokens.Numbers.{number_then, number_word}
-use Rattle.proof_loads.proofs.HasRows.Steps.{step_of}
 
 pub record PlainChar (c : ℕ) : Type 0 where
   pub break : is_break c ≡ false
@@ -30,14 +27,10 @@ is_in_flow c = not (is_flow c) && not (c == 32)
 abbrev pub MayFlow : (in_flow : Bool) → List ℕ → Type 0
 MayFlow in_flow w = in_flow ≡ true → list_all is_in_flow w ≡ true
 
-no_break : (w : List ℕ) → are_plain w ≡ true → has_no_break w ≡ true
-no_break [] h = refl
-no_break (c ∷ w) h = let q = and_parts (is_plain_char c) (are_plain w) h in rw ((plain_char c q.0).break) (no_break w q.1)
-
 -- ---- the value
 
 elements_are : (w : List ℕ) → are_plain w ≡ true → IsOneLine plain_element w w
-elements_are [] h = record { all = []; are = refl; in_line = nothing }
+elements_are [] h = nothing
 elements_are (c ∷ w) h = let q = and_parts (is_plain_char c) (are_plain w) h in plain_step plain_element c w w refl (plain_char c q.0).break (elements_are w q.1)
 
 -- ---- its lines
@@ -124,13 +117,13 @@ plain_piece in_flow collection (c ∷ v) next text flow stops =
     let one = (first_char c text.first).0 in
     let all : are_plain (c ∷ v) ≡ true = and_from _ _ one text.chars in
     let full = ends_full c v one text.chars (rw (first_space c text.first) text.close) in
-    let line = no_break (c ∷ v) all in
+    let z = elements_are (c ∷ v) all in
     record {
       begins = λ adjacent column. begins in_flow adjacent column c v next text.first text.second text.chars flow;
       whole = rw (goes_over in_flow collection next false v text.chars (λ e. (and_parts (is_in_flow c) (list_all is_in_flow v) (flow e)).1), full, stops) refl;
-      value = value_is plain_element (c ∷ v) (c ∷ v) (elements_are (c ∷ v) all) line;
-      fits = λ column. rw (is_one_line (c ∷ v) line) refl;
-      no_break = line;
+      value = value_is plain_element (c ∷ v) (c ∷ v) z;
+      fits = λ column. rw (is_one_line (c ∷ v) z.no_break) refl;
+      no_break = z.no_break;
       some = refl;
       no_dash = dashless in_flow (c ∷ v) next all flow;
       none = of_class is_plain_char refl (c ∷ v) all;
@@ -173,10 +166,7 @@ deep_gap bs [] p next may deep = deep
 deep_gap bs (b ∷ g) p next may deep = grind (arith, deep_char, deep_gap bs g)
 
 pub blanks : (bs : List ℕ) (g : List Blank) (rest : List ℕ) → MayStand bs g → Parts bs (spell_gap g rest) rest
-blanks bs g rest may = record { by = white g; is = spelt g rest; separates = separates g rest; tabless = tabless bs may; deep = λ p. deep_gap bs g p rest may; none = white_none g }
-  where
-    tabless : (bs : List ℕ) → MayStand bs g → (awaits : Bool) → has_tab_within (least_column bs awaits) (last_line (white g)) ≡ false
-    tabless a may b = grind (arith, one_line, no_tab)
+blanks bs g rest may = record { by = white g; is = spelt g rest; separates = separates g rest; tabless = λ awaits. grind (arith, one_line, no_tab); deep = λ p. deep_gap bs g p rest may; none = white_none g }
 
 -- ---- what follows a value
 
@@ -228,21 +218,9 @@ at_end = record { done = λ piece. refl; rest = λ piece. refl; no_comment = ref
 at_mark : (c : ℕ) (r : List ℕ) → is_blank c ≡ false → (c == 35) ≡ false → is_one_of (codes ",]}:") c ≡ true → Edge true (c ∷ r)
 at_mark c r no_blank hash mark = grind arith
 
-stop_at : (collection : Option ℕ) (c : ℕ) (r : List ℕ) → is_blank c ≡ false → is_break c ≡ false → is_flow c ≡ true → Stops true collection (c ∷ r)
-stop_at collection c r no_blank break flow s = rw (no_blank, break, flow) (or_true _)
-
-pub comma_ends : (collection : Option ℕ) (g : List Blank) (r : List ℕ) → Ends true collection (spell_gap g (44 ∷ r))
-unfolding is_blank is_break is_flow
-comma_ends collection g r = ends true (44 ∷ r) (at_mark 44 r refl refl refl) collection (stop_at collection 44 r refl refl refl) g
-
-pub closing_ends : (b : Bool) (collection : Option ℕ) (g : List Blank) (r : List ℕ) → Ends true collection (spell_gap g (closing_bracket b ∷ r))
-unfolding is_blank is_break is_flow
-closing_ends true collection g r = ends true (125 ∷ r) (at_mark 125 r refl refl refl) collection (stop_at collection 125 r refl refl refl) g
-closing_ends false collection g r = ends true (93 ∷ r) (at_mark 93 r refl refl refl) collection (stop_at collection 93 r refl refl refl) g
-
-pub colon_follows : (g : List Blank) (r piece : List ℕ) → quoted_may_end true piece (spell_gap g (58 ∷ r)) ≡ true
-unfolding is_blank
-colon_follows g r piece = done_past true (58 ∷ r) (at_mark 58 r refl refl refl) g piece
+-- one that ends an entry
+flow_ends : (collection : Option ℕ) (c : ℕ) (g : List Blank) (r : List ℕ) → is_blank c ≡ false → is_break c ≡ false → is_flow c ≡ true → (c == 35) ≡ false → is_one_of (codes ",]}:") c ≡ true → Ends true collection (spell_gap g (c ∷ r))
+flow_ends collection c g r no_blank break flow hash mark = ends true (c ∷ r) (at_mark c r no_blank hash mark) collection (λ s. rw (no_blank, break, flow) (or_true _)) g
 
 -- ---- what a colon stands before
 
@@ -258,8 +236,6 @@ solid_past (b ∷ g) r h z = record { no_tab = grind arith; no_comment = grind a
 
 pub colon_stands : (r : List ℕ) → IsSolid r → colon_may_precede r ≡ true
 colon_stands r z = rw (z.no_tab) refl
-
--- ---- words and numbers
 
 -- ---- what a value begins with
 
@@ -330,12 +306,12 @@ module _ (bs : List ℕ) where
   -- a key and its colon
   key_goes : (ps : List Piece) → are_pieces ps ≡ true → (es : List Entry) (text : List ℕ) (g : List Blank) (r : List ℕ) (tokens : List Tok) → Parts bs text (spell_string ps (spell_gap g (58 ∷ r))) → MayStand bs g → colon_may_precede r ≡ true
       → From another bs (awaiting true ∷ es) r tokens → From another bs (entry_of true fresh ∷ es) text (Tok.key ∷ string_token ps ∷ Tok.value ∷ tokens)
-  unfolding is_break
+  unfolding is_blank is_break
   key_goes ps are es text g r tokens parts may follows rest =
       let next = spell_gap g (58 ∷ r) in
       let z = string_piece ps are in
       flow_reads bs (quoted ps) (string_token ps) text next (Tok.value ∷ tokens) (subst (Parts bs text) (quoted_is ps next) parts) z.none (deep_piece bs (quoted ps) next z.no_break) (λ s e. z.further _)
-      another (first_entry mapping) es (λ here. entry_of true (Had.waits here) ∷ es) true (Tok.key ∷ []) refl (λ p awaits l there. (refl, ((body_of ps, refl, z.value), refl))) (colon_follows g r (quoted ps)) (λ here. refl) (λ here colon own. refl)
+      another (first_entry mapping) es (λ here. entry_of true (Had.waits here) ∷ es) true (Tok.key ∷ []) refl (λ p awaits l there. (refl, ((body_of ps, refl, z.value), refl))) (done_past true (58 ∷ r) (at_mark 58 r refl refl refl) g (quoted ps)) (λ here. refl) (λ here colon own. refl)
       (λ begin. flow_reads bs (58 ∷ []) Tok.value next r tokens (blanks bs g (58 ∷ r) may) refl (deep_piece bs (58 ∷ []) r refl) (λ s e. refl) quoted_scalar (entry_of true (Had.waits begin)) es (λ here. awaiting true ∷ es) false [] refl
       (λ p awaits l there. (refl, (refl, rw (or_true (begins_flow r), or_true (is_at_gap r)) refl))) follows (λ here. refl) (λ here colon own. refl) (λ here. rest))
 
@@ -349,25 +325,15 @@ module _ (bs : List ℕ) where
   ReadsValue v = (pl : Place) (text r : List ℕ) (tokens : List Tok) → Parts bs text (spell v r) → Ends (flows pl) (innermost bs) r → length (entries_before pl) + levels v ≤ 255
       → Then bs (entries_after pl []) r tokens → From another bs (entries_before pl) text (json_tokens v tokens)
 
-  -- up to the closing bracket, and over it
-  abbrev ReadsElements : Elements → Type 0
-  ReadsElements es = (around : List Entry) (g : List Blank) (r : List ℕ) (tokens : List Tok) → MayStand bs g → begins_with 35 r ≡ false → length around + 1 + element_levels es ≤ 255
-      → Then bs around r tokens → From another bs (entry_of false fresh ∷ around) (spell_gap g (spell_elements es (93 ∷ r))) (element_tokens es (flow_sequence_end ∷ tokens))
-
-  abbrev ReadsMembers : Members → Type 0
-  ReadsMembers ms = (around : List Entry) (g : List Blank) (r : List ℕ) (tokens : List Tok) → MayStand bs g → begins_with 35 r ≡ false → length around + 1 + member_levels ms ≤ 255
-      → Then bs around r tokens → From another bs (entry_of true fresh ∷ around) (spell_gap g (spell_members ms (125 ∷ r))) (member_tokens ms (flow_mapping_end ∷ tokens))
-
   pub empty_reads : (b : Bool) (a : List Blank) → MayStand bs a → (pl : Place) (text r : List ℕ) (tokens : List Tok) → Parts bs text (opening_bracket b ∷ spell_gap a (closing_bracket b ∷ r)) → begins_with 35 r ≡ false → length (entries_before pl) < 255
       → Then bs (entries_after pl []) r tokens → From another bs (entries_before pl) text (opening b ∷ closing b ∷ tokens)
   empty_reads b a may pl text r tokens parts no_comment few rest =
-      opens bs b pl text (spell_gap a (closing_bracket b ∷ r)) (closing b ∷ tokens) parts (no_comment_past (closing_bracket b ∷ r) (hash b) a) few
+      opens bs b pl text (spell_gap a (closing_bracket b ∷ r)) (closing b ∷ tokens) parts (no_comment_past (closing_bracket b ∷ r) (grind arith) a) few
       (bracket_closes bs b fresh refl (entries_after pl []) a r tokens may no_comment rest another (λ f. refl))
-    where
-      hash : (b : Bool) → begins_with 35 (closing_bracket b ∷ r) ≡ false
-      hash a = grind arith
 
   mutual
+    unfolding is_blank is_break is_flow
+
     pub value_reads : (v : Json) → IsJson v → (is_empty bs ≡ false → HasSpaces v) → ReadsValue v
     value_reads false_word is may pl text r tokens parts ends few rest = word_reads bs (codes "false") (record { chars = refl; begins = refl }) pl text r tokens parts ends rest
     value_reads null_word is may pl text r tokens parts ends few rest = word_reads bs (codes "null") (record { chars = refl; begins = refl }) pl text r tokens parts ends rest
@@ -388,25 +354,30 @@ module _ (bs : List ℕ) where
         opens bs true pl text (spell_gap a (spell_members ms (125 ∷ r))) _ parts (solid_past a _ is.0 (members_solid ms _)).no_comment (omega (arith, few))
         (members_read ms is.1 (λ e. (may e).1) (entries_after pl []) a r tokens (λ e. (may e).0) ends.no_comment (omega (arith, few, n)) rest)
 
-    elements_read : (es : Elements) → AreElements es → (is_empty bs ≡ false → HaveSpaces es) → ReadsElements es
+    -- elements up to the closing bracket, and over it; and so members
+    elements_read : (es : Elements) → AreElements es → (is_empty bs ≡ false → HaveSpaces es)
+        → (around : List Entry) (g : List Blank) (r : List ℕ) (tokens : List Tok) → MayStand bs g → begins_with 35 r ≡ false → length around + 1 + element_levels es ≤ 255
+        → Then bs around r tokens → From another bs (entry_of false fresh ∷ around) (spell_gap g (spell_elements es (93 ∷ r))) (element_tokens es (flow_sequence_end ∷ tokens))
     elements_read (last_element v a) are may around g r tokens gap no_comment few rest =
-        value_reads v are.0 (λ e. (may e).0) (within false around) _ (spell_gap a (93 ∷ r)) (flow_sequence_end ∷ tokens) (blanks bs g _ gap) (closing_ends false (innermost bs) a r) (omega (arith, few))
+        value_reads v are.0 (λ e. (may e).0) (within false around) _ (spell_gap a (93 ∷ r)) (flow_sequence_end ∷ tokens) (blanks bs g _ gap) (flow_ends (innermost bs) 93 a r refl refl refl refl refl) (omega (arith, few))
         (bracket_closes bs false filled refl around a r tokens (λ e. (may e).1) no_comment rest)
     elements_read (element v a b es) are may around g r tokens gap no_comment few rest =
-        value_reads v are.0 (λ e. (may e).0) (within false around) _ (spell_gap a (44 ∷ spell_gap b (spell_elements es (93 ∷ r)))) _ (blanks bs g _ gap) (comma_ends (innermost bs) a _) (omega (arith, few))
+        value_reads v are.0 (λ e. (may e).0) (within false around) _ (spell_gap a (44 ∷ spell_gap b (spell_elements es (93 ∷ r)))) _ (blanks bs g _ gap) (flow_ends (innermost bs) 44 a _ refl refl refl refl refl) (omega (arith, few))
         (comma_goes bs false filled refl around a (spell_gap b (spell_elements es (93 ∷ r))) _ (λ e. (may e).1) (solid_past b _ are.2 (elements_solid es _ are.3)).no_comment
         (elements_read es are.3 (λ e. (may e).3) around b r tokens (λ e. (may e).2) no_comment (omega (arith, few)) rest))
 
-    members_read : (ms : Members) → AreMembers ms → (is_empty bs ≡ false → MembersHaveSpaces ms) → ReadsMembers ms
+    members_read : (ms : Members) → AreMembers ms → (is_empty bs ≡ false → MembersHaveSpaces ms)
+        → (around : List Entry) (g : List Blank) (r : List ℕ) (tokens : List Tok) → MayStand bs g → begins_with 35 r ≡ false → length around + 1 + member_levels ms ≤ 255
+        → Then bs around r tokens → From another bs (entry_of true fresh ∷ around) (spell_gap g (spell_members ms (125 ∷ r))) (member_tokens ms (flow_mapping_end ∷ tokens))
     members_read (last_member k g h v a) are may around f r tokens gap no_comment few rest =
         let next = spell_gap h (spell v (spell_gap a (125 ∷ r))) in
         key_goes bs k are.0 around _ g next _ (blanks bs f _ gap) (λ e. (may e).0) (colon_stands next (solid_past h _ are.2 (value_solid v _ are.3)))
-        (value_reads v are.3 (λ e. (may e).2) (within true around) _ (spell_gap a (125 ∷ r)) (flow_mapping_end ∷ tokens) (blanks bs h _ (λ e. (may e).1)) (closing_ends true (innermost bs) a r) (omega (arith, few))
+        (value_reads v are.3 (λ e. (may e).2) (within true around) _ (spell_gap a (125 ∷ r)) (flow_mapping_end ∷ tokens) (blanks bs h _ (λ e. (may e).1)) (flow_ends (innermost bs) 125 a r refl refl refl refl refl) (omega (arith, few))
         (bracket_closes bs true settled refl around a r tokens (λ e. (may e).3) no_comment rest))
     members_read (member k g h v a b ms) are may around f r tokens gap no_comment few rest =
         let last = spell_gap a (44 ∷ spell_gap b (spell_members ms (125 ∷ r))) in
         let next = spell_gap h (spell v last) in
         key_goes bs k are.0 around _ g next _ (blanks bs f _ gap) (λ e. (may e).0) (colon_stands next (solid_past h _ are.2 (value_solid v _ are.3)))
-        (value_reads v are.3 (λ e. (may e).2) (within true around) _ last _ (blanks bs h _ (λ e. (may e).1)) (comma_ends (innermost bs) a _) (omega (arith, few))
+        (value_reads v are.3 (λ e. (may e).2) (within true around) _ last _ (blanks bs h _ (λ e. (may e).1)) (flow_ends (innermost bs) 44 a _ refl refl refl refl refl) (omega (arith, few))
         (comma_goes bs true settled refl around a (spell_gap b (spell_members ms (125 ∷ r))) _ (λ e. (may e).3) (solid_past b _ are.5 (members_solid ms _)).no_comment
         (members_read ms are.6 (λ e. (may e).5) around b r tokens (λ e. (may e).4) no_comment (omega (arith, few)) rest)))

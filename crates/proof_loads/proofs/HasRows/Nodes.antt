@@ -1,10 +1,8 @@
 -- Texts that are read from a place on: how they begin with a separation and a piece, outside flow and in flow.
-use Rattle.proof_loads.proofs.TokensCommon.{[], act_of, and_false, and_parts, another, arith, awaits_at, awaits_past, begins_free_line, begins_line, begun_by, Bool, Entry, false, filled, flow_mapping_end, flow_mapping_start, flow_sequence_end, flow_sequence_start, FlowKind, free, fresh, further_lines_stand, gives_node, Had, has_break, has_no_break, has_tab_within, if◌then◌else◌, is_break, is_deeper, is_empty, is_in_column, is_in_flow, is_indented_by_spaces, is_marker, is_renewed, is_separation, is_waiting, IsShown, last_line, le-ltb, least_column, least_for, length, line_past, line_past_separation, List, mapping, may_precede, nat_le, ne_eqb, no_pair, not, not-true, not_ended, Option, Position, position_after, position_past, Previous, previous_by, refl, sequence, settled, Site, Some, Step, taken, Tok, toks, true, ℕ, ◌++◌, ◌-◌, ◌∷◌, ◌≡◌, ◌≤◌}
-use Rattle.defs_token.specs.FlowEntry.{entries_past, takes_pair}
-use Rattle.defs_token.specs.Key.{Line}
-use Rattle.defs_token.specs.Tokens.{begun_inside, begun_outside}
-use Rattle.proof_loads.proofs.HasRows.Steps.{Reads, at, step_of, site_of, Steps, step}
-use Rattle.proof_loads.proofs.Nul.{HasNone}
+use Rattle.proof_loads.proofs.TokensCommon.{[], act_of, and_false, and_parts, another, arith, awaits_at, awaits_past, begins_free_line, begins_line, begun_by, Bool, Entry, false, filled, flow_mapping_end, flow_mapping_start, flow_sequence_end, flow_sequence_start, FlowKind, free, fresh, further_lines_stand, gives_node, Had, has_break, has_no_break, has_tab_within, if◌then◌else◌, is_break, is_deeper, is_empty, is_in_column, is_in_flow, is_indented_by_spaces, is_marker, is_renewed, is_separation, is_waiting, IsShown, last_line, le-ltb, least_column, least_for, length, line_past, line_past_separation, List, mapping, may_precede, nat_le, ne_eqb, no_pair, not, not-true, not_ended, Option, Position, position_after, position_past, Previous, previous_by, refl, sequence, settled, Site, Some, Step, taken, Tok, toks, true, ℕ, ◌++◌, ◌-◌, ◌∷◌, ◌≡◌, ◌≤◌, entries_past, takes_pair, begun_inside, begun_outside}
+pub use Rattle.defs_token.specs.Key.{Line}
+pub use Rattle.proof_loads.proofs.HasRows.Steps.{at, ended, has_tokens, read_end, Reads, site_of, step, step_of, Steps}
+pub use Rattle.proof_loads.proofs.Nul.{both, HasNone, of_class, quoted_none, text_none}
 pub use Rattle.proof_lexers.proofs.Plain.Turns.{or_true}
 
 -- ---- columns
@@ -21,9 +19,6 @@ none_ends a n h = grind (arith, le-ltb)
 
 pub deeper : (bs : List ℕ) (n : ℕ) → least_column bs true ≤ n → is_deeper n bs ≡ true
 deeper a n h = grind arith
-
-pub no_column : (bs : List ℕ) (n : ℕ) → least_column bs true ≤ n → is_in_column n bs ≡ false
-no_column a n h = grind (arith, ne_eqb)
 
 pub deep_char : (bs : List ℕ) (p : Position) (c : ℕ) (next : List ℕ) → (is_empty bs ≡ false → is_break c ≡ false) → IsDeep bs p → IsDeep bs (position_past p c next)
 deep_char a p c b h deep = grind arith
@@ -108,9 +103,6 @@ outside_line false l h = (l, refl, h)
 outside_line true (Line.waits begin) h = cc
 outside_line true l h = (free, refl, refl)
 
-node_line : (must : Bool) (here : Position) (bs : List ℕ) (l : Line) → must ≡ false → is_waiting l ≡ false → line_past must here bs gives_node false l ≡ Some (record { line = taken; blocks = bs })
-node_line a p bs b e h = grind arith
-
 -- outside flow, or in an entry of an array or an object
 pub data Place : Type 0 where
   outside : Place
@@ -175,7 +167,7 @@ module _ (bs w : List ℕ) (t : Tok) (text next : List ℕ) (tokens : List Tok) 
         is_separated = parts.separates;
         is_shown = shown p awaits l there;
         stands = rw (fits, indented another bs awaits parts, no_marker, none_ends bs here.col there, precede) refl;
-        leads = rw (no_marker, none_ends bs here.col there, m.1, leads (is_in_column here.col bs) here m.0 (no_column bs here.col there) m.2, quiet, and_false (has_break w)) refl;
+        leads = rw (no_marker, none_ends bs here.col there, m.1, leads (is_in_column here.col bs) here m.0 (grind (arith, ne_eqb)) m.2, quiet, and_false (has_break w)) refl;
         begins = λ past colon. rw (no_marker, none_ends bs here.col there, no_less, begins) refl;
         none = (parts.none, none);
       } in
@@ -185,14 +177,11 @@ module _ (bs w : List ℕ) (t : Tok) (text next : List ℕ) (tokens : List Tok) 
   pub node_reads : Over → Further → act_of t ≡ gives_node → Shown another bs [] (step_of parts.by w t false) next → may_precede false bs t w next ≡ true
       → From (previous_by t) bs (begun_by t) next tokens → From another bs [] text (t ∷ tokens)
   node_reads over further node shown precede rest =
-      outside_reads further taken refl (rw node refl) shown precede (λ must here l no line. rw node (node_line must here bs l no line)) (λ deeper here colon l. rw node refl) (λ here waits there. rest _ waits taken refl (over here there))
+      outside_reads further taken refl (rw node refl) shown precede (λ must here l no line. rw node (grind arith)) (λ deeper here colon l. rw node refl) (λ here waits there. rest _ waits taken refl (over here there))
 
   -- a node at a place
   pub place_reads : (pl : Place) → Over → Further → act_of t ≡ gives_node → Shown another bs (entries_before pl) (step_of parts.by w t false) next → may_precede (flows pl) bs t w next ≡ true
       → From (previous_by t) bs (entries_after pl (begun_by t)) next tokens → From another bs (entries_before pl) text (t ∷ tokens)
   place_reads outside over further node shown precede rest = node_reads over further node shown precede rest
   place_reads (within b es) over further node shown precede rest =
-      flow_reads over further another (awaiting b) es (λ here. begun_by t ++ filled_by b ∷ es) false [] (rw node refl) shown precede (λ here. rw node (past here b)) (λ here colon own. rw node refl) (λ here. rest)
-    where
-      past : (here : Position) (b : Bool) → entries_past here false gives_node (begun_by t) false (awaiting b) es ≡ Some (begun_by t ++ filled_by b ∷ es)
-      past here b = grind arith
+      flow_reads over further another (awaiting b) es (λ here. begun_by t ++ filled_by b ∷ es) false [] (rw node refl) shown precede (λ here. rw node (grind arith)) (λ here colon own. rw node refl) (λ here. rest)

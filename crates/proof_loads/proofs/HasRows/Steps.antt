@@ -1,5 +1,5 @@
 -- Rows from an account on, given from their last step to their first. A text that has a row has the row's tokens by the scanner's model.
-use Rattle.proof_loads.proofs.TokensCommon.{[], Account, account_past, ap, append_assoc, begins_free_line, Bool, Colon, ends_with_stream, Entry, false, first_account, has_no_nul, HasToks, is_in_flow, is_renewed, is_separation, is_waiting, IsRowFrom, IsShown, line_past_separation, List, map-append, may_stand, on_one_line, Option, past_piece, Position, position_after, Previous, put, refl, Site, site_at, Some, spelled, Step, stream_position, subst, sym, Tok, Token, tokens_before, tokens_from, tokens_of_row, toks, true, up_to_nul, ℕ, ◌++◌, ◌∙◌, ◌∷◌, ◌≡◌}
+use Rattle.proof_loads.proofs.TokensCommon.{[], Account, account_past, ap, append_assoc, begins_free_line, Bool, Colon, ends_with_stream, Entry, false, first_account, has_no_nul, HasToks, is_in_flow, is_renewed, is_separation, is_waiting, IsRowFrom, IsShown, line_past_separation, List, map-append, may_stand, on_one_line, past_piece, Position, position_after, Previous, put, refl, Site, site_at, Some, spelled, Step, stream_position, subst, sym, Tok, tokens_before, tokens_from, tokens_of_row, toks, true, up_to_nul, ℕ, ◌++◌, ◌∙◌, ◌∷◌, ◌≡◌}
 use Rattle.defs_token.specs.Key.{Line}
 use Rattle.proof_loads.proofs.Nul.{HasNone, both, whole}
 use Rattle.defs_token.specs.Step.{Row}
@@ -26,23 +26,14 @@ step_of f p t k = record { separation = f; piece = p; shown = t; key = k }
 abbrev pub site_of : Account → Step → (next : List ℕ) → Site
 site_of a w next = site_at (is_in_flow a.entries) a.site w.separation w.piece w.shown next
 
--- the tokens of a step, before the one that it shows
-abbrev pub first_tokens : Account → Step → (next : List ℕ) → (past : Position) → Colon → List Token
-first_tokens a w next past colon = tokens_before a.site (site_of a w next) past colon w next a.line a.entries
-
--- the account after a step that may stand
-abbrev pub past_step : Account → Step → (next : List ℕ) → Option Account
-past_step a w next =
-    on_one_line w.piece (past_piece (site_of a w next) w.piece w.shown next (is_renewed a.site.before w.separation) w.key
-    (line_past_separation (is_in_flow a.entries) (begins_free_line a.site.before w.separation) a.line) a.entries)
-
 -- A step from an account before a text, to another account and with these tokens before the one that it shows.
 pub record Steps (a : Account) (w : Step) (next : List ℕ) (b : Account) (first : List Tok) : Type 0 where
   pub is_separated : is_separation false w.separation (w.piece ++ next) ≡ true
   pub is_shown : IsShown a (site_of a w next) w next
   pub stands : may_stand (is_in_flow a.entries) a.site (site_of a w next) w.separation w.piece w.shown next ≡ true
-  pub leads : past_step a w next ≡ Some b
-  pub begins : (past : Position) (colon : Colon) → toks (first_tokens a w next past colon) ≡ first
+  pub leads : on_one_line w.piece (past_piece (site_of a w next) w.piece w.shown next (is_renewed a.site.before w.separation) w.key
+      (line_past_separation (is_in_flow a.entries) (begins_free_line a.site.before w.separation) a.line) a.entries) ≡ Some b
+  pub begins : (past : Position) (colon : Colon) → toks (tokens_before a.site (site_of a w next) past colon w next a.line a.entries) ≡ first
   pub none : HasNone w.separation × HasNone w.piece
 
 -- a step before a text that is read from the account after it

@@ -1,12 +1,9 @@
 -- What stands after a value of a layout: gaps and comments as separations, and how the next piece is read.
-use Rattle.proof_loads.proofs.TokensCommon.{[], after_blank, and_parts, another, ap, append_assoc, are_marks, arith, Bool, codes, comment, Comment, comment_line, empty_line, ends_line, false, free, GapLine, has_break, has_tab_within, innermost, inside, is_before_line_feed, is_blank, is_blank_or_end, is_blanks_and_comment, is_break, is_document_marker, is_line_character, is_nul, is_on_line, is_separation, is_value_indicator, is_waiting, IsComment, IsGap, IsLineText, last_line, leading, least_column, List, list_all, nat_le, nat_tests, next_line, no_comment, not, on_line, Option, Position, position_after, position_past, Previous, refl, Some, spaces, spell_comment, spell_ending, spell_gap, split, split_by, Stand, stops, suc, sym, Tok, true, zero, ℕ, ◌&&◌, ◌++◌, ◌+◌, ◌<◌, ◌==◌, ◌||◌, ◌∙◌, ◌∷◌, ◌≡◌, ◌≤◌}
-use Rattle.defs_token.specs.Key.{Line}
+use Rattle.proof_loads.proofs.TokensCommon.{[], after_blank, and_parts, another, ap, append_assoc, are_marks, arith, Bool, codes, comment, Comment, comment_line, empty_line, false, free, GapLine, has_break, has_tab_within, innermost, inside, is_before_line_feed, is_blank, is_blank_or_end, is_blanks_and_comment, is_break, is_document_marker, is_line_character, is_nul, is_on_line, is_separation, is_value_indicator, is_waiting, IsComment, IsGap, IsLineText, last_line, leading, least_column, List, list_all, nat_le, nat_tests, next_line, no_comment, not, on_line, Option, Position, position_after, position_past, Previous, refl, Some, spaces, spell_comment, spell_ending, spell_gap, split, split_by, Stand, stops, suc, sym, Tok, true, zero, ℕ, ◌&&◌, ◌++◌, ◌+◌, ◌<◌, ◌==◌, ◌||◌, ◌∙◌, ◌∷◌, ◌≡◌, ◌≤◌}
 use Rattle.defs_token.specs.Plain.{is_deeper}
-use Rattle.proof_loads.proofs.HasRows.Steps.{Reads, at, ended}
 use Rattle.proof_loads.proofs.HasRows.Json.{Ends}
-use Rattle.proof_loads.proofs.HasRows.Nodes.{or_true, Parts, Quiet, Then}
-use Rattle.proof_loads.proofs.HasRows.Blocks.{Here}
-use Rattle.proof_loads.proofs.Nul.{HasNone, both, text_none}
+use Rattle.proof_loads.proofs.HasRows.Nodes.{or_true, Parts, Quiet, Then, Reads, at, ended, HasNone, both, text_none, Line}
+pub use Rattle.proof_loads.proofs.HasRows.Blocks.{AreAbove, colon_reads, Comes, dash_reads, ended_append, ends_are, Here, IsScalarPiece, key_reads, Marked, question_reads, ShownAt, stood}
 pub use Rattle.proof_loads.proofs.BlockLines.{spaces_are}
 
 -- a gap, and at a column of the next line the rest; a gap, and the `---` of a next document with the rest; or a gap up to the end
@@ -39,8 +36,8 @@ EndsAt (next g d r) n = d < n
 EndsAt _ n = Unit {0}
 
 abbrev pub AllEnd : Trail → List ℕ → Type 0
-AllEnd t [] = Unit {0}
-AllEnd t (n ∷ ns) = EndsAt t n × AllEnd t ns
+AllEnd (next g d r) ns = AreAbove d ns
+AllEnd _ ns = Unit {0}
 
 -- ---- what is read after a trail
 
@@ -58,15 +55,16 @@ After t bs tokens =
 -- after a collection that ends there too
 pub one_more : (t : Trail) (n : ℕ) (bs : List ℕ) (tokens : List Tok) → EndsAt t n → After t bs tokens → After t (n ∷ bs) (Tok.block_end ∷ tokens)
 one_more t n bs tokens ends rest extra p awaits before l text all arrives =
-    rw (← append_assoc extra (n ∷ []) bs, ← same extra) (rest (extra ++ n ∷ []) p awaits before l text (more extra all) arrives)
+    rw (← append_assoc extra (n ∷ []) bs, ← same extra) (rest (extra ++ n ∷ []) p awaits before l text (more t extra ends all) arrives)
   where
     same : (extra : List ℕ) → ended (extra ++ n ∷ []) tokens ≡ ended extra (Tok.block_end ∷ tokens)
     same [] = refl
     same (m ∷ extra) = ap (λ o. Tok.block_end ∷ o) (same extra)
 
-    more : (extra : List ℕ) → AllEnd t extra → AllEnd t (extra ++ n ∷ [])
-    more [] all = (ends, tt)
-    more (m ∷ extra) all = (all.0, more extra all.1)
+    more : (t : Trail) (extra : List ℕ) → EndsAt t n → AllEnd t extra → AllEnd t (extra ++ n ∷ [])
+    more (next g d r) [] ends all = (ends, tt)
+    more (next g d r) (m ∷ extra) ends all = (all.0, more (next g d r) extra ends all.1)
+    more t extra ends all = tt
 
 -- ---- gaps as separations
 
@@ -130,12 +128,9 @@ last_past x y = rw (last_line, (broken_at x y).2) refl
 
 -- ---- positions
 
-feed_ends : (next : List ℕ) → ends_line 10 next ≡ true
-unfolding is_break
-feed_ends a = grind arith
-
 pub over_break : (w x r : List ℕ) (p : Position) → (q : Position) × (position_after p (w ++ 10 ∷ x) r ≡ position_after q x r) × (q.col ≡ 0)
-over_break [] x r p = (record { index = suc p.index; line = suc p.line; col = 0 }, rw (position_after, feed_ends (x ++ r)) refl, refl)
+unfolding is_break
+over_break [] x r p = (record { index = suc p.index; line = suc p.line; col = 0 }, grind (arith, position_after), refl)
 over_break (c ∷ w) x r p = over_break w x r (position_past p c ((w ++ 10 ∷ x) ++ r))
 
 pub spaces_column : (n : ℕ) (r : List ℕ) (p : Position) → (position_after p (spaces n []) r).col ≡ p.col + n

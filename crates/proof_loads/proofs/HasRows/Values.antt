@@ -1,19 +1,15 @@
 -- Layouts have rows: scalars, values, arrays and hashes, roots, and documents one after the other. So has a text of one quoted scalar.
-use Rattle.proof_loads.proofs.TokensCommon.{[], act_of, all_field_tokens, all_of, Anchor, anchors_after, anchors_after_field, and_false, and_parts, another, ap, append-nil, append_assoc, are_marks, AreDocuments, AreEmptyLines, AreEntries, AreFields, arith, awaits_at, awaits_past, before_by, before_past, begins_with, begins_with_space_or_break, begun, begun_by, blanks_before, Block, block_tokens, BlockStyle, body_value, Bool, codes, colon_may_precede, Comment, dash_may_precede, Documents, documents_tokens, double, double_quoted, double_quoted_element, doubled, Element, elements, empty_hash, empty_line, Entries, entry_tokens, false, Field, field_tokens, Fields, first_account, first_position, flat_map, folded_header, free, further_lines_stand, GapLine, gives_node, goes_on_with_name, has_break, has_more, has_no_break, has_tab_before_piece, inl, Inline, inline_tokens, innermost, inr, inside, is_adjacent, is_anchor_name, is_ascii_alphanumeric, is_at_gap, is_blank, is_blank_or_end, is_break, is_empty, is_flow, is_line_character, is_name, is_nul, is_one_of, is_waiting, IsAfterRoot, IsBlock, IsComment, IsField, IsGap, IsInline, IsLayout, IsLineText, IsRoot, IsScalar, IsValue, Layout, leading, least_column, least_for, length, Lines, lines_fit, List, list_all, marked, may_precede, MayFollowScalarKey, nat_le, nat_tests, next_line, no_comment, None, not, Option, parts, plain, Position, position_after, Previous, previous_by, quote_of, quoted, quoted_lines_fit, quoted_may_end, Quotes, refl, replicate, Root, root_tokens, Scalar, scalar, scalar_token, single, single_quoted, single_quoted_element, Site, Some, spaces, spell_block, spell_comment, spell_documents, spell_ending, spell_entries, spell_field, spell_fields, spell_gap, spell_inline, spell_lines, spell_literal, spell_root, spell_scalar, spell_value, Spelled, spelling, stops, style_of, subst, suc, taken, Tok, true, Value, value_tokens, written_escapes, zero, ℕ, ◌&&◌, ◌++◌, ◌+◌, ◌-◌, ◌||◌, ◌∷◌, ◌≡◌, ◌≤◌, ◌⊎◌}
+use Rattle.proof_loads.proofs.TokensCommon.{[], act_of, all_field_tokens, all_of, Anchor, anchors_after, anchors_after_field, and_false, and_parts, another, ap, append-nil, append_assoc, are_marks, AreDocuments, AreEmptyLines, AreEntries, AreFields, arith, awaits_at, awaits_past, before_by, before_past, begins_with, begins_with_space_or_break, begun, begun_by, Block, block_tokens, BlockStyle, body_value, Bool, codes, colon_may_precede, Comment, dash_may_precede, Documents, documents_tokens, double, double_quoted, double_quoted_element, doubled, Element, elements, empty_hash, empty_line, Entries, entry_tokens, false, Field, field_tokens, Fields, first_account, first_position, flat_map, folded_header, free, further_lines_stand, GapLine, gives_node, goes_on_with_name, has_break, has_no_break, has_tab_before_piece, inl, Inline, inline_tokens, innermost, inr, is_adjacent, is_anchor_name, is_ascii_alphanumeric, is_at_gap, is_blank, is_blank_or_end, is_break, is_flow, is_line_character, is_name, is_nul, is_one_of, is_waiting, IsAfterRoot, IsBlock, IsComment, IsField, IsGap, IsInline, IsLayout, IsLineText, IsRoot, IsScalar, IsValue, Layout, leading, least_column, least_for, length, Lines, lines_fit, List, list_all, marked, may_precede, MayFollowScalarKey, nat_tests, next_line, no_comment, None, Option, parts, plain, Position, position_after, Previous, previous_by, quote_of, quoted, quoted_lines_fit, quoted_may_end, Quotes, refl, replicate, Root, root_tokens, Scalar, scalar, scalar_token, single, single_quoted, single_quoted_element, Site, Some, spaces, spell_block, spell_comment, spell_documents, spell_ending, spell_entries, spell_field, spell_fields, spell_gap, spell_inline, spell_lines, spell_literal, spell_root, spell_scalar, spell_value, Spelled, spelling, style_of, subst, suc, taken, Tok, true, Value, value_tokens, written_escapes, zero, ℕ, ◌&&◌, ◌++◌, ◌+◌, ◌-◌, ◌||◌, ◌∷◌, ◌≡◌, ◌≤◌, ◌⊎◌}
 use Rattle.proof_loads.proofs.PlainTexts.{spelt_plain, IsPlainText, first_space}
-use Rattle.proof_loads.proofs.HasRows.Nodes.{none_ends, deep_piece, Parts, Quiet, From, node_reads, outside, or_true, Shown}
-use Rattle.proof_loads.proofs.HasRows.Blocks.{ShownAt, AreAbove, Here, stood, Comes, Marked, dash_reads, question_reads, colon_reads, key_reads, ends_are, ended_append}
+use Rattle.proof_loads.proofs.HasRows.Nodes.{none_ends, deep_piece, Parts, Quiet, From, node_reads, outside, or_true, Shown, Reads, at, step_of, Steps, step, ended, read_end, HasNone, of_class, quoted_none, Line}
 use Rattle.proof_loads.proofs.HasRows.Json.{column_is, empty_reads, value_reads, plain_piece, plain_char, first_char}
 use Rattle.proof_loads.proofs.HasRows.Strings.{quoted_piece, double_is, single_is, between, in_quotes}
-use Rattle.proof_loads.proofs.HasRows.Trails.{Trail, end, trail_text, Rest, arrive, trail_ends, in_line, here_after, spaced, here_beside, next, BeginsContent, content_first, IsTrail, EndsAt, AllEnd, After, marker, marker_text, here_gap}
-use Rattle.proof_loads.proofs.Nul.{HasNone, of_class, quoted_none}
+use Rattle.proof_loads.proofs.HasRows.Trails.{Trail, end, trail_text, Rest, arrive, trail_ends, in_line, here_after, spaced, here_beside, next, BeginsContent, content_first, IsTrail, EndsAt, After, marker, marker_text, here_gap, Here, Comes, Marked, dash_reads, question_reads, colon_reads, IsScalarPiece, key_reads, ends_are, ended_append}
 use Rattle.defs_layout.specs.Json
 use Rattle.defs_token.specs.Piece as piece
 use Rattle.defs_layout.specs.Layout.{empty_array, spell}
 use Rattle.defs_layout.specs.Layout as layout
-use Rattle.defs_token.specs.Key.{Line}
 use Rattle.proof_loads.proofs.JsonTokens.Spaces.{json_spaces}
-use Rattle.proof_loads.proofs.HasRows.Steps.{Reads, at, step_of, Steps, step, ended, read_end}
 use Rattle.proof_loads.proofs.HasRows.Trails
 use Rattle.proof_loads.proofs.BlockLines.{strips_of, headed_literal, literal_lines, root_literal_lines, block_text, folded_lines}
 use Rattle.proof_loads.proofs.HasRows.BlockScalars.{nested_follows, block_is_read, at_text}
@@ -30,15 +26,6 @@ piece_of (single_quoted text) = 39 ∷ (flat_map doubled text ++ 39 ∷ [])
 
 pub piece_spelt : (s : Scalar) (r : List ℕ) → spell_scalar s r ≡ piece_of s ++ r
 piece_spelt s r = grind (arith, append_assoc)
-
--- what a piece and its token say
-pub record IsScalarPiece (w : List ℕ) (t : Tok) : Type 0 where
-  pub node : (act_of t ≡ gives_node) × (begun_by t ≡ []) × Quiet (previous_by t)
-  pub no_break : has_no_break w ≡ true
-  pub none : HasNone w
-  pub further : (column : ℕ) → further_lines_stand column t w ≡ true
-  pub shown : (bs : List ℕ) (key : Bool) (r : List ℕ) → stops false (innermost bs) inside r ≡ true → begins_with 39 r ≡ false → ShownAt bs w t key r
-  pub precedes : (bs r : List ℕ) → quoted_may_end false w r ≡ true → may_precede false bs t w r ≡ true
 
 pub scalar_piece : (s : Scalar) → IsScalar s → IsScalarPiece (piece_of s) (scalar_token s)
 scalar_piece (plain t) h =
@@ -196,23 +183,11 @@ ReadsValue c v =
 abbrev Begins : ℕ → (List ℕ → List ℕ) → Tok → (List Tok → List Tok) → Type 0
 Begins c spells collection gives = (bs : List ℕ) (t : Trail) (tokens : List Tok) → Rest t (c ∷ bs) tokens → Comes c bs (spells (trail_text t)) collection (gives tokens)
 
-abbrev ReadsEntries : ℕ → Entries → Type 0
-ReadsEntries c es = Begins c (spell_entries c es) Tok.block_sequence_start (entry_tokens es)
-
-abbrev ReadsField : ℕ → Field → Type 0
-ReadsField c f = Begins c (spell_field c f) Tok.block_mapping_start (field_tokens f)
-
-abbrev ReadsFields : ℕ → Fields → Type 0
-ReadsFields c fs = Begins c (spell_fields c fs) Tok.block_mapping_start (all_field_tokens fs)
-
 -- a whole collection at a column
 abbrev ReadsIn : ℕ → (List ℕ → List ℕ) → (List Tok → List Tok) → Type 0
 ReadsIn c spells gives =
     (bs : List ℕ) (t : Trail) (tokens : List Tok) → least_column bs true ≤ c → IsTrail t → EndsAt t c → After t bs tokens
     → (p : Position) (awaits : Bool) (before : Previous) (l : Line) (text : List ℕ) → Here c text (spells (trail_text t)) p before l → Reads (at p bs awaits before l []) text (gives tokens)
-
-abbrev pub ReadsBlock : ℕ → Block → Type 0
-ReadsBlock c b = ReadsIn c (spell_block c b) (block_tokens b)
 
 collection_reads : (c : ℕ) (spells : List ℕ → List ℕ) (collection : Tok) (gives : List Tok → List Tok) → Begins c spells collection gives → ReadsIn c spells (λ o. collection ∷ gives (Tok.block_end ∷ o))
 collection_reads c spells collection gives one bs t tokens deep trail ends rest p awaits before l text here =
@@ -220,17 +195,13 @@ collection_reads c spells collection gives one bs t tokens deep trail ends rest 
 
 -- what comes at the column of a collection that is open, after an entry of it
 comes_after : (c : ℕ) (g : List GapLine) (bs r : List ℕ) (collection : Tok) (tokens : List Tok) → Comes c bs r collection tokens → After (next g c r) (c ∷ bs) tokens
-comes_after c g bs r collection tokens comes extra p awaits before l text ends here = comes true extra p awaits before l text (above extra ends) (λ e. cc) here
-  where
-    above : (extra : List ℕ) → AllEnd (next g c r) extra → AreAbove c extra
-    above [] h = tt
-    above (n ∷ extra) h = (h.0, above extra h.1)
+comes_after c g bs r collection tokens comes extra p awaits before l text ends here = comes true extra p awaits before l text ends (λ e. cc) here
 
 -- a value after an indicator
 after_mark : (c : ℕ) (v : Value) → ReadsValue c v → (bs : List ℕ) (t : Trail) (tokens : List Tok) → Rest t (c ∷ bs) tokens → Marked c bs (spell_value c v (trail_text t)) (value_tokens v tokens)
 after_mark c v one bs t tokens rest p awaits col = one bs t tokens rest p awaits free (inl (col, refl)) refl (omega (arith, col))
 
-last_entry_reads : (c : ℕ) (a : List Anchor) (v : Value) → IsValue c a v → ReadsValue c v → ReadsEntries c (Entries.last_entry v)
+last_entry_reads : (c : ℕ) (a : List Anchor) (v : Value) → IsValue c a v → ReadsValue c v → Begins c (spell_entries c (Entries.last_entry v)) Tok.block_sequence_start (entry_tokens (Entries.last_entry v))
 last_entry_reads c a v h one bs t tokens rest =
     let o = value_opens c a v (trail_text t) h in
     dash_reads c bs (spell_value c v (trail_text t)) (value_tokens v tokens) o.gap o.dash (after_mark c v one bs t tokens rest)
@@ -262,7 +233,7 @@ trail_no_name t = refl
 mutual
   unfolding is_blank is_break is_nul
 
-  pub block_reads : (c : ℕ) (a : List Anchor) (b : Block) → IsBlock c a b → ReadsBlock c b
+  pub block_reads : (c : ℕ) (a : List Anchor) (b : Block) → IsBlock c a b → ReadsIn c (spell_block c b) (block_tokens b)
   block_reads c a (Block.array es) h = collection_reads c (spell_entries c es) Tok.block_sequence_start (entry_tokens es) (entries_read c a es h)
   block_reads c a (Block.hash fs) h = collection_reads c (spell_fields c fs) Tok.block_mapping_start (all_field_tokens fs) (fields_read c a fs h.0)
 
@@ -296,20 +267,19 @@ mutual
       node_reads (c ∷ bs) (42 ∷ name) (Tok.alias name) _ r tokens (spaced (c ∷ bs) more (42 ∷ (name ++ r))) z.2 (deep_piece (c ∷ bs) (42 ∷ name) r z.1) (λ s e. refl) refl (λ q waits m there. (refl, ((refl, z.0, trail_no_name t), refl))) refl
       (arrive no_comment t (c ∷ bs) tokens tt rest.trail rest.after another (λ f. refl)) p awaits l line deep
 
-  entries_read : (c : ℕ) (a : List Anchor) (es : Entries) → AreEntries c a es → ReadsEntries c es
+  entries_read : (c : ℕ) (a : List Anchor) (es : Entries) → AreEntries c a es → Begins c (spell_entries c es) Tok.block_sequence_start (entry_tokens es)
   entries_read c a (Entries.last_entry v) h = last_entry_reads c a v h.1 (read_value c a v h.1)
   entries_read c a (Entries.entry v g es) h =
       then_reads c (spell_entries c (Entries.last_entry v)) (spell_entries c es) Tok.block_sequence_start (entry_tokens (Entries.last_entry v)) (entry_tokens es) g h.2 (entries_begin c es) (last_entry_reads c a v h.1 (read_value c a v h.1)) (entries_read c (anchors_after v a) es h.3)
 
-  field_read : (c : ℕ) (a : List Anchor) (f : Field) → IsField c a f → ReadsField c f
+  field_read : (c : ℕ) (a : List Anchor) (f : Field) → IsField c a f → Begins c (spell_field c f) Tok.block_mapping_start (field_tokens f)
   field_read c a (Field.implicit k v) h bs t tokens rest =
       let r = spell_value c v (trail_text t) in
       let o = value_opens c a v (trail_text t) h.2 in
       let z = scalar_piece k h.0.0 in
       let short : length (piece_of k) ≤ 1024 = rw (append-nil (piece_of k)) at rw (piece_spelt k []) at h.0.1 in
       rw (piece_spelt k (58 ∷ r))
-      (key_reads c bs (piece_of k) (scalar_token k) r (value_tokens v tokens) z.node.0 z.node.1 (z.node.2 []) z.no_break z.none short (λ b. z.shown (stood b c bs) true (58 ∷ r) (rw (o.gap) refl) refl) z.further
-      (λ b. z.precedes (stood b c bs) (58 ∷ r) (rw (z.no_break) refl)) o.gap o.colon (λ q deep. read_value c a v h.2 bs t tokens rest q true taken (inr h.1) refl deep))
+      (key_reads c bs (piece_of k) (scalar_token k) r (value_tokens v tokens) z short o.gap o.colon (λ q deep. read_value c a v h.2 bs t tokens rest q true taken (inr h.1) refl deep))
   field_read c a (Field.explicit k g v) h bs t tokens rest =
       let r = spell_value c v (trail_text t) in
       let n = next g c (58 ∷ r) in
@@ -319,7 +289,7 @@ mutual
       question_reads c bs (spell_value c k (trail_text n)) (value_tokens k (Tok.value ∷ value_tokens v tokens)) o.space_or_break o.tabless (after_mark c k (read_value c a k h.1) bs n (Tok.value ∷ value_tokens v tokens)
       (record { trail = (h.2, content_first 58 r refl refl refl refl); low = omega arith; after = comes_after c g bs (58 ∷ r) Tok.block_mapping_start (Tok.value ∷ value_tokens v tokens) value }))
 
-  fields_read : (c : ℕ) (a : List Anchor) (fs : Fields) → AreFields c a fs → ReadsFields c fs
+  fields_read : (c : ℕ) (a : List Anchor) (fs : Fields) → AreFields c a fs → Begins c (spell_fields c fs) Tok.block_mapping_start (all_field_tokens fs)
   fields_read c a (Fields.last_field f) h = field_read c a f h
   fields_read c a (Fields.field f g fs) h =
       let b = anchors_after_field f a in
@@ -398,15 +368,9 @@ layout_reads w is = by w.is_marked
     by false = documents_read w.documents is (λ a. a) first_position false free refl (λ g n r gap. here_gap g n r first_position another gap refl)
 
 -- outside all collections no line is refused for its column
-no_column : (n : ℕ) → nat_le 0 n ≡ true
-no_column n = grind arith
-
-line_any : (b : Bool) (n : ℕ) → (not b || nat_le 0 n) ≡ true
-line_any a n = grind (arith, no_column)
-
 any_lines : (escaped : Bool) (ls : Lines) → lines_fit 0 escaped ls ≡ true
-any_lines escaped (flow.last_line l) = line_any (not (escaped && is_empty l)) (length (blanks_before l))
-any_lines escaped (flow.line l e ls) = rw (line_any (has_more l || e) (length (blanks_before l))) (any_lines e ls)
+any_lines escaped (flow.last_line l) = grind (arith, nat_tests)
+any_lines escaped (flow.line l e ls) = grind (arith, nat_tests, any_lines e ls)
 
 fits : (at : ℕ → List ℕ → Option Spelled) (quote : ℕ) (body : List ℕ) (es : List Element) → elements at 0 body ≡ Some es → quoted_lines_fit 0 at (quote ∷ (body ++ quote ∷ [])) ≡ true
 fits at quote body es e = rw (between quote body, e) (grind (arith, any_lines))

@@ -1,7 +1,5 @@
 -- The words of JSON and its numbers are words.
-use Rattle.proof_loads.proofs.TokensCommon.{[], and_from, and_parts, ap, append-nil, append_assoc, are_digits, arith, Bool, Exponent, Fraction, is_ascii_digit, is_exponent, is_fraction, is_number, is_whole, List, list_all, nat_tests, Number, number, refl, spell_exponent, spell_fraction, spell_minus, spell_number, sym, true, ℕ, ◌++◌, ◌∙◌, ◌≡◌}
-use Rattle.std.proofs.lemmas.List.Folds.{list_all-append}
-use Rattle.defs_tree.proofs.GrammarLaws.{list_all-more}
+use Rattle.proof_loads.proofs.TokensCommon.{[], and_from, and_parts, ap, append-nil, append_assoc, are_digits, arith, Exponent, Fraction, is_ascii_digit, is_exponent, is_fraction, is_number, is_whole, List, list_all, nat_tests, Number, number, refl, spell_exponent, spell_fraction, spell_minus, spell_number, sym, true, ℕ, ◌++◌, ◌∙◌, ◌≡◌, list_all-append, list_all-more}
 use Rattle.proof_loads.proofs.PlainTexts.{is_word, are_words, IsWord}
 
 digits_words : (w : List ℕ) → list_all is_ascii_digit w ≡ true → are_words w ≡ true
@@ -34,8 +32,5 @@ rest_words f e h i = rw (fraction_then f (spell_exponent e [])) (append_words (s
 whole_digits : (w : List ℕ) → is_whole w ≡ true → are_digits w ≡ true
 whole_digits a h = grind (arith, and_from)
 
-minus_words : (is_negative : Bool) (w : List ℕ) → are_words w ≡ true → are_words (spell_minus is_negative w) ≡ true
-minus_words a w h = grind arith
-
 pub number_word : (n : Number) → is_number n ≡ true → IsWord (spell_number n [])
-number_word n h = grind (arith, nat_tests, number, and_parts, is_whole, is_fraction, is_exponent, whole_digits, minus_words, append_words, are_digits_words, rest_words)
+number_word n h = grind (arith, nat_tests, number, and_parts, is_whole, is_fraction, is_exponent, whole_digits, spell_minus, append_words, are_digits_words, rest_words)

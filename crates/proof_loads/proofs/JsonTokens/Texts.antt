@@ -1,19 +1,14 @@
 -- JSON texts have their tokens.
-use Rattle.proof_loads.proofs.TokensCommon.{[], append-nil, arith, false, first_account, first_position, free, IsWellFormed, json_text_tokens, json_tokens, JsonText, JsonTextsAreNotRefused, JsonTextsHaveNoOtherTokens, JsonTextsHaveTheirTokens, None, refl, spell_text, Tok, up_to_nul, ◌∷◌, ◌≡◌}
+use Rattle.proof_loads.proofs.TokensCommon.{[], append-nil, arith, false, first_account, first_position, free, IsWellFormed, json_text_tokens, json_tokens, JsonText, JsonTextsAreNotRefused, JsonTextsHaveNoOtherTokens, JsonTextsHaveTheirTokens, None, refl, spell_text, Tok, ◌∷◌}
 use Rattle.defs_layout.specs.JsonGap.{spell_gap}
-use Rattle.proof_loads.proofs.Nul.{whole}
 use Rattle.proof_loads.proofs.TextTokens.{no_other_tokens, none_is_refused}
-use Rattle.proof_loads.proofs.HasRows.Steps.{Reads, has_tokens, read_end}
-use Rattle.proof_loads.proofs.HasRows.Nodes.{outside}
+use Rattle.proof_loads.proofs.HasRows.Nodes.{outside, Reads, has_tokens, read_end}
 use Rattle.proof_loads.proofs.HasRows.Json.{white, blanks, white_none, spelt, separates, ends, at_end, value_reads}
 
-json_text_reads : (w : JsonText) → IsWellFormed w → Reads first_account (spell_text w) (json_tokens w.value (Tok.stream_end ∷ []))
+pub json_text_reads : (w : JsonText) → IsWellFormed w → Reads first_account (spell_text w) (json_tokens w.value (Tok.stream_end ∷ []))
 json_text_reads w is =
     value_reads [] w.value is.value (λ e. cc) outside _ (spell_gap w.after []) (Tok.stream_end ∷ []) (blanks [] w.before _ (λ e. cc)) (ends false [] at_end None (λ s. refl) w.after) (omega (arith, is.depth))
     (λ before quiet p awaits l line deep. rw (spelt w.after [], append-nil) (read_end p [] awaits before l (white w.after) line (separates w.after []) (white_none w.after))) first_position false free refl (omega arith)
-
-pub json_texts_have_no_nul : (w : JsonText) → IsWellFormed w → up_to_nul (spell_text w) ≡ spell_text w
-json_texts_have_no_nul w is = whole (spell_text w) (json_text_reads w is).none
 
 pub json_text_has_its_tokens : JsonTextsHaveTheirTokens
 json_text_has_its_tokens w is = has_tokens (spell_text w) (json_tokens w.value (Tok.stream_end ∷ [])) (json_text_reads w is)

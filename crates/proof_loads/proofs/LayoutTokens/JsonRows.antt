@@ -1,6 +1,5 @@
 -- JSON arrays and objects after each mark of a block collection: what the theorem says of a text with them.
-use Rattle.std.specs.Fmt.{digits}
-use Rattle.proof_loads.proofs.TokensCommon.{[], arith, Block, codes, compact, Elements, entry, explicit, exponent, false, fraction, HasToks, implicit, is_decimal, is_on_one_line, is_quoted, is_unescaped, is_unfit_for_plain, itself, Json, json, last_document, last_entry, last_field, List, Members, no_exponent, no_fraction, number, plain, plus, Root, Style, Tok, Tree, true, typing, ℕ, ◌∷◌}
+use Rattle.proof_loads.proofs.TokensCommon.{[], arith, Block, codes, compact, Elements, entry, explicit, exponent, false, fraction, HasToks, implicit, is_decimal, is_on_one_line, is_quoted, is_unescaped, is_unfit_for_plain, itself, Json, json, last_document, last_entry, last_field, List, Members, no_exponent, no_fraction, number, plain, plus, Root, Style, Tok, Tree, true, typing, ℕ, ◌∷◌, digits}
 use Rattle.defs_layout.specs.JsonGap as gap
 use Rattle.proof_loads.proofs.LayoutTokens.Texts.{layouts_have_their_tokens}
 

@@ -1,6 +1,5 @@
 -- Texts laid out in lines and their tokens: what the theorem says of each form, of anchors, an alias and a folded block; and a refused text.
-use Rattle.std.specs.Fmt.{digits}
-use Rattle.proof_loads.proofs.TokensCommon.{[], anchored, ap, arith, At, below, beside, blank, Block, codes, comment_line, compact, empty_hash, empty_line, entry, Err, explicit, false, field, folded, full, HasToks, implicit, Inline, is_blank, is_content_line, is_decimal, is_empty_line, is_line_character, is_literal_character, is_literal_text, is_quoted, is_unfit_for_plain, last_document, last_entry, last_field, List, literal, no_comment, pairs_of, plain, pos, quoted, refl, Root, row_of, scalar, Scalar, scan, scan_on_literals, single_quoted, Style, sym, Tok, Tree, tree_eq, true, true≢false, typing, Value, written_character, ℕ, ◌∙◌, ◌∷◌, ◌≡◌, ◌≢◌}
+use Rattle.proof_loads.proofs.TokensCommon.{[], anchored, ap, arith, At, below, beside, blank, Block, codes, comment_line, compact, empty_hash, empty_line, entry, Err, explicit, false, field, folded, full, HasToks, implicit, Inline, is_blank, is_content_line, is_decimal, is_empty_line, is_line_character, is_literal_character, is_literal_text, is_quoted, is_unfit_for_plain, last_document, last_entry, last_field, List, literal, no_comment, pairs_of, plain, pos, quoted, refl, Root, row_of, scalar, Scalar, scan, scan_on_literals, single_quoted, Style, sym, Tok, Tree, tree_eq, true, true≢false, typing, Value, written_character, ℕ, ◌∙◌, ◌∷◌, ◌≡◌, ◌≢◌, digits}
 use Rattle.defs_layout.specs.Layout.{empty_array, array, hash, alias}
 use Rattle.proof_loads.proofs.LayoutTokens.Texts.{layouts_have_their_tokens}
 use Rattle.yaml_tokens.specs.declared.problem.Problem.TheVariants as problem
