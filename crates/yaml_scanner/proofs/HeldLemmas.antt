@@ -58,20 +58,12 @@ unroll_done limit h u l g e f = rw (g, e) f
 
 pub unroll_shallow : (limit : ℕ) (h : Held) → h.indent ≤ limit → h ≡ unroll_indent limit h
 unfolding unroll_indent
-unroll_shallow limit h e = by (in_flow h) refl
-  where
-    by : (b : Bool) → in_flow h ≡ b → h ≡ (if in_flow h then h else with_levels h (unrolled limit h.position h.indent h.indents h.tokens))
-    by true g = rw g refl
-    by false g = rw (g, unrolled_done limit h.position h.indent h.indents h.tokens e) refl
+unroll_shallow limit h e = let done = unrolled_done limit h.position h.indent h.indents h.tokens e in grind (arith, done)
 
 pub without_block : (i : ℕ) (ds : List Indent) (ts : List Token) → ends_open ds ≡ false → without_open i ds ts ≡ record { indent = i; indents = ds; tokens = ts }
 unfolding without_open
 without_block i [] ts o = refl
-without_block i (d ∷ ds) ts o = let g : d.needs_block_end ≡ true = negated d.needs_block_end o in rw g refl
-  where
-    negated : (b : Bool) → not b ≡ false → b ≡ true
-    negated true o = refl
-    negated false o = absurd (cc)
+without_block i (d ∷ ds) ts o = grind arith
 
 pub without_more : (i j : ℕ) (ds es : List Indent) (ts : List Token) → ds ≡ level j false ∷ es → without_open i ds ts ≡ without_open j es ts
 unfolding without_open

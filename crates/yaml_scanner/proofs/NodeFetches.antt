@@ -2,23 +2,9 @@
 use Rattle.yaml_scanner.proofs.Common.{[], along, ap, append_assoc, arith, begin_pair, Bool, check_value_space, cleared, deepen, drop_open, drop_open_level, drop_stale, ends_open, false, fetch, fetch_here, fetch_plain_scalar, fetch_rest, fetch_value, Held, if◌then◌else◌, Indent, indented, insert, insert_key, is_blank, is_blank_or_breakz, is_break, is_far, IsSimpleText, Key, key_tokens, length, level, List, lt-ltb, ltb-false, must_be_key, nat_le, nat_lt, None, Ok, Option, past, Position, refl, roll_indent, RunsTwice, save_implicit_key, slice_index, Some, stale, Style, Tok, Token, token, top_needs_block_end, true, unroll_non_block_indents, with_key, with_line, without_open, ℕ, ◌&&◌, ◌++◌, ◌+◌, ◌<◌, ◌==◌, ◌||◌, ◌∙◌, ◌∷◌, ◌≡◌, ◌≤◌}
 use Rattle.yaml_scanner.specs.Fetched.{before as before_position}
 use Rattle.yaml_scanner.proofs.PairTexts.{Simple, simple_text, same_place, along_is, plain_key, plain_value}
-use Rattle.yaml_scanner.proofs.PairFetches.{at, in_mapping, fetched, none_overdue, none_stale, near_stale, none_end, solid_here, plain_here, value_here, one_deeper, follows_blank, follows_visible, insert_key_token, near_along}
+use Rattle.yaml_scanner.proofs.PairFetches.{at, kept_level, in_mapping, fetched, none_overdue, none_stale, near_stale, none_end, solid_here, plain_here, value_here, one_deeper, follows_blank, follows_visible, insert_key_token, near_along}
 
 -- ---- levels
-
--- outside flow, where the innermost level is no open one
-kept_level : (col : ℕ) (s : Held) → ends_open s.indents ≡ false → drop_open_level col s ≡ s
-unfolding drop_open_level
-kept_level col s block = by (nat_le s.indent (col + 1)) s.indents block
-  where
-    by : (b : Bool) (ds : List Indent) → ends_open ds ≡ false → (if b then drop_open s ds else s) ≡ s
-    by false ds h = refl
-    by true [] h = refl
-    by true (d ∷ ds) h = here d.needs_block_end refl
-      where
-        here : (e : Bool) → d.needs_block_end ≡ e → drop_open s (d ∷ ds) ≡ s
-        here true g = rw g refl
-        here false g = let n = rw g at h in absurd cc
 
 -- a collection begins at a column, before the tokens of a number or after all
 begins_before : (col n : ℕ) (t : Tok) (p : Position) (s : Held) → s.flow ≡ [] → ends_open s.indents ≡ false → nat_lt s.indent (col + 1) ≡ true

@@ -1,5 +1,7 @@
 -- What the model's fetches do at a key or a value of a block mapping that is a simple text.
-use Rattle.yaml_scanner.proofs.Common.{[], along, ap, append_assoc, arith, begin_pair, Bool, check_value_space, class_of, cleared, comes_marker, deepen, drop_open, drop_open_level, drop_stale, false, fetch, fetch_content, fetch_first_column, fetch_here, fetch_indented, fetch_next, fetch_plain_scalar, fetch_token, fetch_value, FetchesTwice, Held, if◌then◌else◌, in_block, Indent, indented, insert, insert_key, is_blank, is_blank_or_breakz, is_break, is_far, is_overdue, is_value, IsSimpleText, Key, key_tokens, le-ltb, length, level, List, list_any, lt-ltb, map, moved, must_be_key, nat_le, nat_lt, nat_tests, ne_eqb, None, Ok, Option, past, Position, refl, roll_indent, roll_one_col_indent, save_implicit_key, ScannerState, skip, skip_to_next_token, slice_index, Some, stale, still, Style, Tok, Token, token, top_needs_block_end, true, unroll_indent, unroll_non_block_indents, unrolled, without_open, ℕ, ◌&&◌, ◌++◌, ◌+◌, ◌<◌, ◌==◌, ◌||◌, ◌∙◌, ◌∷◌, ◌≡◌, ◌≤◌}
+use Rattle.yaml_scanner.proofs.Common.{[], along, ap, append_assoc, arith, begin_pair, Bool, check_value_space, class_of, cleared, comes_marker, deepen, drop_open, drop_open_level, drop_stale, ends_open, false, fetch, fetch_content, fetch_first_column, fetch_here, fetch_indented, fetch_next, fetch_plain_scalar, fetch_token, fetch_value, FetchesTwice, Held, if◌then◌else◌, in_block, Indent, indented, insert, insert_key, is_blank, is_blank_or_breakz, is_break, is_far, is_overdue, is_value, IsSimpleText, Key, key_tokens, le-ltb, length, level, List, list_any, lt-ltb, map, moved, must_be_key, nat_le, nat_lt, nat_tests, ne_eqb, None, Ok, Option, past, Position, refl, roll_indent, roll_one_col_indent, save_implicit_key, ScannerState, skip, skip_to_next_token, slice_index, Some, stale, still, Style, sym, Tok, Token, token, top_needs_block_end, true, unroll_indent, unroll_non_block_indents, unrolled, without_open, ℕ, ◌&&◌, ◌++◌, ◌+◌, ◌<◌, ◌==◌, ◌||◌, ◌∙◌, ◌∷◌, ◌≡◌, ◌≤◌}
+use Rattle.yaml_scanner.proofs.HeldLemmas.{unroll_shallow, unrolled_done, without_block}
+use Rattle.yaml_scanner.proofs.LevelLemmas.{is_block}
 use Rattle.yaml_scanner.proofs.PairTexts.{Opener, Simple, simple_text, along_is, plain_key, plain_value}
 
 -- ---- what a fetch does beside its token
@@ -39,21 +41,15 @@ pub near_stale : (s : Held) (k : Key) (ks : List (Option Key)) → s.flow ≡ []
 unfolding stale
 near_stale s k ks flow keys near e = let stay : drop_stale s.position s.keys ≡ Ok s.keys = rw keys (near_stay s.position k ks near e) in rw (flow, stay) refl
 
-unrolled_none : (limit : ℕ) (p : Position) (i : ℕ) (ds : List Indent) (ts : List Token) → i ≤ limit → unrolled limit p i ds ts ≡ record { indent = i; indents = ds; tokens = ts }
-unfolding unrolled
-unrolled_none limit p i [] ts low = refl
-unrolled_none limit p i (d ∷ ds) ts low = rw (le-ltb limit i low) refl
-
 pub none_end : (s : Held) → s.flow ≡ [] → s.indent ≤ s.position.col + 1 → unroll_indent (s.position.col + 1) s ≡ s
-unfolding unroll_indent
-none_end s flow low = rw (flow, unrolled_none (s.position.col + 1) s.position s.indent s.indents s.tokens low) refl
+none_end s flow low = sym (unroll_shallow (s.position.col + 1) s low)
 
 -- a level that opens no collection ends
 open_ends : (p : Position) (ts : List Token) (ks : List (Option Key)) (ds : List Indent) (leading : Bool) (adjacent : ℕ)
     → unroll_indent (p.col + 1) (in_mapping p ts ks (p.col + 1 + 1) (level (p.col + 1) false ∷ ds) true leading adjacent) ≡ in_mapping p ts ks (p.col + 1) ds true leading adjacent
 unfolding unroll_indent unrolled
 open_ends p ts ks ds leading adjacent =
-    rw (lt-ltb (p.col + 1) (p.col + 1 + 1) (omega arith), unrolled_none (p.col + 1) p (p.col + 1) ds ts (omega arith)) refl
+    rw (lt-ltb (p.col + 1) (p.col + 1 + 1) (omega arith), unrolled_done (p.col + 1) p (p.col + 1) ds ts (omega arith)) refl
 
 pub solid_here : (c : ℕ) (a : List ℕ) (s : Held) → is_break c ≡ false → (c == 9) ≡ false → is_blank c ≡ false → (c == 35) ≡ false → skip_to_next_token (at (c ∷ a) s) ≡ Ok (at (c ∷ a) s)
 unfolding skip_to_next_token skip
@@ -81,20 +77,14 @@ value_here d a s blank off low = rw (ne_eqb s.position.col 0 (λ e. omega (arith
 
 -- ---- levels
 
-block_stays : (i : ℕ) (ds : List Indent) (ts : List Token) → top_needs_block_end ds ≡ true → without_open i ds ts ≡ record { indent = i; indents = ds; tokens = ts }
-unfolding without_open
-block_stays i [] ts e = absurd cc
-block_stays i (d ∷ ds) ts e = rw e refl
-
--- outside flow, inside a block collection that stands at the column
-none_dropped : (col : ℕ) (s : Held) → top_needs_block_end s.indents ≡ true → drop_open_level col s ≡ s
+-- outside flow, where the innermost level is no open one
+pub kept_level : (col : ℕ) (s : Held) → ends_open s.indents ≡ false → drop_open_level col s ≡ s
 unfolding drop_open_level
-none_dropped col s block = by (nat_le s.indent (col + 1)) s.indents block
+kept_level col s block = by s.indents block
   where
-    by : (b : Bool) (ds : List Indent) → top_needs_block_end ds ≡ true → (if b then drop_open s ds else s) ≡ s
-    by false ds h = refl
-    by true [] h = absurd cc
-    by true (d ∷ ds) h = rw h refl
+    by : (ds : List Indent) → ends_open ds ≡ false → (if nat_le s.indent (col + 1) then drop_open s ds else s) ≡ s
+    by [] h = grind arith
+    by (d ∷ ds) h = grind arith
 
 pub none_deeper : (col : ℕ) (n : Option ℕ) (t : Token) (s : Held) → s.indent ≡ col + 1 → deepen col n t s ≡ s
 unfolding deepen
@@ -102,7 +92,7 @@ none_deeper col n t s e = rw (le-ltb s.indent (col + 1) (omega (arith, e))) refl
 
 opens_none : (col n : ℕ) (t : Tok) (p : Position) (s : Held) → s.flow ≡ [] → s.indent ≡ col + 1 → top_needs_block_end s.indents ≡ true → roll_indent col (Some n) t p s ≡ s
 unfolding roll_indent
-opens_none col n t p s flow indent block = rw (none_dropped col s block, none_deeper col (Some n) (token p t) s indent, flow) refl
+opens_none col n t p s flow indent block = rw (kept_level col s (is_block s.indents block), none_deeper col (Some n) (token p t) s indent, flow) refl
 
 pub one_deeper : (s : Held) → s.flow ≡ [] → top_needs_block_end s.indents ≡ true → roll_one_col_indent s ≡ record s { indents = level s.indent false ∷ s.indents; indent = s.indent + 1 }
 unfolding roll_one_col_indent in_block
@@ -158,7 +148,7 @@ module _ (p : Position) (ts : List Token) (ks : List (Option Key)) (ds : List In
   unfolding fetch_plain_scalar save_implicit_key unroll_non_block_indents
   key_scalar text d a z blank =
       let scanned = plain_key i p z.head z.tail d a z.chars z.close (omega arith) blank in
-      rw (z.whole, block_stays i ds ts block, scanned) refl
+      rw (z.whole, without_block i ds ts (is_block ds block), scanned) refl
 
   key_fetch : (opens : Bool) (text : List ℕ) (d : ℕ) (a : List ℕ) → Simple text → length text ≤ 1024 → is_blank_or_breakz d ≡ true → fetch (at (text ++ 58 ∷ d ∷ a) (before_key opens)) ≡ Ok (at (58 ∷ d ∷ a) (after_scalar text))
   key_fetch opens text d a z short blank = rw same (by opens)
@@ -224,7 +214,7 @@ module _ (p : Position) (ts : List Token) (ks : List (Option Key)) (m i : ℕ) (
   value_scalar text n e a z solid visible low =
       let scanned = plain_value i (past p) z.head z.tail n e a z.chars z.close (omega (arith, limit)) solid visible low in
       let place : p.index + 1 + length (z.head ∷ z.tail) + 1 + n ≡ p.index + length (z.head ∷ z.tail) + 2 + n = omega arith in
-      rw (z.whole, block_stays i ds ts block, scanned, place) refl
+      rw (z.whole, without_block i ds ts (is_block ds block), scanned, place) refl
 
   pub value_fetched : (text : List ℕ) (n : ℕ) (b : List ℕ) → IsSimpleText text → (nat_lt 32 (slice_index b 0) && nat_lt (slice_index b 0) 127) ≡ true → n < i → fetch (at (32 ∷ (text ++ 10 ∷ indented n b)) waits) ≡ Ok (at b (after_value text n))
   value_fetched text n [] simple visible low = absurd cc
