@@ -1,5 +1,5 @@
 -- Lemmas about what the scanner holds.
-use Rattle.yaml_scanner.proofs.Common.{[], arith, At, Bool, Columns, drop_stale, end_level, ends_open, Err, false, Fault, Held, if◌then◌else◌, in_flow, Indent, is_required, Key, level, Levels, List, MatchOption, nat_lt, nat_tests, None, not, Ok, Option, Position, refl, remove_implicit_key, Some, stale, sym, Token, top_key, true, unroll_indent, unroll_non_block_indents, unrolled, with_levels, with_top, without_open, ℕ, ◌<◌, ◌∙◌, ◌∷◌, ◌≡◌, ◌≤◌}
+use Rattle.yaml_scanner.proofs.Common.{[], arith, At, Bool, Columns, drop_stale, end_level, ends_open, Err, false, Fault, Held, in_flow, Indent, is_required, Key, level, Levels, List, MatchOption, nat_lt, nat_tests, None, Ok, Option, Position, refl, remove_implicit_key, Some, stale, sym, Token, top_key, true, unroll_indent, unroll_non_block_indents, unrolled, with_levels, with_top, without_open, ℕ, ◌<◌, ◌∙◌, ◌∷◌, ◌≡◌, ◌≤◌}
 use Rattle.yaml_tokens.specs.declared.problem.Problem.TheVariants as problem
 
 not_less : (m n : ℕ) → n ≤ m → nat_lt m n ≡ false

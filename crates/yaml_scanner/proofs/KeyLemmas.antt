@@ -1,5 +1,5 @@
 -- Lemmas about what may be a key.
-use Rattle.std.proofs.Common.{◌≡◌, ℕ, List, [], ◌∷◌, ◌++◌, reverse, map, refl, ap, sym, ◌∙◌, Option, Some, None, length, arith, Bool, true, false, ◌||◌, Ok, Err, if◌then◌else◌}
+use Rattle.std.proofs.Common.{◌≡◌, ℕ, List, [], ◌∷◌, ◌++◌, reverse, map, refl, ap, sym, ◌∙◌, Option, Some, None, length, arith, Bool, true, false, Ok, Err}
 use Rattle.std.specs.List.{list_any}
 use Rattle.std.specs.Prelude.{is_some}
 use Rattle.std.proofs.lemmas.List.{reverse-append, map-append}
@@ -8,7 +8,7 @@ use Rattle.defs_text.specs.Position.{Position}
 use Rattle.yaml_tokens.specs.declared.problem.Fault.TheVariants.{At}
 use Rattle.yaml_tokens.specs.declared.problem.Problem.TheVariants as problem
 use Rattle.model_scanner.specs.State.{pop, with_top}
-use Rattle.model_scanner.specs.Keys.{is_far, is_overdue, still, drop_stale, is_required, has_required, cleared, top_key}
+use Rattle.model_scanner.specs.Keys.{is_overdue, still, drop_stale, is_required, has_required, cleared, top_key}
 use Rattle.yaml_scanner.specs.declared.keys.ImplicitKey.{ImplicitKey}
 use Rattle.yaml_scanner.specs.ImplicitKeys.{key_of, seen, is_front, lowered, still_implicit, is_stale, no_implicit, top_implicit}
 use Rattle.yaml_scanner.proofs.StackLemmas as stack

@@ -1,5 +1,5 @@
 -- What the model does at a key or another plain scalar of one line that is a simple text.
-use Rattle.yaml_scanner.proofs.Common.{[], along, ap, append_assoc, arith, begin_pair, Bool, check_value_space, cleared, deepen, drop_open, drop_open_level, drop_stale, ends_open, false, fetch, fetch_here, fetch_plain_scalar, fetch_rest, fetch_value, Held, if◌then◌else◌, Indent, indented, insert, insert_key, is_blank, is_blank_or_breakz, is_break, is_far, IsSimpleText, Key, key_tokens, length, level, List, lt-ltb, ltb-false, must_be_key, nat_le, nat_lt, None, Ok, Option, past, Position, refl, roll_indent, RunsTwice, save_implicit_key, slice_index, Some, stale, Style, Tok, Token, token, top_needs_block_end, true, unroll_non_block_indents, with_key, with_line, without_open, ℕ, ◌&&◌, ◌++◌, ◌+◌, ◌<◌, ◌==◌, ◌||◌, ◌∙◌, ◌∷◌, ◌≡◌, ◌≤◌}
+use Rattle.yaml_scanner.proofs.Common.{[], along, ap, append_assoc, arith, begin_pair, Bool, check_value_space, cleared, deepen, drop_stale, ends_open, false, fetch, fetch_here, fetch_plain_scalar, fetch_rest, fetch_value, Held, Indent, indented, insert, insert_key, is_blank, is_blank_or_breakz, is_break, is_far, IsSimpleText, Key, key_tokens, length, level, List, lt-ltb, ltb-false, must_be_key, nat_lt, None, Ok, Option, past, Position, refl, roll_indent, RunsTwice, save_implicit_key, slice_index, Some, stale, Style, Tok, Token, token, top_needs_block_end, true, unroll_non_block_indents, with_key, with_line, without_open, ℕ, ◌&&◌, ◌++◌, ◌+◌, ◌<◌, ◌==◌, ◌||◌, ◌∙◌, ◌∷◌, ◌≡◌, ◌≤◌}
 use Rattle.yaml_scanner.specs.Fetched.{before as before_position}
 use Rattle.yaml_scanner.proofs.PairTexts.{Simple, simple_text, same_place, along_is, plain_key, plain_value}
 use Rattle.yaml_scanner.proofs.PairFetches.{at, kept_level, in_mapping, fetched, none_overdue, none_stale, near_stale, none_end, solid_here, plain_here, value_here, one_deeper, follows_blank, follows_visible, insert_key_token, near_along}

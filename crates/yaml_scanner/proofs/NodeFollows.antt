@@ -1,6 +1,6 @@
 -- A key or another scalar that was fetched at once, against the model's steps.
 use Rattle.std.specs.Prelude.{IfSome}
-use Rattle.yaml_scanner.proofs.Common.{[], along, ap, arith, AwaitsNode, Bool, cleared, Columns, ends_open, Err, false, Fault, fetch, fetch_next, fetch_rest, Fetched, Fetcher, Fetches, Follows, Held, held, IfErr, Indent, IsShort, Key, length, level, List, must_be_key, ne_eqb, None, Ok, once, OnOk, Option, past, Position, position_of, Reads-saw, Reads-then, refl, Result, Runs, RunsTwice, ScannerState, seen, Sees, skip_to_next_token, Some, stale, Stands, state, subst, sym, TakesKey, TakesLine, TakesNode, Token, top_needs_block_end, true, twice, unroll_indent, value_level, WindowView, with_key, with_line, without_open, ℕ, ◌&&◌, ◌+◌, ◌<◌, ◌==◌, ◌∙◌, ◌∷◌, ◌≡◌, ◌≤◌}
+use Rattle.yaml_scanner.proofs.Common.{[], along, ap, arith, AwaitsNode, Bool, cleared, Columns, Err, false, Fault, fetch, fetch_next, fetch_rest, Fetched, Fetcher, Fetches, Follows, Held, held, IfErr, Indent, IsShort, Key, length, level, List, must_be_key, ne_eqb, None, Ok, once, OnOk, Option, past, Position, position_of, Reads-saw, Reads-then, refl, Result, Runs, ScannerState, seen, Sees, skip_to_next_token, Some, stale, Stands, state, subst, sym, TakesKey, TakesLine, TakesNode, Token, top_needs_block_end, true, twice, unroll_indent, value_level, WindowView, with_key, with_line, without_open, ℕ, ◌&&◌, ◌+◌, ◌<◌, ◌==◌, ◌∙◌, ◌∷◌, ◌≡◌, ◌≤◌}
 use Rattle.yaml_chars.specs.declared.block_line.BlockLine.{BlockLine}
 use Rattle.yaml_chars.specs.declared.block_line.BlockLine.TheVariants as taken
 use Rattle.yaml_scanner.proofs.ReadsLemmas.{Reads-map, Reads-along}

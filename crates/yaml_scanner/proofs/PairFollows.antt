@@ -1,5 +1,5 @@
 -- Two tokens that are handed out at once, against the model's runs.
-use Rattle.yaml_scanner.proofs.Common.{[], along, ap, append_assoc, arith, AwaitsKey, AwaitsValue, Bool, cleared, Columns, drop, ErrorReport, false, Fault, fetch, Fetcher, Fetches, FetchesTwice, Follows, handed, HandsBoth, held, ImplicitKey, Indent, inside, is_end, Key, key_tokens, length, length-append, level, levels_after, List, map, no_implicit, None, none_front, none_lowered, Ok, one_more, Option, option_map, OutOfMemory, past, Position, position_of, Reaches, Reads, refl, Scanned, seen, Some, StandsAt, start, state, Style, subst, suc, sym, take, take-append-add, take-append_seam, take-length, TakesKey, TakesValue, Tok, Token, token, Tokens, top_needs_block_end, true, value_level, WindowView, work, ℕ, ◌++◌, ◌+◌, ◌-◌, ◌<◌, ◌||◌, ◌∙◌, ◌∷◌, ◌≡◌, ◌≤◌}
+use Rattle.yaml_scanner.proofs.Common.{[], along, ap, append_assoc, arith, AwaitsKey, AwaitsValue, Bool, cleared, Columns, ErrorReport, false, Fault, Fetcher, Fetches, FetchesTwice, Follows, handed, HandsBoth, held, ImplicitKey, Indent, inside, is_end, Key, key_tokens, length, length-append, level, levels_after, List, map, no_implicit, None, none_front, none_lowered, one_more, Option, option_map, OutOfMemory, past, Position, position_of, Reads, refl, Scanned, seen, Some, StandsAt, state, Style, subst, suc, sym, take, take-append-add, take-append_seam, take-length, TakesKey, TakesValue, Tok, Token, token, Tokens, top_needs_block_end, true, value_level, WindowView, work, ℕ, ◌++◌, ◌+◌, ◌-◌, ◌<◌, ◌||◌, ◌∙◌, ◌∷◌, ◌≡◌, ◌≤◌}
 use Rattle.yaml_tokens.specs.Problem.{fault_of}
 use Rattle.yaml_scanner.proofs.ReadsLemmas.{Reads-map}
 use Rattle.yaml_scanner.proofs.FollowLemmas.{fetched_on, handed_on, went_on}

@@ -1,5 +1,5 @@
 -- Lemmas about the queue of tokens.
-use Rattle.std.proofs.Common.{◌≡◌, ℕ, ◌+◌, ◌-◌, Bool, true, false, ◌||◌, List, [], ◌∷◌, ◌++◌, map, length, take, drop, refl, ap, sym, ◌∙◌, append_assoc, append-nil, arith, length-append, ◌≤◌, suc}
+use Rattle.std.proofs.Common.{◌≡◌, ℕ, ◌+◌, ◌-◌, true, ◌||◌, List, [], ◌∷◌, ◌++◌, map, length, take, drop, refl, ap, sym, ◌∙◌, append_assoc, append-nil, arith, length-append, ◌≤◌}
 use Rattle.std.proofs.lemmas.List.{length-map, map-append, take-map, drop-map, take_all, drop_all, take-append-drop}
 use Rattle.std.proofs.lemmas.List.Edits.{insert-append_right}
 use Rattle.std.specs.List.{insert}

@@ -1,5 +1,5 @@
 -- Lemmas about what stands between two tokens.
-use Rattle.yaml_scanner.proofs.Common.{[], ap, arith, At, between, Bool, comment, eqb-true, Err, false, Held, if◌then◌else◌, in_flow, is_before_indent, is_blank, is_break, List, moved, nat_tests, not, Ok, past, past_break, Position, Read, refl, skip, slice_index, tab_line, true, white, ℕ, ◌&&◌, ◌==◌, ◌||◌, ◌∙◌, ◌∷◌, ◌≡◌}
+use Rattle.yaml_scanner.proofs.Common.{[], arith, At, between, Bool, comment, Err, false, Held, in_flow, is_before_indent, is_blank, is_break, List, moved, nat_tests, not, Ok, Position, Read, refl, skip, slice_index, tab_line, true, white, ℕ, ◌&&◌, ◌==◌, ◌||◌, ◌∷◌, ◌≡◌}
 use Rattle.yaml_tokens.specs.declared.problem.Problem.TheVariants as problem
 use Rattle.model_scanner.specs.Blanks as lex
 

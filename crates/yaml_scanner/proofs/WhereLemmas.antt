@@ -1,5 +1,5 @@
 -- Where the scanner stands in a text, and whether it met the stream's start.
-use Rattle.yaml_scanner.proofs.Common.{[], ap, arith, Bool, drop, false, Fetcher, first_position, FollowsIn, handed, has_no_nul, is_empty, length, length-take, List, next_line, None, position_after, position_of, refl, state, suc, sym, take, Token, true, waiting, zero, ℕ, ◌+◌, ◌-◌, ◌<◌, ◌∙◌, ◌∷◌, ◌≡◌}
+use Rattle.yaml_scanner.proofs.Common.{[], ap, arith, Bool, drop, false, Fetcher, first_position, FollowsIn, handed, has_no_nul, is_empty, length, length-take, List, next_line, None, position_after, position_of, refl, state, sym, take, Token, true, waiting, ℕ, ◌+◌, ◌-◌, ◌<◌, ◌∙◌, ◌∷◌, ◌≡◌}
 use Rattle.std.proofs.Math.Seq.{take-nil}
 use Rattle.proof_scanner.specs.Positions.{IsPositionIn}
 use Rattle.proof_scanner.proofs.Sound.FirstTokens.{run_is_where}
