@@ -9,7 +9,7 @@ use Rattle.yaml_scanner.proofs.PairTexts.{same_place, along_is}
 use Rattle.yaml_scanner.proofs.HeldLemmas.{without_block}
 use Rattle.yaml_scanner.proofs.LevelLemmas.{is_block}
 use Rattle.yaml_scanner.proofs.PairFollows.{keys_split, seen_free, levels_split, fetched_twice}
-use Rattle.yaml_scanner.proofs.NodeFetches.{before, key_runs, line_runs}
+use Rattle.yaml_scanner.proofs.NodeFetches.{before, key_runs, line_runs, rest_of}
 
 -- ---- levels
 
@@ -127,11 +127,6 @@ module _ {T : Type 0} (x y : Fetcher T) (w : WindowView T) (limit : ℕ) (z : Aw
       line_steps (seen x.tokens.given split.0) (seen_free x.tokens.given split.0 split.2) (ap (seen x.tokens.given) split.1) v text t new
 
 -- ---- a fetch
-
-rest_of : (a b d : List ℕ) (h u v w x : Held) (n : ℕ) → skip_to_next_token (record { rest = a; held = h }) ≡ Ok (record { rest = b; held = u }) → stale u ≡ Ok v → n ≡ v.position.col + 1 → w ≡ unroll_indent n v
-    → fetch_rest (record { rest = b; held = w }) ≡ Ok (record { rest = d; held = x }) → fetch_next (record { rest = a; held = h }) ≡ Ok (record { rest = d; held = x })
-unfolding fetch_next fetch_rest
-rest_of a b d h u v w x n e f g i j = let j' = rw (i, g) at j in rw (e, f) j'
 
 -- after what stands before a token
 pub fetched_rest : {T X Y Z C D E : Type 0} {up down : ℕ} (x y1 v x2 y : Fetcher T) (n : ℕ) (u : Y) (c : Z) (r : X) → x2.window ≡ y1.window → Runs {E = C} skip_to_next_token x (Ok u) y1 up down → stale (held y1) ≡ Ok (held v) → n ≡ (held v).position.col + 1 → held x2 ≡ unroll_indent n (held v)

@@ -4,7 +4,8 @@ use Rattle.yaml_tokens.specs.Problem.{fault_of}
 use Rattle.yaml_scanner.proofs.ReadsLemmas.{Reads-map}
 use Rattle.yaml_scanner.proofs.FollowLemmas.{fetched_on, handed_on, went_on}
 use Rattle.yaml_scanner.proofs.PairTexts.{same_place, along_is}
-use Rattle.yaml_scanner.proofs.PairFetches.{in_mapping, key_fetched, value_fetched, before_key, after_colon, after_value}
+use Rattle.yaml_scanner.proofs.PairFetches.{in_mapping, value_fetched, after_value}
+use Rattle.yaml_scanner.proofs.NodeFetches.{key_fetched, before_key, after_key}
 
 -- two fetches more
 pub fetched_twice : {T : Type 0} (x y : Fetcher T) → x.kept ≡ None → x.tokens.ended ≡ false → Follows x → Reads x.window y.window (λ a b. FetchesTwice (state a x) (state b y)) → Fetches x y → (y.tokens.ended ≡ true → y.window.done ≡ true) → Follows y
@@ -147,7 +148,7 @@ module _ {T : Type 0} (x : Fetcher T) (w : WindowView T) (key : List ℕ) (colon
       let o = outside_of p.col opens x.levels z.stands in
       let before = before_key p x.tokens.all ks o.ds x.leading x.adjacent_value_at free o.block opens in
       let old : held x ≡ before = held_before o.ds ks x.levels free o.block o.before keys in
-      let new : held y ≡ after_colon p x.tokens.all ks o.ds x.leading x.adjacent_value_at free o.block key = rw (s.flow, s.started, s.ended, o.after, keys, colon_is, after_is) refl in
+      let new : held y ≡ after_key p x.tokens.all ks o.ds x.leading x.adjacent_value_at free o.block key = rw (s.flow, s.started, s.ended, o.after, keys, colon_is, after_is) refl in
       fetched_twice x y s.kept s.ended f
       (Reads-map _ _ t.reads (λ a b r. rw (old, new, r.0) (key_fetched p x.tokens.all ks o.ds x.leading x.adjacent_value_at free o.block opens key b t.simple t.short r.1)))
       (record { given = rw z.waits (take-append_seam x.tokens.all (key_tokens p key colon) ∙ sym (take-length x.tokens.all)); over = refl; fault = refl; backlog = refl })
