@@ -3,6 +3,7 @@ pub use Rattle.std.proofs.Common.{[], ap, append-nil, append_assoc, arith, Bool,
 pub use Rattle.std.proofs.lemmas.Bool.{and_from, and_parts, both_ways, eqb-true, le-ltb, lt-ltb, ltb-false, ne_eqb}
 pub use Rattle.std.proofs.lemmas.Bool.Decides.{nat_tests}
 pub use Rattle.std.proofs.lemmas.List.{length-drop, length-take, take-append-drop}
+pub use Rattle.std.proofs.Math.Seq.{take-append-add, take-append_seam, take-length}
 pub use Rattle.std.specs.List.{insert, list_any}
 pub use Rattle.std.specs.Option.{IfSome}
 pub use Rattle.std.specs.Prelude.{codes, IfErr, IsErrAnd, MatchOption, OnOk}

@@ -1,6 +1,6 @@
 -- What was fetched and handed out is a run of the model.
 use Rattle.std.specs.Prelude.{IfSome}
-use Rattle.yaml_scanner.proofs.Common.{[], ap, AreBehind, AreSettled, arith, At, BeginsWith, Bool, both_ways, codes, drop, eqb-true, Err, ErrorReport, false, Fault, fetch, Fetcher, Fetches, Follows, FollowsIn, handed, has_end, has_no_nul, HasTokens, held, here, ImplicitKey, inl, inr, inside, is_end, is_front, IsReached, IsRefusal, IsRefused, IsShort, LeavesNoRow, length, length-drop, length-take, List, list_any, lowered, map, None, not_refused, nothing_held, Ok, one_fault, one_list, one_more, Option, option_map, OutOfMemory, Position, position_of, Possible-taken, Reaches, Reads, refl, run_to_end, Scanned, Scans, seen, Some, start, state, subst, suc, sym, take, take-append-drop, Tok, Token, Tokens, true, zero, ℕ, ◌++◌, ◌+◌, ◌-◌, ◌<◌, ◌==◌, ◌||◌, ◌∙◌, ◌∷◌, ◌≡◌, ◌≢◌, ◌≤◌}
+use Rattle.yaml_scanner.proofs.Common.{[], ap, append-nil, append_assoc, AreBehind, AreSettled, arith, At, BeginsWith, Bool, both_ways, codes, drop, Err, ErrorReport, false, Fault, fetch, Fetcher, Fetches, Follows, FollowsIn, handed, has_end, has_no_nul, HasTokens, held, here, ImplicitKey, inl, inr, inside, is_end, is_front, IsReached, IsRefusal, IsRefused, IsShort, LeavesNoRow, length, length-drop, length-take, List, list_any, lowered, map, nat_tests, None, not_refused, nothing_held, Ok, one_fault, one_list, one_more, Option, option_map, OutOfMemory, Position, position_of, Possible-taken, Reaches, Reads, refl, run_to_end, Scanned, Scans, seen, Some, start, state, subst, suc, sym, take, take-append-drop, Tok, Token, Tokens, true, zero, ℕ, ◌++◌, ◌+◌, ◌-◌, ◌<◌, ◌||◌, ◌∙◌, ◌∷◌, ◌≡◌, ◌≢◌, ◌≤◌}
 use Rattle.yaml_tokens.specs.Problem.{fault_of}
 use Rattle.yaml_tokens.specs.declared.problem.Problem.{Problem}
 use Rattle.model_scanner.proofs.Given.{GivenStands, KeysFrom, reached}
@@ -12,7 +12,6 @@ use Rattle.yaml_scanner.proofs.GivenLemmas.{lowered_seen}
 use Rattle.yaml_scanner.proofs.WhereLemmas.{in_text, at_end, not_started, has_started}
 use Rattle.yaml_scanner.proofs.QueueLemmas.{has_end_append}
 use Rattle.defs_token.specs.Cut.{IsCut, IsCutOfBeginning, tokens_of, end_token}
-use Rattle.proof_scanner.proofs.Cut.Scalars.{same_number}
 use Rattle.proof_scanner.proofs.Cut.Faults.Fetches.{faults_stand}
 use Rattle.proof_scanner.proofs.Sound.FirstTokens.{first_tokens_are_cut}
 use Rattle.defs_token.specs.Row.{IsRead}
@@ -35,23 +34,24 @@ starts x e n k h o b = λ a p. record {
   backlog = rw b tt;
 }
 
+-- after steps of the model that refuse nothing
+pub went_on : {T : Type 0} (x y : Fetcher T) → x.kept ≡ None → Fetches x y → (y.tokens.ended ≡ true → y.window.done ≡ true) → (a : List ℕ) → FollowsIn a x → Reaches (start a) (state (drop y.window.at a) y) → FollowsIn a y
+went_on x y k m n a old run = record {
+  run = λ _ _. run;
+  all = λ _ e. record { whole = record { end = state (drop y.window.at a) y; run = run; ended = e; tokens = refl }; position = refl; began = refl };
+  done = λ _ e. n e;
+  reached = rw m.given old.reached;
+  begins = λ ts h. rw m.given (old.begins ts h);
+  whole = λ o. rw m.given (old.whole (sym m.over ∙ o));
+  refused = rw (m.fault, k) tt;
+  settled = rw (m.fault, k) tt;
+  open_end = λ o. rw m.given (old.open_end (sym m.over ∙ o));
+  backlog = rw m.backlog old.backlog;
+}
+
 -- a fetch more
 pub fetched_on : {T : Type 0} (x y : Fetcher T) → x.kept ≡ None → x.tokens.ended ≡ false → Follows x → Reads x.window y.window (λ a b. fetch (state a x) ≡ Ok (state b y)) → Fetches x y → (y.tokens.ended ≡ true → y.window.done ≡ true) → Follows y
-fetched_on x y k g f d m n = λ a p.
-    let old = f a (d.back a p) in
-    let run : Reaches (start a) (state (drop y.window.at a) y) = one_more (old.run k g) g (d.reads a p) in
-    record {
-      run = λ _ _. run;
-      all = λ _ e. record { whole = record { end = state (drop y.window.at a) y; run = run; ended = e; tokens = refl }; position = refl; began = refl };
-      done = λ _ e. n e;
-      reached = rw m.given old.reached;
-      begins = λ ts h. rw m.given (old.begins ts h);
-      whole = λ o. rw m.given (old.whole (sym m.over ∙ o));
-      refused = rw (m.fault, k) tt;
-      settled = rw (m.fault, k) tt;
-      open_end = λ o. rw m.given (old.open_end (sym m.over ∙ o));
-      backlog = rw m.backlog old.backlog;
-    }
+fetched_on x y k g f d m n = λ a p. let old = f a (d.back a p) in went_on x y k m n a old (one_more (old.run k g) g (d.reads a p))
 
 -- ---- what is settled
 
@@ -59,16 +59,7 @@ fetched_on x y k g f d m n = λ a p.
 is_numbered : (given : ℕ) (ks : List (Option ImplicitKey)) → list_any is_front ks ≡ true → list_any (comes_before given) (seen given ks) ≡ true
 is_numbered given [] e = absurd cc
 is_numbered given (None ∷ ks) e = is_numbered given ks e
-is_numbered given (Some k ∷ ks) e = by (k.position == 0) refl e (is_numbered given ks)
-  where
-    or_true_last : (b : Bool) → (b || true) ≡ true
-    or_true_last true = refl
-    or_true_last false = refl
-
-    by : (b : Bool) → (k.position == 0) ≡ b → (b || list_any is_front ks) ≡ true → (list_any is_front ks ≡ true → list_any (comes_before given) (seen given ks) ≡ true)
-        → ((given + k.position == given) || list_any (comes_before given) (seen given ks)) ≡ true
-    by true z h rest = rw (eqb-true k.position 0 z, same_number given) refl
-    by false z h rest = rw (rest h) (or_true_last (given + k.position == given))
+is_numbered given (Some k ∷ ks) e = let rest = is_numbered given ks in grind (arith, nat_tests)
 
 length_at_most : (n : ℕ) (xs : List Token) → length (take n xs) ≤ n
 length_at_most n xs = rw (length-take n xs) (omega arith)
@@ -79,11 +70,7 @@ keys_behind n m (None ∷ ks) l = (tt, keys_behind n m ks l)
 keys_behind n m (Some k ∷ ks) l = (omega arith, keys_behind n m ks l)
 
 none_waits : (n : ℕ) (xs : List Token) → drop n xs ≡ [] → take n xs ≡ xs
-none_waits n xs e = sym (append_nil (take n xs)) ∙ ap (λ ys. take n xs ++ ys) (sym e) ∙ take-append-drop n xs
-  where
-    append_nil : (xs : List Token) → xs ++ [] ≡ xs
-    append_nil [] = refl
-    append_nil (x ∷ xs) = ap (λ ys. x ∷ ys) (append_nil xs)
+none_waits n xs e = sym (append-nil (take n xs)) ∙ ap (λ ys. take n xs ++ ys) (sym e) ∙ take-append-drop n xs
 
 -- all tokens were handed out; or a key may come before the next one
 all_handed : (n : ℕ) (xs : List Token) (ks : List (Option ImplicitKey)) → (0 < length xs - n → list_any is_front ks ≡ true) → list_any (comes_before (length (take n xs))) (seen n ks) ≡ false → xs ≡ take n xs
@@ -156,51 +143,20 @@ with_room x n f = λ a p.
 
 is_the_end : (t : Tok) → is_end t ≡ true → t ≡ Tok.stream_end
 is_the_end Tok.stream_end e = refl
-is_the_end Tok.stream_start e = absurd cc
-is_the_end (Tok.version_directive m n) e = absurd cc
-is_the_end (Tok.tag_directive h p) e = absurd cc
-is_the_end Tok.document_start e = absurd cc
-is_the_end Tok.document_end e = absurd cc
-is_the_end Tok.block_sequence_start e = absurd cc
-is_the_end Tok.block_mapping_start e = absurd cc
-is_the_end Tok.block_end e = absurd cc
-is_the_end Tok.flow_sequence_start e = absurd cc
-is_the_end Tok.flow_sequence_end e = absurd cc
-is_the_end Tok.flow_mapping_start e = absurd cc
-is_the_end Tok.flow_mapping_end e = absurd cc
-is_the_end Tok.block_entry e = absurd cc
-is_the_end Tok.flow_entry e = absurd cc
-is_the_end Tok.key e = absurd cc
-is_the_end Tok.value e = absurd cc
-is_the_end (Tok.alias n) e = absurd cc
-is_the_end (Tok.anchor n) e = absurd cc
-is_the_end (Tok.tag h s) e = absurd cc
-is_the_end (Tok.scalar y s) e = absurd cc
+is_the_end t e = absurd cc
 
 -- all tokens are those handed out and those that wait
 split_at : (n : ℕ) (xs given : List Token) (t : Token) → take n xs ≡ given ++ t ∷ [] → xs ≡ given ++ t ∷ drop n xs
-split_at n xs given t e = sym (take-append-drop n xs) ∙ ap (λ ys. ys ++ drop n xs) e ∙ append_one given t (drop n xs)
-  where
-    append_one : (xs : List Token) (t : Token) (ys : List Token) → (xs ++ t ∷ []) ++ ys ≡ xs ++ t ∷ ys
-    append_one [] t ys = refl
-    append_one (x ∷ xs) t ys = ap (λ zs. x ∷ zs) (append_one xs t ys)
+split_at n xs given t e = sym (take-append-drop n xs) ∙ ap (λ ys. ys ++ drop n xs) e ∙ append_assoc given (t ∷ []) (drop n xs)
 
 keys_lower : (n m : ℕ) (ks : List (Option ImplicitKey)) → n ≤ m → KeysFrom n (seen m ks)
 keys_lower n m [] l = tt
 keys_lower n m (None ∷ ks) l = (tt, keys_lower n m ks l)
 keys_lower n m (Some k ∷ ks) l = (omega arith, keys_lower n m ks l)
 
-or_true : (b c : Bool) → b ≡ false → (b || c) ≡ true → c ≡ true
-or_true true c e h = absurd cc
-or_true false c e h = h
-
 -- the end is still to be handed out
 open_after : (xs : List Token) (t : Token) (o : Bool) → o ≡ false → has_end xs ≡ false → (o || is_end t.tok) ≡ false → has_end (xs ++ t ∷ []) ≡ false
-open_after xs t o e h l = rw (has_end_append xs (t ∷ []), h) (by (is_end t.tok) (rw e at l))
-  where
-    by : (b : Bool) → b ≡ false → (b || false) ≡ false
-    by true k = k
-    by false k = refl
+open_after xs t o e h l = rw (has_end_append xs (t ∷ []), h) (grind arith)
 
 module _ {T : Type 0} (x : Fetcher T) (a : List ℕ) (t : Token) (old : FollowsIn a x) (kept : x.kept ≡ None) (over : x.tokens.over ≡ false) where
   abbrev count : ℕ
@@ -268,7 +224,7 @@ module _ {T : Type 0} (x : Fetcher T) (a : List ℕ) (t : Token) (old : FollowsI
     done = old.done;
     reached = reached_after x.tokens.ended refl front;
     begins = begins_after x.tokens.ended refl front;
-    whole = λ o. whole_after x.tokens.ended refl g (or_true x.tokens.over (is_end t.tok) over o);
+    whole = λ o. whole_after x.tokens.ended refl g (grind (arith, over, o));
     refused = rw kept tt;
     settled = rw kept tt;
     open_end = λ o. rw g (open_after (handed x.tokens) t x.tokens.over over (old.open_end over) o);
@@ -284,11 +240,7 @@ handed_on x q ks t k o front e g i f = λ a p. rw (e, i) (follows_after x a t (f
 
 -- a cut has the stream's end
 cut_has_end : (ts : List Token) (a : List ℕ) → IsCut ts a → has_end ts ≡ true
-cut_has_end ts a c = rw (c.are_tokens, has_end_append (tokens_of c.row) (end_token c.end ∷ [])) (always (has_end (tokens_of c.row)))
-  where
-    always : (b : Bool) → (b || true) ≡ true
-    always true = refl
-    always false = refl
+cut_has_end ts a c = rw (c.are_tokens, has_end_append (tokens_of c.row) (end_token c.end ∷ [])) (grind arith)
 
 begun_cut : (ts : List Token) (a : List ℕ) → IsReached a ts → has_end ts ≡ false → has_no_nul a ≡ true → IsCutOfBeginning ts a
 begun_cut ts a r e n = elim (first_tokens_are_cut a ts r.begins.more r.last n r.run r.begins.whole) [

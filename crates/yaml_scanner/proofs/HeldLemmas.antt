@@ -1,5 +1,5 @@
 -- Lemmas about what the scanner holds.
-use Rattle.yaml_scanner.proofs.Common.{[], arith, At, Bool, Columns, drop_stale, end_level, ends_open, Err, false, Fault, Held, if◌then◌else◌, in_flow, Indent, is_required, Key, level, Levels, List, MatchOption, nat_lt, nat_tests, None, not, Ok, Option, Position, refl, remove_implicit_key, Some, stale, sym, Token, top_key, true, unroll_indent, unroll_non_block_indents, unrolled, with_levels, with_top, without_open, ℕ, ◌<◌, ◌∙◌, ◌∷◌, ◌≡◌, ◌≤◌}
+use Rattle.yaml_scanner.proofs.Common.{[], arith, At, Bool, Columns, drop_stale, end_level, ends_open, Err, false, Fault, Held, in_flow, Indent, is_required, Key, level, Levels, List, MatchOption, nat_lt, nat_tests, None, Ok, Option, Position, refl, remove_implicit_key, Some, stale, sym, Token, top_key, true, unroll_indent, unroll_non_block_indents, unrolled, with_levels, with_top, without_open, ℕ, ◌<◌, ◌∙◌, ◌∷◌, ◌≡◌, ◌≤◌}
 use Rattle.yaml_tokens.specs.declared.problem.Problem.TheVariants as problem
 
 not_less : (m n : ℕ) → n ≤ m → nat_lt m n ≡ false
@@ -58,20 +58,12 @@ unroll_done limit h u l g e f = rw (g, e) f
 
 pub unroll_shallow : (limit : ℕ) (h : Held) → h.indent ≤ limit → h ≡ unroll_indent limit h
 unfolding unroll_indent
-unroll_shallow limit h e = by (in_flow h) refl
-  where
-    by : (b : Bool) → in_flow h ≡ b → h ≡ (if in_flow h then h else with_levels h (unrolled limit h.position h.indent h.indents h.tokens))
-    by true g = rw g refl
-    by false g = rw (g, unrolled_done limit h.position h.indent h.indents h.tokens e) refl
+unroll_shallow limit h e = let done = unrolled_done limit h.position h.indent h.indents h.tokens e in grind (arith, done)
 
 pub without_block : (i : ℕ) (ds : List Indent) (ts : List Token) → ends_open ds ≡ false → without_open i ds ts ≡ record { indent = i; indents = ds; tokens = ts }
 unfolding without_open
 without_block i [] ts o = refl
-without_block i (d ∷ ds) ts o = let g : d.needs_block_end ≡ true = negated d.needs_block_end o in rw g refl
-  where
-    negated : (b : Bool) → not b ≡ false → b ≡ true
-    negated true o = refl
-    negated false o = absurd (cc)
+without_block i (d ∷ ds) ts o = grind arith
 
 pub without_more : (i j : ℕ) (ds es : List Indent) (ts : List Token) → ds ≡ level j false ∷ es → without_open i ds ts ≡ without_open j es ts
 unfolding without_open

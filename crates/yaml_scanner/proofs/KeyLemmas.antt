@@ -1,13 +1,14 @@
 -- Lemmas about what may be a key.
-use Rattle.std.proofs.Common.{◌≡◌, ℕ, List, [], ◌∷◌, ◌++◌, reverse, map, refl, ap, sym, ◌∙◌, Option, Some, None, length, arith, Bool, true, false, ◌||◌, Ok, Err, if◌then◌else◌}
+use Rattle.std.proofs.Common.{◌≡◌, ℕ, List, [], ◌∷◌, ◌++◌, reverse, map, refl, ap, sym, ◌∙◌, Option, Some, None, length, arith, Bool, true, false, Ok, Err}
 use Rattle.std.specs.List.{list_any}
 use Rattle.std.specs.Prelude.{is_some}
 use Rattle.std.proofs.lemmas.List.{reverse-append, map-append}
+use Rattle.std.proofs.lemmas.List.Folds.{list_any-append}
 use Rattle.defs_text.specs.Position.{Position}
 use Rattle.yaml_tokens.specs.declared.problem.Fault.TheVariants.{At}
 use Rattle.yaml_tokens.specs.declared.problem.Problem.TheVariants as problem
 use Rattle.model_scanner.specs.State.{pop, with_top}
-use Rattle.model_scanner.specs.Keys.{is_far, is_overdue, still, drop_stale, is_required, has_required, cleared, top_key}
+use Rattle.model_scanner.specs.Keys.{is_overdue, still, drop_stale, is_required, has_required, cleared, top_key}
 use Rattle.yaml_scanner.specs.declared.keys.ImplicitKey.{ImplicitKey}
 use Rattle.yaml_scanner.specs.ImplicitKeys.{key_of, seen, is_front, lowered, still_implicit, is_stale, no_implicit, top_implicit}
 use Rattle.yaml_scanner.proofs.StackLemmas as stack
@@ -19,47 +20,23 @@ pub none_popped : {A : Type 0} (xs ys : List A) → length xs ≡ 0 → ys ≡ x
 none_popped [] ys e f = rw f refl
 none_popped (x ∷ xs) ys e f = absurd (omega arith)
 
-or_swap : (a b c : Bool) → (a || b) || c ≡ a || (b || c)
-or_swap true b c = refl
-or_swap false b c = refl
-
-any_append : {A : Type 0} (p : A → Bool) (xs ys : List A) → list_any p (xs ++ ys) ≡ list_any p xs || list_any p ys
-any_append p [] ys = refl
-any_append p (x ∷ xs) ys = ap (λ b. p x || b) (any_append p xs ys) ∙ sym (or_swap (p x) (list_any p xs) (list_any p ys))
-
-or_comm : (a b : Bool) → b || (a || false) ≡ a || b
-or_comm true true = refl
-or_comm true false = refl
-or_comm false true = refl
-or_comm false false = refl
-
 pub any_reversed : {A : Type 0} (p : A → Bool) (xs : List A) → list_any p (reverse xs) ≡ list_any p xs
 any_reversed p [] = refl
-any_reversed p (x ∷ xs) = ap (list_any p) (reverse-append (x ∷ []) xs) ∙ any_append p (reverse xs) (x ∷ []) ∙ or_comm (p x) (list_any p (reverse xs)) ∙ ap (λ b. p x || b) (any_reversed p xs)
+any_reversed p (x ∷ xs) = let all = ap (list_any p) (reverse-append (x ∷ []) xs) ∙ list_any-append p (reverse xs) (x ∷ []) in let rest = any_reversed p xs in grind (arith, all, rest)
 
 pub map_reversed : {A B : Type 0} (f : A → B) (xs : List A) → map f (reverse xs) ≡ reverse (map f xs)
 map_reversed f [] = refl
 map_reversed f (x ∷ xs) = ap (map f) (reverse-append (x ∷ []) xs) ∙ map-append f (reverse xs) (x ∷ []) ∙ ap (λ ys. ys ++ f x ∷ []) (map_reversed f xs) ∙ sym (reverse-append (f x ∷ []) (map f xs))
 
-overdue_of : (p : Position) (g : ℕ) (k : Option ImplicitKey) → is_overdue p (key_of g k) ≡ is_overdue p (key_of 0 k)
-overdue_of p g None = refl
-overdue_of p g (Some k) = refl
-
 overdue_all : (p : Position) (g : ℕ) (ks : List (Option ImplicitKey)) → list_any (is_overdue p) (map (key_of g) ks) ≡ list_any (λ k. is_overdue p (key_of 0 k)) ks
 overdue_all p g [] = refl
-overdue_all p g (k ∷ ks) = rw (overdue_of p g k, overdue_all p g ks) refl
-
-still_pick : (b : Bool) (g : ℕ) (k : ImplicitKey) → key_of g (if b then None else Some k) ≡ (if b then None else key_of g (Some k))
-still_pick true g k = refl
-still_pick false g k = refl
-
-still_of : (p : Position) (g : ℕ) (k : Option ImplicitKey) → key_of g (still_implicit p k) ≡ still p (key_of g k)
-still_of p g None = refl
-still_of p g (Some k) = still_pick (is_far k.mark p) g k
+overdue_all p g (None ∷ ks) = overdue_all p g ks
+overdue_all p g (Some k ∷ ks) = rw (overdue_all p g ks) refl
 
 still_all : (p : Position) (g : ℕ) (ks : List (Option ImplicitKey)) → map (key_of g) (map (still_implicit p) ks) ≡ map (still p) (map (key_of g) ks)
 still_all p g [] = refl
-still_all p g (k ∷ ks) = rw (still_of p g k, still_all p g ks) refl
+still_all p g (None ∷ ks) = ap (λ ls. None ∷ ls) (still_all p g ks)
+still_all p g (Some k ∷ ks) = rw (still_all p g ks) (grind arith)
 
 pub overdue_seen : (p : Position) (g : ℕ) (ks : List (Option ImplicitKey)) → list_any (λ k. is_overdue p (key_of 0 k)) ks ≡ true → drop_stale p (seen g (reverse ks)) ≡ Err (At problem.KeyWithoutColon p)
 unfolding drop_stale
@@ -73,33 +50,19 @@ still_seen p g ks ls h f =
     let e : list_any (is_overdue p) (map (key_of g) (reverse ks)) ≡ false = overdue_all p g (reverse ks) ∙ any_reversed (λ k. is_overdue p (key_of 0 k)) ks ∙ h in
     rw (e, f, ← map_reversed (still_implicit p) ks, still_all p g (reverse ks)) refl
 
-or_none : (a b : Bool) → a || b ≡ false → (a ≡ false) × (b ≡ false)
-or_none true b h = absurd cc
-or_none false b h = (refl, h)
-
-fresh_of : (p : Position) (k : Option ImplicitKey) → is_stale p k ≡ false → (is_overdue p (key_of 0 k) ≡ false) × (still_implicit p k ≡ k)
-fresh_of p None h = (refl, refl)
-fresh_of p (Some k) h = (rw h refl, rw h refl)
-
 fresh_all : (p : Position) (ks : List (Option ImplicitKey)) → list_any (is_stale p) ks ≡ false → (list_any (λ k. is_overdue p (key_of 0 k)) ks ≡ false) × (map (still_implicit p) ks ≡ ks)
 fresh_all p [] h = (refl, refl)
-fresh_all p (k ∷ ks) h =
-    let both = or_none (is_stale p k) (list_any (is_stale p) ks) h in
-    let one = fresh_of p k both.0 in
-    let rest = fresh_all p ks both.1 in
-    (rw (one.0, rest.0) refl, rw (one.1, rest.1) refl)
+fresh_all p (None ∷ ks) h = let rest = fresh_all p ks h in (rest.0, ap (λ ls. None ∷ ls) rest.1)
+fresh_all p (Some k ∷ ks) h = let rest = fresh_all p ks in (grind arith, grind arith)
 
 -- where no key is too far back, all stay
 pub fresh_seen : (p : Position) (g : ℕ) (ks : List (Option ImplicitKey)) → list_any (is_stale p) ks ≡ false → drop_stale p (seen g (reverse ks)) ≡ Ok (seen g (reverse ks))
 fresh_seen p g ks h = let all = fresh_all p ks h in still_seen p g ks ks all.0 (sym all.1)
 
-required_of : (g : ℕ) (k : Option ImplicitKey) → is_required (key_of g k) ≡ is_required (key_of 0 k)
-required_of g None = refl
-required_of g (Some k) = refl
-
 required_all : (g : ℕ) (ks : List (Option ImplicitKey)) → list_any is_required (map (key_of g) ks) ≡ list_any (λ k. is_required (key_of 0 k)) ks
 required_all g [] = refl
-required_all g (k ∷ ks) = rw (required_of g k, required_all g ks) refl
+required_all g (None ∷ ks) = required_all g ks
+required_all g (Some k ∷ ks) = rw (required_all g ks) refl
 
 pub required_seen : (g : ℕ) (ks : List (Option ImplicitKey)) → list_any (λ k. is_required (key_of 0 k)) ks ≡ has_required (seen g (reverse ks))
 required_seen g ks = sym (required_all g (reverse ks) ∙ any_reversed (λ k. is_required (key_of 0 k)) ks)
@@ -113,7 +76,8 @@ cleared_seen g ks ls e = rw (e, ← map_reversed no_implicit ks) (cleared_all g 
 
 pub required_top : (g : ℕ) (k : Option ImplicitKey) (ks : List (Option ImplicitKey)) → k ≡ top_implicit ks → is_required (key_of 0 k) ≡ is_required (top_key (seen g ks))
 required_top g k [] e = rw e refl
-required_top g k (l ∷ ks) e = rw e (sym (required_of g l))
+required_top g k (None ∷ ks) e = rw e refl
+required_top g k (Some l ∷ ks) e = rw e refl
 
 pub with_top_seen : (g : ℕ) (k : Option ImplicitKey) (ks : List (Option ImplicitKey)) → seen g (with_top k ks) ≡ with_top (key_of g k) (seen g ks)
 with_top_seen g k [] = refl

@@ -1,30 +1,22 @@
 -- Lemmas about levels of indentation.
-use Rattle.std.proofs.Common.{◌≡◌, ℕ, ◌+◌, ◌^◌, ◌<◌, ◌≤◌, List, [], ◌∷◌, Bool, true, false, not, refl, arith, if◌then◌else◌}
+use Rattle.std.proofs.Common.{◌≡◌, ℕ, ◌+◌, ◌^◌, ◌<◌, ◌≤◌, List, [], ◌∷◌, true, false, refl, arith}
 use Rattle.model_scanner.specs.declared.level.Indent.{Indent}
 use Rattle.model_scanner.specs.Keys.{top_needs_block_end}
 use Rattle.model_scanner.specs.Indents.{level}
 use Rattle.yaml_scanner.specs.Levels.{ends_open, AreSmall}
 
-deep : (b : Bool) (i : ℕ) → i ≤ (if b then 2 ^ 63 + 1 else 2 ^ 63) → i ≤ 2 ^ 63 + 1
-deep true i h = h
-deep false i h = omega arith
-
 pub small_indent : (i : ℕ) (ds : List Indent) → AreSmall i ds → i ≤ 2 ^ 63 + 1
 small_indent i [] h = omega arith
-small_indent i (d ∷ ds) h = deep (not d.needs_block_end) i h.0
-
-flat : (b : Bool) (i : ℕ) → b ≡ false → i ≤ (if b then 2 ^ 63 + 1 else 2 ^ 63) → i ≤ 2 ^ 63
-flat true i e h = absurd (cc)
-flat false i e h = h
+small_indent i (d ∷ ds) h = grind (arith, h.0)
 
 pub small_block : (i : ℕ) (ds : List Indent) → AreSmall i ds → ends_open ds ≡ false → i ≤ 2 ^ 63
 small_block i [] h e = h
-small_block i (d ∷ ds) h e = flat (not d.needs_block_end) i e h.0
+small_block i (d ∷ ds) h e = grind (arith, e, h.0)
 
 pub small_below : (i col : ℕ) (ds : List Indent) → AreSmall i ds → col < 2 ^ 63 → AreSmall (col + 1) (level i true ∷ ds)
 small_below i col ds h c = (omega arith, h)
 
-is_block : (ds : List Indent) → top_needs_block_end ds ≡ true → ends_open ds ≡ false
+pub is_block : (ds : List Indent) → top_needs_block_end ds ≡ true → ends_open ds ≡ false
 is_block [] e = refl
 is_block (d ∷ ds) e = rw e refl
 

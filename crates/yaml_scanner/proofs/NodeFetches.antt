@@ -1,24 +1,12 @@
 -- What the model does at a key or another plain scalar of one line that is a simple text.
-use Rattle.yaml_scanner.proofs.Common.{[], along, ap, append_assoc, arith, begin_pair, Bool, check_value_space, cleared, deepen, drop_open, drop_open_level, drop_stale, ends_open, false, fetch, fetch_here, fetch_plain_scalar, fetch_rest, fetch_value, Held, if◌then◌else◌, Indent, indented, insert, insert_key, is_blank, is_blank_or_breakz, is_break, is_far, IsSimpleText, Key, key_tokens, length, level, List, lt-ltb, ltb-false, must_be_key, nat_le, nat_lt, None, Ok, Option, past, Position, refl, roll_indent, RunsTwice, save_implicit_key, slice_index, Some, stale, Style, Tok, Token, token, top_needs_block_end, true, unroll_non_block_indents, with_key, with_line, without_open, ℕ, ◌&&◌, ◌++◌, ◌+◌, ◌<◌, ◌==◌, ◌||◌, ◌∙◌, ◌∷◌, ◌≡◌, ◌≤◌}
+use Rattle.yaml_scanner.proofs.Common.{Bool, FetchesTwice, Held, Indent, IsSimpleText, Key, List, None, Ok, Option, Position, RunsTwice, Some, Style, Tok, Token, [], along, ap, append_assoc, arith, begin_pair, check_value_space, cleared, deepen, drop_stale, ends_open, false, fetch, fetch_here, fetch_next, fetch_plain_scalar, fetch_rest, fetch_value, indented, insert, insert_key, is_blank, is_blank_or_breakz, is_break, is_far, key_tokens, length, level, lt-ltb, ltb-false, must_be_key, nat_lt, nat_tests, past, refl, roll_indent, save_implicit_key, skip_to_next_token, slice_index, stale, sym, token, top_needs_block_end, true, unroll_indent, unroll_non_block_indents, with_key, with_line, without_open, ℕ, ◌&&◌, ◌++◌, ◌+◌, ◌<◌, ◌==◌, ◌||◌, ◌∙◌, ◌∷◌, ◌≡◌, ◌≤◌}
 use Rattle.yaml_scanner.specs.Fetched.{before as before_position}
+use Rattle.yaml_scanner.proofs.HeldLemmas.{without_block}
+use Rattle.yaml_scanner.proofs.LevelLemmas.{is_block}
 use Rattle.yaml_scanner.proofs.PairTexts.{Simple, simple_text, same_place, along_is, plain_key, plain_value}
-use Rattle.yaml_scanner.proofs.PairFetches.{at, in_mapping, fetched, none_overdue, none_stale, near_stale, none_end, solid_here, plain_here, value_here, one_deeper, follows_blank, follows_visible, insert_key_token, near_along}
+use Rattle.yaml_scanner.proofs.PairFetches.{at, kept_level, open_ends, in_mapping, fetched, none_overdue, none_stale, near_stale, none_end, solid_here, plain_here, value_here, one_deeper, follows_blank, follows_visible, insert_key_token, near_along}
 
 -- ---- levels
-
--- outside flow, where the innermost level is no open one
-kept_level : (col : ℕ) (s : Held) → ends_open s.indents ≡ false → drop_open_level col s ≡ s
-unfolding drop_open_level
-kept_level col s block = by (nat_le s.indent (col + 1)) s.indents block
-  where
-    by : (b : Bool) (ds : List Indent) → ends_open ds ≡ false → (if b then drop_open s ds else s) ≡ s
-    by false ds h = refl
-    by true [] h = refl
-    by true (d ∷ ds) h = here d.needs_block_end refl
-      where
-        here : (e : Bool) → d.needs_block_end ≡ e → drop_open s (d ∷ ds) ≡ s
-        here true g = rw g refl
-        here false g = let n = rw g at h in absurd cc
 
 -- a collection begins at a column, before the tokens of a number or after all
 begins_before : (col n : ℕ) (t : Tok) (p : Position) (s : Held) → s.flow ≡ [] → ends_open s.indents ≡ false → nat_lt s.indent (col + 1) ≡ true
@@ -39,6 +27,12 @@ stays col n t p s flow block left = rw (kept_level col s block, left, flow) refl
 insert_start : (ts us : List Token) (t : Token) → insert (ts ++ us) (length ts) t ≡ ts ++ t ∷ us
 insert_start [] us t = refl
 insert_start (s ∷ ts) us t = ap (λ vs. s ∷ vs) (insert_start ts us t)
+
+-- after what stands before a token
+pub rest_of : (a b d : List ℕ) (h u v w x : Held) (n : ℕ) → skip_to_next_token (at a h) ≡ Ok (at b u) → stale u ≡ Ok v → n ≡ v.position.col + 1 → w ≡ unroll_indent n v → fetch_rest (at b w) ≡ Ok (at d x)
+    → fetch_next (at a h) ≡ Ok (at d x)
+unfolding fetch_next fetch_rest
+rest_of a b d h u v w x n e f g i j = let j' = rw (i, g) at j in rw (e, f) j'
 
 -- ---- a node
 
@@ -152,12 +146,15 @@ module _ (p : Position) (ts : List Token) (ks : List (Option Key)) (l : ℕ) (ls
       (value_here d a s blank (omega (arith, col, some)) (omega (arith, col, deep)) ∙ key_value b left text d a tab)
       (none_stale (after_colon b text) z.1 (rw (z.0) (ap (λ l. None ∷ l) free)))
 
+  pub key_runs_to : (c : Bool) → nat_lt i (p.col + 1) ≡ c → (text b : List ℕ) → IsSimpleText text → length text ≤ 1024 → ((slice_index b 0 == 32) || (slice_index b 0 == 10)) ≡ true → RunsTwice fetch_rest (at (text ++ 58 ∷ b) before) (at b (after_colon c text))
+  key_runs_to c left text [] simple short next = absurd cc
+  key_runs_to c left text (d ∷ a) simple short next =
+      let blank = follows_blank d next in
+      record { between = at (58 ∷ d ∷ a) (after_scalar text); first = key_rest text d a (simple_text text simple) short blank.0; going = refl; second = colon_fetch c left text d a simple.some short blank.0 blank.1 }
+
   pub key_runs : (text b : List ℕ) → IsSimpleText text → length text ≤ 1024 → ((slice_index b 0 == 32) || (slice_index b 0 == 10)) ≡ true
       → RunsTwice fetch_rest (at (text ++ 58 ∷ b) before) (at b (with_key p text (record before { position = past (along text p) })))
-  key_runs text [] simple short next = absurd cc
-  key_runs text (d ∷ a) simple short next =
-      let blank = follows_blank d next in
-      rw (colon_is (nat_lt i (p.col + 1)) refl text) (record { between = at (58 ∷ d ∷ a) (after_scalar text); first = key_rest text d a (simple_text text simple) short blank.0; going = refl; second = colon_fetch (nat_lt i (p.col + 1)) refl text d a simple.some short blank.0 blank.1 })
+  key_runs text b simple short next = rw (colon_is (nat_lt i (p.col + 1)) refl text) (key_runs_to (nat_lt i (p.col + 1)) refl text b simple short next)
 
   -- ---- a scalar of one line
 
@@ -194,3 +191,41 @@ module _ (p : Position) (ts : List Token) (ks : List (Option Key)) (l : ℕ) (ls
       let same : text ++ 10 ∷ indented n (e ∷ a) ≡ z.head ∷ rest = ap (λ t. t ++ 10 ∷ indented n (e ∷ a)) z.whole in
       let here : fetch_here (at (text ++ 10 ∷ indented n (e ∷ a)) before) ≡ Ok (at (e ∷ a) (after_line (Some key_here) text n)) = rw same (plain_here z.head rest before z.opens shallow ∙ rw same at (line_scalar text n e a z stands.0 stands.1 (lt-ltb n i low))) in
       rw (here, line_stale text n need, outer ts) refl
+
+-- ---- a key where the innermost block mapping stands
+
+module _ (p : Position) (ts : List Token) (ks : List (Option Key)) (ds : List Indent) (leading : Bool) (adjacent : ℕ) (free : cleared ks ≡ ks) (block : top_needs_block_end ds ≡ true) where
+  abbrev at_column : Held
+  at_column = in_mapping p ts (None ∷ ks) (p.col + 1) ds true leading adjacent
+
+  -- the same after a value that has left its level open
+  abbrev at_open : Held
+  at_open = in_mapping p ts (None ∷ ks) (p.col + 1 + 1) (level (p.col + 1) false ∷ ds) true leading adjacent
+
+  abbrev pub before_key : (opens : Bool) → Held
+  before_key true = at_column
+  before_key false = at_open
+
+  abbrev pub after_key : List ℕ → Held
+  after_key w = in_mapping (past (along w p)) (ts ++ key_tokens p w (along w p)) (None ∷ ks) (p.col + 1 + 1) (level (p.col + 1) false ∷ ds) false false adjacent
+
+  -- a key and its `:`
+  pub key_fetched : (opens : Bool) (text b : List ℕ) → IsSimpleText text → length text ≤ 1024 → ((slice_index b 0 == 32) || (slice_index b 0 == 10)) ≡ true → FetchesTwice (at (text ++ 58 ∷ b) (before_key opens)) (at b (after_key text))
+  unfolding fetch
+  key_fetched opens text b simple short next = record { between = run.between; first = first opens; going = run.going; second = run.second }
+    where
+      a : List ℕ
+      a = text ++ 58 ∷ b
+
+      run : RunsTwice fetch_rest (at a at_column) (at b (after_key text))
+      run = key_runs_to p ts ks (p.col + 1) ds (p.col + 1) ds leading adjacent free (omega arith) (λ us. without_block (p.col + 1) ds us (is_block ds block)) (omega arith) (is_block ds block) (λ _. block) false (grind (arith, nat_tests)) text b simple short next
+
+      none_before : (s : Held) → skip_to_next_token (at a s) ≡ Ok (at a s)
+      none_before s = let z = simple_text text simple in let o = z.opens in rw z.whole (solid_here z.head (z.tail ++ 58 ∷ b) s o.break o.tab o.blank o.hash)
+
+      none_open : cleared (None ∷ ks) ≡ None ∷ ks
+      none_open = ap (λ l. None ∷ l) free
+
+      first : (opens : Bool) → fetch (at a (before_key opens)) ≡ Ok run.between
+      first true = rest_of a a _ at_column at_column at_column at_column _ _ (none_before at_column) (none_stale at_column refl none_open) refl (sym (none_end at_column refl (omega arith))) run.first
+      first false = rest_of a a _ at_open at_open at_open at_column _ _ (none_before at_open) (none_stale at_open refl none_open) refl (sym (open_ends p ts (None ∷ ks) ds leading adjacent)) run.first

@@ -1,34 +1,26 @@
 -- A key or another scalar that was fetched at once, against the model's steps.
 use Rattle.std.specs.Prelude.{IfSome}
-use Rattle.yaml_scanner.proofs.Common.{[], along, ap, arith, AwaitsNode, Bool, cleared, Columns, ends_open, Err, false, Fault, fetch, fetch_next, fetch_rest, Fetched, Fetcher, Fetches, Follows, Held, held, IfErr, Indent, IsShort, Key, length, level, List, must_be_key, ne_eqb, None, Ok, once, OnOk, Option, past, Position, position_of, Reads-saw, Reads-then, refl, Result, Runs, RunsTwice, ScannerState, seen, Sees, skip_to_next_token, Some, stale, Stands, state, subst, sym, TakesKey, TakesLine, TakesNode, Token, top_needs_block_end, true, twice, unroll_indent, value_level, WindowView, with_key, with_line, without_open, ℕ, ◌&&◌, ◌+◌, ◌<◌, ◌==◌, ◌∙◌, ◌∷◌, ◌≡◌, ◌≤◌}
+use Rattle.yaml_scanner.proofs.Common.{[], along, ap, arith, AwaitsNode, Bool, cleared, Columns, Err, false, Fault, fetch, fetch_next, fetch_rest, Fetched, Fetcher, Fetches, Follows, Held, held, IfErr, Indent, IsShort, Key, length, level, List, must_be_key, ne_eqb, None, Ok, once, OnOk, Option, past, Position, position_of, Reads-saw, Reads-then, refl, Result, Runs, ScannerState, seen, Sees, skip_to_next_token, Some, stale, Stands, state, subst, sym, TakesKey, TakesLine, TakesNode, Token, top_needs_block_end, true, twice, unroll_indent, value_level, WindowView, with_key, with_line, without_open, ℕ, ◌&&◌, ◌+◌, ◌<◌, ◌==◌, ◌∙◌, ◌∷◌, ◌≡◌, ◌≤◌}
 use Rattle.yaml_chars.specs.declared.block_line.BlockLine.{BlockLine}
 use Rattle.yaml_chars.specs.declared.block_line.BlockLine.TheVariants as taken
 use Rattle.yaml_scanner.proofs.ReadsLemmas.{Reads-map, Reads-along}
 use Rattle.yaml_scanner.proofs.FollowLemmas.{fetched_on, stopped}
 use Rattle.yaml_scanner.proofs.PairTexts.{same_place, along_is}
+use Rattle.yaml_scanner.proofs.HeldLemmas.{without_block}
+use Rattle.yaml_scanner.proofs.LevelLemmas.{is_block}
 use Rattle.yaml_scanner.proofs.PairFollows.{keys_split, seen_free, levels_split, fetched_twice}
-use Rattle.yaml_scanner.proofs.NodeFetches.{before, key_runs, line_runs}
+use Rattle.yaml_scanner.proofs.NodeFetches.{before, key_runs, line_runs, rest_of}
 
 -- ---- levels
-
--- the innermost level is a block collection
-block_rest : (i : ℕ) (ds : List Indent) → top_needs_block_end ds ≡ true → (ts : List Token) → without_open i ds ts ≡ record { indent = i; indents = ds; tokens = ts }
-unfolding without_open
-block_rest i [] top ts = absurd cc
-block_rest i (d ∷ ds) top ts = rw top refl
-
-block_closed : (ds : List Indent) → top_needs_block_end ds ≡ true → ends_open ds ≡ false
-block_closed [] top = absurd cc
-block_closed (d ∷ ds) top = rw top refl
 
 -- left of the column, a scalar may stand there
 pub stands_deeper : (col : ℕ) (l : Columns) → top_needs_block_end l.indents ≡ true → l.indent < col + 1 → Stands col l l.indent
 stands_deeper col l top left = record {
   outer = l;
-  rest = block_rest l.indent l.indents top;
+  rest = λ ts. without_block l.indent l.indents ts (is_block l.indents top);
   shallow = omega (arith, left);
   deep = omega (arith, left);
-  block = block_closed l.indents top;
+  block = is_block l.indents top;
   there = λ e. absurd (omega (arith, left, e));
   low = λ _. (omega arith, rw (ne_eqb l.indent (col + 1) (λ e. omega (arith, left, e))) refl);
 }
@@ -37,10 +29,10 @@ stands_deeper col l top left = record {
 pub stands_there : (col : ℕ) (l : Columns) → top_needs_block_end l.indents ≡ true → l.indent ≤ col + 1 → Stands col l 0
 stands_there col l top low = record {
   outer = l;
-  rest = block_rest l.indent l.indents top;
+  rest = λ ts. without_block l.indent l.indents ts (is_block l.indents top);
   shallow = low;
   deep = low;
-  block = block_closed l.indents top;
+  block = is_block l.indents top;
   there = λ _. top;
   low = λ h. absurd (omega (arith, h));
 }
@@ -68,20 +60,16 @@ stands_open col limit l lone low left =
     let s = levels_split l.indents limit lone in
     record {
       outer = record { indent = limit; indents = s.0 };
-      rest = λ ts. ap (λ ds. without_open l.indent ds ts) s.1 ∙ by s.0 ts ∙ block_rest limit s.0 s.2 ts;
+      rest = λ ts. ap (λ ds. without_open l.indent ds ts) s.1 ∙ by s.0 ts ∙ without_block limit s.0 ts (is_block s.0 s.2);
       shallow = low;
       deep = omega (arith, left);
-      block = block_closed s.0 s.2;
+      block = is_block s.0 s.2;
       there = λ e. absurd (omega (arith, left, e));
-      low = λ _. (omega arith, ap (λ ds. (l.indent == col + 1) && top_needs_block_end ds) s.1 ∙ no_top (l.indent == col + 1));
+      low = λ _. (omega arith, ap (λ ds. (l.indent == col + 1) && top_needs_block_end ds) s.1 ∙ grind arith);
     }
   where
     by : (ds : List Indent) (ts : List Token) → without_open l.indent (level limit false ∷ ds) ts ≡ without_open limit ds ts
     by ds ts = refl
-
-    no_top : (b : Bool) → (b && false) ≡ false
-    no_top true = refl
-    no_top false = refl
 
 -- ---- a node
 
@@ -108,12 +96,9 @@ module _ {T : Type 0} (x y : Fetcher T) (w : WindowView T) (limit : ℕ) (z : Aw
     key_steps : {X E : Type 0} (v : X) (key : List ℕ) → TakesKey x.window w key → held y ≡ with_key p key (held (record x { window = w })) → Fetched {E = E} fetch_rest x (Ok v) y
     key_steps v key t new =
         let after_is : position_of w ≡ past (along key p) = same_place t.at t.line t.col ∙ sym (ap past (along_is key p)) in
-        let now : held y ≡ with_key p key (record (held x) { position = past (along key p) }) = new ∙ ap (λ q. with_key p key (record (held x) { position = q })) after_is in
+        let now : held y ≡ with_key p key (record here { position = past (along key p) }) = new ∙ ap (λ q. with_key p key (record (held x) { position = q })) after_is ∙ ap (λ h. with_key p key (record h { position = past (along key p) })) old in
         twice tt (Reads-along _ _ _ _ refl window (Reads-map _ _ t.reads (λ a b r.
-        subst (λ h. RunsTwice fetch_rest (record { rest = a; held = held x }) (record { rest = b; held = h })) (sym now)
-        (subst (λ h. RunsTwice fetch_rest (record { rest = a; held = h }) (record { rest = b; held = with_key p key (record h { position = past (along key p) }) })) (sym old)
-        (subst (λ r. RunsTwice fetch_rest (record { rest = r; held = here }) (record { rest = b; held = with_key p key (record here { position = past (along key p) }) })) (sym (r.0))
-        (key_runs p x.tokens.all ks x.levels.indent x.levels.indents o.indent o.indents x.leading x.adjacent_value_at free z.stands.shallow z.stands.rest z.stands.deep z.stands.block z.stands.there key b t.simple t.short r.1))))))
+        rw (now, old, r.0) (key_runs p x.tokens.all ks x.levels.indent x.levels.indents o.indent o.indents x.leading x.adjacent_value_at free z.stands.shallow z.stands.rest z.stands.deep z.stands.block z.stands.there key b t.simple t.short r.1))))
 
     need_not : ((x.levels.indent == p.col + 1) && top_needs_block_end x.levels.indents) ≡ false → must_be_key here ≡ false
     unfolding must_be_key
@@ -125,13 +110,11 @@ module _ {T : Type 0} (x y : Fetcher T) (w : WindowView T) (limit : ℕ) (z : Aw
         let fits = z.stands.low (omega (arith, low)) in
         let few = fits.0 in
         let moved = t.at in
-        let after_is : position_of w ≡ record { index = p.index + length text + 1 + t.spaces; line = p.line + 1; col = t.spaces } = same_place (omega (arith, moved)) t.line t.col in
-        let now : held y ≡ with_line p text (record (held x) { position = record { index = p.index + length text + 1 + t.spaces; line = p.line + 1; col = t.spaces } }) = new ∙ ap (λ q. with_line p text (record (held x) { position = q })) after_is in
+        let line_end : Position = record { index = p.index + length text + 1 + t.spaces; line = p.line + 1; col = t.spaces } in
+        let after_is : position_of w ≡ line_end = same_place (omega (arith, moved)) t.line t.col in
+        let now : held y ≡ with_line p text (record here { position = line_end }) = new ∙ ap (λ q. with_line p text (record (held x) { position = q })) after_is ∙ ap (λ h. with_line p text (record h { position = line_end })) old in
         once (Reads-along _ _ _ _ refl window (Reads-map _ _ t.reads (λ a b r.
-        subst (λ h. fetch_rest (record { rest = a; held = held x }) ≡ Ok (record { rest = b; held = h })) (sym now)
-        (subst (λ h. fetch_rest (record { rest = a; held = h }) ≡ Ok (record { rest = b; held = with_line p text (record h { position = record { index = p.index + length text + 1 + t.spaces; line = p.line + 1; col = t.spaces } }) })) (sym old)
-        (subst (λ r. fetch_rest (record { rest = r; held = here }) ≡ Ok (record { rest = b; held = with_line p text (record here { position = record { index = p.index + length text + 1 + t.spaces; line = p.line + 1; col = t.spaces } }) })) (sym (r.0))
-        (line_runs p x.tokens.all ks x.levels.indent x.levels.indents o.indent o.indents x.leading x.adjacent_value_at free z.stands.shallow z.stands.rest z.stands.deep z.stands.block z.stands.there text t.spaces b t.simple r.1 (omega (arith, low, few)) (need_not fits.1)))))))
+        rw (now, old, r.0) (line_runs p x.tokens.all ks x.levels.indent x.levels.indents o.indent o.indents x.leading x.adjacent_value_at free z.stands.shallow z.stands.rest z.stands.deep z.stands.block z.stands.there text t.spaces b t.simple r.1 (omega (arith, low, few)) (need_not fits.1)))))
 
   pub key_does : {X E : Type 0} (v : X) (key : List ℕ) → TakesKey x.window w key → held y ≡ with_key p key (held (record x { window = w })) → Fetched {E = E} fetch_rest x (Ok v) y
   key_does v key t new =
@@ -144,11 +127,6 @@ module _ {T : Type 0} (x y : Fetcher T) (w : WindowView T) (limit : ℕ) (z : Aw
       line_steps (seen x.tokens.given split.0) (seen_free x.tokens.given split.0 split.2) (ap (seen x.tokens.given) split.1) v text t new
 
 -- ---- a fetch
-
-rest_of : (a b d : List ℕ) (h u v w x : Held) (n : ℕ) → skip_to_next_token (record { rest = a; held = h }) ≡ Ok (record { rest = b; held = u }) → stale u ≡ Ok v → n ≡ v.position.col + 1 → w ≡ unroll_indent n v
-    → fetch_rest (record { rest = b; held = w }) ≡ Ok (record { rest = d; held = x }) → fetch_next (record { rest = a; held = h }) ≡ Ok (record { rest = d; held = x })
-unfolding fetch_next fetch_rest
-rest_of a b d h u v w x n e f g i j = let j' = rw (i, g) at j in rw (e, f) j'
 
 -- after what stands before a token
 pub fetched_rest : {T X Y Z C D E : Type 0} {up down : ℕ} (x y1 v x2 y : Fetcher T) (n : ℕ) (u : Y) (c : Z) (r : X) → x2.window ≡ y1.window → Runs {E = C} skip_to_next_token x (Ok u) y1 up down → stale (held y1) ≡ Ok (held v) → n ≡ (held v).position.col + 1 → held x2 ≡ unroll_indent n (held v)

@@ -1,6 +1,8 @@
 -- What the model's fetches do at a key or a value of a block mapping that is a simple text.
-use Rattle.yaml_scanner.proofs.Common.{[], along, ap, append_assoc, arith, begin_pair, Bool, check_value_space, class_of, cleared, comes_marker, deepen, drop_open, drop_open_level, drop_stale, false, fetch, fetch_content, fetch_first_column, fetch_here, fetch_indented, fetch_next, fetch_plain_scalar, fetch_token, fetch_value, FetchesTwice, Held, if◌then◌else◌, in_block, Indent, indented, insert, insert_key, is_blank, is_blank_or_breakz, is_break, is_far, is_overdue, is_value, IsSimpleText, Key, key_tokens, le-ltb, length, level, List, list_any, lt-ltb, map, moved, must_be_key, nat_le, nat_lt, nat_tests, ne_eqb, None, Ok, Option, past, Position, refl, roll_indent, roll_one_col_indent, save_implicit_key, ScannerState, skip, skip_to_next_token, slice_index, Some, stale, still, Style, Tok, Token, token, top_needs_block_end, true, unroll_indent, unroll_non_block_indents, unrolled, without_open, ℕ, ◌&&◌, ◌++◌, ◌+◌, ◌<◌, ◌==◌, ◌||◌, ◌∙◌, ◌∷◌, ◌≡◌, ◌≤◌}
-use Rattle.yaml_scanner.proofs.PairTexts.{Opener, Simple, simple_text, along_is, plain_key, plain_value}
+use Rattle.yaml_scanner.proofs.Common.{[], along, ap, arith, Bool, class_of, cleared, comes_marker, drop_open, drop_open_level, drop_stale, ends_open, false, fetch, fetch_content, fetch_first_column, fetch_here, fetch_indented, fetch_next, fetch_plain_scalar, fetch_token, fetch_value, Held, if◌then◌else◌, in_block, Indent, indented, insert, is_blank, is_blank_or_breakz, is_break, is_far, is_overdue, is_value, IsSimpleText, Key, le-ltb, length, level, List, list_any, lt-ltb, map, moved, nat_le, nat_lt, nat_tests, ne_eqb, None, Ok, Option, past, Position, refl, roll_one_col_indent, save_implicit_key, ScannerState, skip, skip_to_next_token, slice_index, Some, stale, still, Style, sym, Tok, Token, token, top_needs_block_end, true, unroll_indent, unroll_non_block_indents, unrolled, without_open, ℕ, ◌&&◌, ◌++◌, ◌+◌, ◌<◌, ◌==◌, ◌||◌, ◌∙◌, ◌∷◌, ◌≡◌, ◌≤◌}
+use Rattle.yaml_scanner.proofs.HeldLemmas.{unroll_shallow, unrolled_done, without_block}
+use Rattle.yaml_scanner.proofs.LevelLemmas.{is_block}
+use Rattle.yaml_scanner.proofs.PairTexts.{Opener, Simple, simple_text, along_is, plain_value}
 
 -- ---- what a fetch does beside its token
 
@@ -11,16 +13,11 @@ at a s = record { rest = a; held = s }
 abbrev pub in_mapping : Position → List Token → List (Option Key) → ℕ → List Indent → Bool → Bool → ℕ → Held
 in_mapping p ts ks i ds allowed leading adjacent = record { position = p; tokens = ts; keys = ks; indents = ds; indent = i; flow = []; key_allowed = allowed; leading = leading; adjacent_value_at = adjacent; started = true; ended = false }
 
--- where nothing stands before the token, and no key is too far back: the levels that are deeper end
-fetched_after : (t : ScannerState) (a : List ℕ) (s v : Held) (u : ScannerState) → t.held.started ≡ true → skip_to_next_token t ≡ Ok (at a s) → stale s ≡ Ok s → unroll_indent (s.position.col + 1) s ≡ v → fetch_here (at a v) ≡ Ok u → stale u.held ≡ Ok u.held
-    → fetch t ≡ Ok u
-unfolding fetch fetch_next
-fetched_after t a s v u started skips fresh ends here after = rw (skips, started, fresh, ends, here, after) refl
-
--- the same where no level ends
+-- where nothing stands before the token, no key is too far back, and no level ends
 pub fetched : (t : ScannerState) (a : List ℕ) (s : Held) (u : ScannerState) → t.held.started ≡ true → skip_to_next_token t ≡ Ok (at a s) → stale s ≡ Ok s → unroll_indent (s.position.col + 1) s ≡ s → fetch_here (at a s) ≡ Ok u → stale u.held ≡ Ok u.held
     → fetch t ≡ Ok u
-fetched t a s u started skips fresh stays here after = fetched_after t a s s u started skips fresh stays here after
+unfolding fetch fetch_next
+fetched t a s u started skips fresh stays here after = rw (skips, started, fresh, stays, here, after) refl
 
 pub none_overdue : (p : Position) (ks : List (Option Key)) → cleared ks ≡ ks → (list_any (is_overdue p) ks ≡ false) × (map (still p) ks ≡ ks)
 none_overdue p [] e = (refl, refl)
@@ -39,21 +36,15 @@ pub near_stale : (s : Held) (k : Key) (ks : List (Option Key)) → s.flow ≡ []
 unfolding stale
 near_stale s k ks flow keys near e = let stay : drop_stale s.position s.keys ≡ Ok s.keys = rw keys (near_stay s.position k ks near e) in rw (flow, stay) refl
 
-unrolled_none : (limit : ℕ) (p : Position) (i : ℕ) (ds : List Indent) (ts : List Token) → i ≤ limit → unrolled limit p i ds ts ≡ record { indent = i; indents = ds; tokens = ts }
-unfolding unrolled
-unrolled_none limit p i [] ts low = refl
-unrolled_none limit p i (d ∷ ds) ts low = rw (le-ltb limit i low) refl
-
 pub none_end : (s : Held) → s.flow ≡ [] → s.indent ≤ s.position.col + 1 → unroll_indent (s.position.col + 1) s ≡ s
-unfolding unroll_indent
-none_end s flow low = rw (flow, unrolled_none (s.position.col + 1) s.position s.indent s.indents s.tokens low) refl
+none_end s flow low = sym (unroll_shallow (s.position.col + 1) s low)
 
 -- a level that opens no collection ends
-open_ends : (p : Position) (ts : List Token) (ks : List (Option Key)) (ds : List Indent) (leading : Bool) (adjacent : ℕ)
+pub open_ends : (p : Position) (ts : List Token) (ks : List (Option Key)) (ds : List Indent) (leading : Bool) (adjacent : ℕ)
     → unroll_indent (p.col + 1) (in_mapping p ts ks (p.col + 1 + 1) (level (p.col + 1) false ∷ ds) true leading adjacent) ≡ in_mapping p ts ks (p.col + 1) ds true leading adjacent
 unfolding unroll_indent unrolled
 open_ends p ts ks ds leading adjacent =
-    rw (lt-ltb (p.col + 1) (p.col + 1 + 1) (omega arith), unrolled_none (p.col + 1) p (p.col + 1) ds ts (omega arith)) refl
+    rw (lt-ltb (p.col + 1) (p.col + 1 + 1) (omega arith), unrolled_done (p.col + 1) p (p.col + 1) ds ts (omega arith)) refl
 
 pub solid_here : (c : ℕ) (a : List ℕ) (s : Held) → is_break c ≡ false → (c == 9) ≡ false → is_blank c ≡ false → (c == 35) ≡ false → skip_to_next_token (at (c ∷ a) s) ≡ Ok (at (c ∷ a) s)
 unfolding skip_to_next_token skip
@@ -81,28 +72,14 @@ value_here d a s blank off low = rw (ne_eqb s.position.col 0 (λ e. omega (arith
 
 -- ---- levels
 
-block_stays : (i : ℕ) (ds : List Indent) (ts : List Token) → top_needs_block_end ds ≡ true → without_open i ds ts ≡ record { indent = i; indents = ds; tokens = ts }
-unfolding without_open
-block_stays i [] ts e = absurd cc
-block_stays i (d ∷ ds) ts e = rw e refl
-
--- outside flow, inside a block collection that stands at the column
-none_dropped : (col : ℕ) (s : Held) → top_needs_block_end s.indents ≡ true → drop_open_level col s ≡ s
+-- outside flow, where the innermost level is no open one
+pub kept_level : (col : ℕ) (s : Held) → ends_open s.indents ≡ false → drop_open_level col s ≡ s
 unfolding drop_open_level
-none_dropped col s block = by (nat_le s.indent (col + 1)) s.indents block
+kept_level col s block = by s.indents block
   where
-    by : (b : Bool) (ds : List Indent) → top_needs_block_end ds ≡ true → (if b then drop_open s ds else s) ≡ s
-    by false ds h = refl
-    by true [] h = absurd cc
-    by true (d ∷ ds) h = rw h refl
-
-pub none_deeper : (col : ℕ) (n : Option ℕ) (t : Token) (s : Held) → s.indent ≡ col + 1 → deepen col n t s ≡ s
-unfolding deepen
-none_deeper col n t s e = rw (le-ltb s.indent (col + 1) (omega (arith, e))) refl
-
-opens_none : (col n : ℕ) (t : Tok) (p : Position) (s : Held) → s.flow ≡ [] → s.indent ≡ col + 1 → top_needs_block_end s.indents ≡ true → roll_indent col (Some n) t p s ≡ s
-unfolding roll_indent
-opens_none col n t p s flow indent block = rw (none_dropped col s block, none_deeper col (Some n) (token p t) s indent, flow) refl
+    by : (ds : List Indent) → ends_open ds ≡ false → (if nat_le s.indent (col + 1) then drop_open s ds else s) ≡ s
+    by [] h = grind arith
+    by (d ∷ ds) h = grind arith
 
 pub one_deeper : (s : Held) → s.flow ≡ [] → top_needs_block_end s.indents ≡ true → roll_one_col_indent s ≡ record s { indents = level s.indent false ∷ s.indents; indent = s.indent + 1 }
 unfolding roll_one_col_indent in_block
@@ -128,88 +105,6 @@ pub near_along : (w : List ℕ) (p : Position) → length w ≤ 1024 → is_far 
 unfolding is_far
 near_along w p h = rw (along_is w p, le-ltb p.line p.line (omega arith), le-ltb (p.index + 1024) (p.index + length w) (omega (arith, h))) refl
 
-module _ (p : Position) (ts : List Token) (ks : List (Option Key)) (ds : List Indent) (leading : Bool) (adjacent : ℕ) (free : cleared ks ≡ ks) (block : top_needs_block_end ds ≡ true) where
-  abbrev i : ℕ
-  i = p.col + 1
-
-  abbrev before : Held
-  before = in_mapping p ts (None ∷ ks) i ds true leading adjacent
-
-  -- the same after a value that has left its level open
-  abbrev before_open : Held
-  before_open = in_mapping p ts (None ∷ ks) (i + 1) (level i false ∷ ds) true leading adjacent
-
-  abbrev pub before_key : (opens : Bool) → Held
-  before_key true = before
-  before_key false = before_open
-
-  abbrev key_here : Key
-  key_here = record { required = must_be_key before; number = length ts; position = p }
-
-  -- after the scalar
-  abbrev after_scalar : List ℕ → Held
-  after_scalar w = in_mapping (along w p) (ts ++ token p (Tok.scalar Style.plain w) ∷ []) (Some key_here ∷ ks) i ds false false adjacent
-
-  -- after the `:`
-  abbrev pub after_colon : List ℕ → Held
-  after_colon w = in_mapping (past (along w p)) (ts ++ key_tokens p w (along w p)) (None ∷ ks) (i + 1) (level i false ∷ ds) false false adjacent
-
-  key_scalar : (text : List ℕ) (d : ℕ) (a : List ℕ) → Simple text → is_blank_or_breakz d ≡ true → fetch_plain_scalar (at (text ++ 58 ∷ d ∷ a) before) ≡ Ok (at (58 ∷ d ∷ a) (after_scalar text))
-  unfolding fetch_plain_scalar save_implicit_key unroll_non_block_indents
-  key_scalar text d a z blank =
-      let scanned = plain_key i p z.head z.tail d a z.chars z.close (omega arith) blank in
-      rw (z.whole, block_stays i ds ts block, scanned) refl
-
-  key_fetch : (opens : Bool) (text : List ℕ) (d : ℕ) (a : List ℕ) → Simple text → length text ≤ 1024 → is_blank_or_breakz d ≡ true → fetch (at (text ++ 58 ∷ d ∷ a) (before_key opens)) ≡ Ok (at (58 ∷ d ∷ a) (after_scalar text))
-  key_fetch opens text d a z short blank = rw same (by opens)
-    where
-      o : Opener z.head
-      o = z.opens
-
-      rest : List ℕ
-      rest = z.tail ++ 58 ∷ d ∷ a
-
-      same : text ++ 58 ∷ d ∷ a ≡ z.head ∷ rest
-      same = ap (λ t. t ++ 58 ∷ d ∷ a) z.whole
-
-      here : fetch_here (at (z.head ∷ rest) before) ≡ Ok (at (58 ∷ d ∷ a) (after_scalar text))
-      here = plain_here z.head rest before o (omega arith) ∙ rw same at (key_scalar text d a z blank)
-
-      after : stale (after_scalar text) ≡ Ok (after_scalar text)
-      after = near_stale (after_scalar text) key_here ks refl refl (near_along text p short) free
-
-      by : (b : Bool) → fetch (at (z.head ∷ rest) (before_key b)) ≡ Ok (at (58 ∷ d ∷ a) (after_scalar text))
-      by true = fetched (at (z.head ∷ rest) before) (z.head ∷ rest) before (at (58 ∷ d ∷ a) (after_scalar text)) refl (solid_here z.head rest before o.break o.tab o.blank o.hash) (none_stale before refl (ap (λ l. None ∷ l) free)) (none_end before refl (omega arith)) here after
-      by false = fetched_after (at (z.head ∷ rest) before_open) (z.head ∷ rest) before_open before (at (58 ∷ d ∷ a) (after_scalar text)) refl (solid_here z.head rest before_open o.break o.tab o.blank o.hash) (none_stale before_open refl (ap (λ l. None ∷ l) free)) (open_ends p ts (None ∷ ks) ds leading adjacent) here after
-
-  key_value : (text : List ℕ) (d : ℕ) (a : List ℕ) → (d == 9) ≡ false → fetch_value (at (58 ∷ d ∷ a) (after_scalar text)) ≡ Ok (at (d ∷ a) (after_colon text))
-  unfolding fetch_value insert_key begin_pair check_value_space
-  key_value text d a tab =
-      let s = record (after_scalar text) { position = past (along text p); tokens = ts ++ token p Tok.key ∷ token p (Tok.scalar Style.plain text) ∷ [] } in
-      rw (
-        tab,
-        insert_key_token ts (token p Tok.key) (token p (Tok.scalar Style.plain text)),
-        opens_none p.col (length ts) Tok.block_mapping_start (along text p) s refl refl block,
-        one_deeper s refl block,
-        append_assoc ts (token p Tok.key ∷ token p (Tok.scalar Style.plain text) ∷ []) (token (along text p) Tok.value ∷ []),
-      ) refl
-
-  colon_fetch : (text : List ℕ) (d : ℕ) (a : List ℕ) → 0 < length text → length text ≤ 1024 → is_blank_or_breakz d ≡ true → (d == 9) ≡ false → fetch (at (58 ∷ d ∷ a) (after_scalar text)) ≡ Ok (at (d ∷ a) (after_colon text))
-  unfolding is_break is_blank
-  colon_fetch text d a some short blank tab =
-      let s = after_scalar text in
-      let col : (along text p).col ≡ p.col + length text = ap (λ q. q.col) (along_is text p) in
-      fetched (at (58 ∷ d ∷ a) s) (58 ∷ d ∷ a) s (at (d ∷ a) (after_colon text)) refl (solid_here 58 (d ∷ a) s refl refl refl refl) (near_stale s key_here ks refl refl (near_along text p short) free) (none_end s refl (omega (arith, col)))
-      (value_here d a s blank (omega (arith, col, some)) (omega (arith, col)) ∙ key_value text d a tab)
-      (none_stale (after_colon text) refl (ap (λ l. None ∷ l) free))
-
-  -- a key and its `:`
-  pub key_fetched : (opens : Bool) (text : List ℕ) (b : List ℕ) → IsSimpleText text → length text ≤ 1024 → ((slice_index b 0 == 32) || (slice_index b 0 == 10)) ≡ true → FetchesTwice (at (text ++ 58 ∷ b) (before_key opens)) (at b (after_colon text))
-  key_fetched opens text [] simple short next = absurd cc
-  key_fetched opens text (d ∷ a) simple short next =
-      let blank = follows_blank d next in
-      record { between = at (58 ∷ d ∷ a) (after_scalar text); first = key_fetch opens text d a (simple_text text simple) short blank.0; going = refl; second = colon_fetch text d a simple.some short blank.0 blank.1 }
-
 -- ---- a value
 
 module _ (p : Position) (ts : List Token) (ks : List (Option Key)) (m i : ℕ) (ds : List Indent) (leading : Bool) (adjacent : ℕ) (free : cleared ks ≡ ks) (block : top_needs_block_end ds ≡ true) (deep : m ≤ p.col + 2) (limit : i ≤ p.col + 2) where
@@ -224,7 +119,7 @@ module _ (p : Position) (ts : List Token) (ks : List (Option Key)) (m i : ℕ) (
   value_scalar text n e a z solid visible low =
       let scanned = plain_value i (past p) z.head z.tail n e a z.chars z.close (omega (arith, limit)) solid visible low in
       let place : p.index + 1 + length (z.head ∷ z.tail) + 1 + n ≡ p.index + length (z.head ∷ z.tail) + 2 + n = omega arith in
-      rw (z.whole, block_stays i ds ts block, scanned, place) refl
+      rw (z.whole, without_block i ds ts (is_block ds block), scanned, place) refl
 
   pub value_fetched : (text : List ℕ) (n : ℕ) (b : List ℕ) → IsSimpleText text → (nat_lt 32 (slice_index b 0) && nat_lt (slice_index b 0) 127) ≡ true → n < i → fetch (at (32 ∷ (text ++ 10 ∷ indented n b)) waits) ≡ Ok (at b (after_value text n))
   value_fetched text n [] simple visible low = absurd cc

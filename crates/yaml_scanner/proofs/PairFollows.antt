@@ -1,29 +1,18 @@
 -- Two tokens that are handed out at once, against the model's runs.
-use Rattle.yaml_scanner.proofs.Common.{[], along, ap, append_assoc, arith, AwaitsKey, AwaitsValue, Bool, cleared, Columns, drop, ErrorReport, false, Fault, fetch, Fetcher, Fetches, FetchesTwice, Follows, handed, HandsBoth, held, ImplicitKey, Indent, inside, is_end, Key, key_tokens, length, length-append, level, levels_after, List, map, no_implicit, None, none_front, none_lowered, Ok, one_more, Option, option_map, OutOfMemory, past, Position, position_of, Reaches, Reads, refl, Scanned, seen, Some, StandsAt, start, state, Style, subst, suc, sym, take, TakesKey, TakesValue, Tok, Token, token, Tokens, top_needs_block_end, true, value_level, WindowView, work, ℕ, ◌++◌, ◌+◌, ◌-◌, ◌<◌, ◌||◌, ◌∙◌, ◌∷◌, ◌≡◌, ◌≤◌}
+use Rattle.yaml_scanner.proofs.Common.{[], along, ap, append_assoc, arith, AwaitsKey, AwaitsValue, Bool, cleared, Columns, ErrorReport, false, Fault, Fetcher, Fetches, FetchesTwice, Follows, handed, HandsBoth, held, ImplicitKey, Indent, inside, is_end, Key, key_tokens, length, length-append, level, levels_after, List, map, no_implicit, None, none_front, none_lowered, one_more, Option, option_map, OutOfMemory, past, Position, position_of, Reads, refl, Scanned, seen, Some, StandsAt, state, Style, subst, suc, sym, take, take-append-add, take-append_seam, take-length, TakesKey, TakesValue, Tok, Token, token, Tokens, top_needs_block_end, true, value_level, WindowView, work, ℕ, ◌++◌, ◌+◌, ◌-◌, ◌<◌, ◌||◌, ◌∙◌, ◌∷◌, ◌≡◌, ◌≤◌}
 use Rattle.yaml_tokens.specs.Problem.{fault_of}
 use Rattle.yaml_scanner.proofs.ReadsLemmas.{Reads-map}
-use Rattle.yaml_scanner.proofs.FollowLemmas.{fetched_on, handed_on}
+use Rattle.yaml_scanner.proofs.FollowLemmas.{fetched_on, handed_on, went_on}
 use Rattle.yaml_scanner.proofs.PairTexts.{same_place, along_is}
-use Rattle.yaml_scanner.proofs.PairFetches.{in_mapping, key_fetched, value_fetched, before_key, after_colon, after_value}
+use Rattle.yaml_scanner.proofs.PairFetches.{in_mapping, value_fetched, after_value}
+use Rattle.yaml_scanner.proofs.NodeFetches.{key_fetched, before_key, after_key}
 
 -- two fetches more
 pub fetched_twice : {T : Type 0} (x y : Fetcher T) → x.kept ≡ None → x.tokens.ended ≡ false → Follows x → Reads x.window y.window (λ a b. FetchesTwice (state a x) (state b y)) → Fetches x y → (y.tokens.ended ≡ true → y.window.done ≡ true) → Follows y
 fetched_twice x y k g f d m n = λ a p.
     let old = f a (d.back a p) in
     let z = d.reads a p in
-    let run : Reaches (start a) (state (drop y.window.at a) y) = one_more (one_more (old.run k g) g z.first) z.going z.second in
-    record {
-      run = λ _ _. run;
-      all = λ _ e. record { whole = record { end = state (drop y.window.at a) y; run = run; ended = e; tokens = refl }; position = refl; began = refl };
-      done = λ _ e. n e;
-      reached = rw m.given old.reached;
-      begins = λ ts h. rw m.given (old.begins ts h);
-      whole = λ o. rw m.given (old.whole (sym m.over ∙ o));
-      refused = rw (m.fault, k) tt;
-      settled = rw (m.fault, k) tt;
-      open_end = λ o. rw m.given (old.open_end (sym m.over ∙ o));
-      backlog = rw m.backlog old.backlog;
-    }
+    went_on x y k m n a old (one_more (one_more (old.run k g) g z.first) z.going z.second)
 
 -- memory was refused, as callers see it
 pub memory_kept : (e : Fault) (m : Position) (r : ErrorReport) → r ≡ fault_of e m → e ≡ OutOfMemory → r.memory ≡ true
@@ -31,28 +20,14 @@ memory_kept e m r h f = rw (h, f) refl
 
 -- ---- tokens
 
-taken_all : (xs ys : List Token) (n : ℕ) → n ≡ length xs → take n (xs ++ ys) ≡ xs
-taken_all xs ys n e = rw e (by xs ys)
-  where
-    by : (xs ys : List Token) → take (length xs) (xs ++ ys) ≡ xs
-    by [] ys = refl
-    by (x ∷ xs) ys = ap (λ zs. x ∷ zs) (by xs ys)
-
-one_after : (xs ys : List Token) (t : Token) (n : ℕ) → n ≡ length xs → take (n + 1) (xs ++ t ∷ ys) ≡ xs ++ t ∷ []
-one_after xs ys t n e = ap (take (n + 1)) (sym (append_assoc xs (t ∷ []) ys)) ∙ taken_all (xs ++ t ∷ []) ys (n + 1) (rw e (sym (length-append xs (t ∷ []))))
-
-or_false : (b : Bool) → b ≡ (b || false)
-or_false true = refl
-or_false false = refl
-
 -- a token is handed out that is not the end, where nothing may be a key
 one_handed : {T : Type 0} (x : Fetcher T) (gs us : List Token) (t : Token) → x.kept ≡ None → x.tokens.over ≡ false → map no_implicit x.keys ≡ x.keys → x.tokens.all ≡ gs ++ t ∷ us → x.tokens.given ≡ length gs → is_end t.tok ≡ false → Follows x
     → Follows (record x { tokens = record x.tokens { given = x.tokens.given + 1 } })
 one_handed x gs us t k o free all given end f =
     let q : Tokens = record x.tokens { given = x.tokens.given + 1 } in
-    let made : q ≡ record x.tokens { given = x.tokens.given + 1; over = x.tokens.over || is_end t.tok } = ap (λ b. record x.tokens { given = x.tokens.given + 1; over = b }) (rw end (or_false x.tokens.over)) in
-    let before : handed x.tokens ≡ gs = rw all (taken_all gs (t ∷ us) x.tokens.given given) in
-    let after : handed q ≡ handed x.tokens ++ t ∷ [] = rw (before, all) (one_after gs us t x.tokens.given given) in
+    let made : q ≡ record x.tokens { given = x.tokens.given + 1; over = x.tokens.over || is_end t.tok } = ap (λ b. record x.tokens { given = x.tokens.given + 1; over = b }) (rw (end, o) refl) in
+    let before : handed x.tokens ≡ gs = rw (all, given) (take-append_seam gs (t ∷ us)) in
+    let after : handed q ≡ handed x.tokens ++ t ∷ [] = rw (before, all, given) (take-append-add gs (t ∷ us) 1) in
     handed_on x q x.keys t k o (λ _. none_front x.keys free) made after (sym (none_lowered x.keys free)) f
 
 both_handed : {T : Type 0} (x : Fetcher T) (gs us : List Token) (t u : Token) → x.kept ≡ None → x.tokens.over ≡ false → map no_implicit x.keys ≡ x.keys → x.tokens.all ≡ gs ++ t ∷ u ∷ us → x.tokens.given ≡ length gs → is_end t.tok ≡ false → is_end u.tok ≡ false → Follows x
@@ -65,12 +40,6 @@ both_handed x gs us t u k o free all given te ue f =
     let sum : x.tokens.given + 1 + 1 ≡ x.tokens.given + 2 = omega arith in
     subst (λ n. Follows (record x { tokens = record x.tokens { given = n } })) sum two
 
-two_after : (gs us : List Token) (t u : Token) (n : ℕ) → n ≡ length gs → take (n + 2) (gs ++ t ∷ u ∷ us) ≡ (gs ++ t ∷ []) ++ u ∷ []
-two_after gs us t u n e =
-    let count : n + 1 ≡ length (gs ++ t ∷ []) = rw e (sym (length-append gs (t ∷ []))) in
-    let sum : n + 2 ≡ n + 1 + 1 = omega arith in
-    ap (λ m. take m (gs ++ t ∷ u ∷ us)) sum ∙ ap (take (n + 1 + 1)) (sym (append_assoc gs (t ∷ []) (u ∷ us))) ∙ one_after (gs ++ t ∷ []) us u (n + 1) count
-
 -- two tokens more, as callers see it
 hands_both : {T : Type 0} (x y : Fetcher T) (gs us : List Token) (t u : Token) → x.kept ≡ None → x.tokens.over ≡ false → y.kept ≡ x.kept → y.tokens.over ≡ x.tokens.over → handed x.tokens ≡ gs → y.tokens.all ≡ gs ++ t ∷ u ∷ us → y.tokens.given ≡ length gs + 2
     → is_end t.tok ≡ false → is_end u.tok ≡ false → work y + 1 < work x → HandsBoth (inside x) t u (inside y)
@@ -82,7 +51,7 @@ hands_both x y gs us t u k o kept over given all count te ue less =
       first = record { going = (o, fault); given = refl; fault = fault; ended = o ∙ sym te; left = less };
       second = record {
         going = (o, fault);
-        given = rw (all, count, given) (two_after gs us t u (length gs) refl);
+        given = rw (all, count, given) (take-append-add gs (t ∷ u ∷ us) 2 ∙ sym (append_assoc gs (t ∷ []) (u ∷ [])));
         fault = ap (option_map (fault_of y.fault)) (kept ∙ k);
         ended = over ∙ o ∙ sym ue;
         left = omega arith;
@@ -106,16 +75,7 @@ seen_free g (Some k ∷ js) e = absurd cc
 pub levels_split : (ds : List Indent) (limit : ℕ) → value_level ds ≡ Some limit → (es : List Indent) × (ds ≡ level limit false ∷ es) × (top_needs_block_end es ≡ true)
 levels_split [] limit e = absurd cc
 levels_split (d ∷ []) limit e = absurd cc
-levels_split (d ∷ g ∷ ds) limit e = by d.needs_block_end g.needs_block_end refl refl
-  where
-    by : (b c : Bool) → d.needs_block_end ≡ b → g.needs_block_end ≡ c → (es : List Indent) × (d ∷ g ∷ ds ≡ level limit false ∷ es) × (top_needs_block_end es ≡ true)
-    by true c h k = let n = rw h at e in absurd cc
-    by false false h k = let n = rw (h, k) at e in absurd cc
-    by false true h k =
-        let one : Some d.indent ≡ Some limit = rw (h, k) at e in
-        let width : d.indent ≡ limit = cc in
-        let top : d ≡ level limit false = ap (λ i. level i d.needs_block_end) width ∙ ap (λ n. level limit n) h in
-        (g ∷ ds, ap (λ i. i ∷ g ∷ ds) top, k)
+levels_split (d ∷ g ∷ ds) limit e = (g ∷ ds, grind arith, grind arith)
 
 abbrev columns : ℕ → List Indent → Columns
 columns i ds = record { indent = i; indents = ds }
@@ -169,10 +129,6 @@ module _ {T : Type 0} (x : Fetcher T) (w : WindowView T) (key : List ℕ) (colon
   after_is : position_of w ≡ past (along key p)
   after_is = same_place t.at t.line t.col ∙ sym (ap past (along_is key p))
 
-  all_of : (xs : List Token) → take (length xs) xs ≡ xs
-  all_of [] = refl
-  all_of (x ∷ xs) = ap (λ ys. x ∷ ys) (all_of xs)
-
   held_before : (ds : List Indent) (ks : List (Option Key)) (l : Columns) (free : cleared ks ≡ ks) (block : top_needs_block_end ds ≡ true) → l ≡ levels_at p.col opens ds → seen x.tokens.given x.keys ≡ None ∷ ks
       → held (record x { levels = l }) ≡ before_key p x.tokens.all ks ds x.leading x.adjacent_value_at free block opens
   held_before ds ks l free block e keys = by opens e
@@ -192,11 +148,10 @@ module _ {T : Type 0} (x : Fetcher T) (w : WindowView T) (key : List ℕ) (colon
       let o = outside_of p.col opens x.levels z.stands in
       let before = before_key p x.tokens.all ks o.ds x.leading x.adjacent_value_at free o.block opens in
       let old : held x ≡ before = held_before o.ds ks x.levels free o.block o.before keys in
-      let new : held y ≡ after_colon p x.tokens.all ks o.ds x.leading x.adjacent_value_at free o.block key = rw (s.flow, s.started, s.ended, o.after, keys, colon_is, after_is) refl in
+      let new : held y ≡ after_key p x.tokens.all ks o.ds x.leading x.adjacent_value_at free o.block key = rw (s.flow, s.started, s.ended, o.after, keys, colon_is, after_is) refl in
       fetched_twice x y s.kept s.ended f
-      (Reads-map _ _ t.reads (λ a b r. subst (λ h. FetchesTwice (record { rest = a; held = h }) (state b y)) (sym old) (subst (λ h. FetchesTwice (record { rest = a; held = before }) (record { rest = b; held = h })) (sym new)
-      (rw r.0 (key_fetched p x.tokens.all ks o.ds x.leading x.adjacent_value_at free o.block opens key b t.simple t.short r.1)))))
-      (record { given = rw z.waits (taken_all x.tokens.all (key_tokens p key colon) (length x.tokens.all) refl ∙ sym (all_of x.tokens.all)); over = refl; fault = refl; backlog = refl })
+      (Reads-map _ _ t.reads (λ a b r. rw (old, new, r.0) (key_fetched p x.tokens.all ks o.ds x.leading x.adjacent_value_at free o.block opens key b t.simple t.short r.1)))
+      (record { given = rw z.waits (take-append_seam x.tokens.all (key_tokens p key colon) ∙ sym (take-length x.tokens.all)); over = refl; fault = refl; backlog = refl })
       (λ e. absurd (cc (e, s.ended)))
 
   pub key_follows : Follows x → Follows (key_fetcher (x.tokens.given + 2))
@@ -217,7 +172,7 @@ module _ {T : Type 0} (x : Fetcher T) (w : WindowView T) (key : List ℕ) (colon
   key_handed =
       let s = z.settled in
       let waits = z.waits in
-      hands_both x (key_fetcher (x.tokens.given + 2)) x.tokens.all (token colon Tok.value ∷ []) (token p Tok.key) (token p (Tok.scalar Style.plain key)) s.kept s.over refl refl (rw waits (all_of x.tokens.all)) refl (rw waits refl) refl refl
+      hands_both x (key_fetcher (x.tokens.given + 2)) x.tokens.all (token colon Tok.value ∷ []) (token p Tok.key) (token p (Tok.scalar Style.plain key)) s.kept s.over refl refl (rw waits (take-length x.tokens.all)) refl (rw waits refl) refl refl
       (key_less _ refl (levels_more opens x.levels))
 
 -- ---- a value
@@ -274,10 +229,9 @@ module _ {T : Type 0} (x : Fetcher T) (w : WindowView T) (value : List ℕ) (at 
       let after = after_value q x.tokens.all ks x.levels.indent limit l.indents x.leading x.adjacent_value_at free split.1 z.deep z.off value t.spaces in
       let old : held x ≡ before = rw (s.flow, s.started, s.ended, z.allowed, indents) refl in
       let new : held y ≡ after = rw (s.flow, s.started, s.ended, is, value_after, split.0) refl in
-      let same : handed y.tokens ≡ handed x.tokens = ap (take x.tokens.given) tokens_are ∙ taken_all (handed x.tokens) (token at Tok.value ∷ scalar ∷ []) x.tokens.given gone in
+      let same : handed y.tokens ≡ handed x.tokens = ap (take x.tokens.given) tokens_are ∙ ap (λ n. take n (handed x.tokens ++ token at Tok.value ∷ scalar ∷ [])) gone ∙ take-append_seam (handed x.tokens) (token at Tok.value ∷ scalar ∷ []) in
       fetched_on x y s.kept s.ended f
-      (Reads-map _ _ t.reads (λ a b r. subst (λ h. fetch (record { rest = a; held = h }) ≡ Ok (state b y)) (sym old) (subst (λ h. fetch (record { rest = a; held = before }) ≡ Ok (record { rest = b; held = h })) (sym new)
-      (rw r.0 (value_fetched q x.tokens.all ks x.levels.indent limit l.indents x.leading x.adjacent_value_at free split.1 z.deep z.off value t.spaces b t.simple r.1 t.low)))))
+      (Reads-map _ _ t.reads (λ a b r. rw (old, new, r.0) (value_fetched q x.tokens.all ks x.levels.indent limit l.indents x.leading x.adjacent_value_at free split.1 z.deep z.off value t.spaces b t.simple r.1 t.low)))
       (record { given = same; over = refl; fault = refl; backlog = refl })
       (λ e. absurd (cc (e, s.ended)))
 

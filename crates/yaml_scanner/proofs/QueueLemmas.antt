@@ -1,6 +1,6 @@
 -- Lemmas about the queue of tokens.
-use Rattle.std.proofs.Common.{◌≡◌, ℕ, ◌+◌, ◌-◌, Bool, true, false, ◌||◌, List, [], ◌∷◌, ◌++◌, map, length, take, drop, refl, ap, sym, ◌∙◌, append_assoc, append-nil, arith, length-append, ◌≤◌, suc}
-use Rattle.std.proofs.lemmas.List.{map-append, take-map, drop-map, take_all, drop_all, take-append-drop}
+use Rattle.std.proofs.Common.{◌≡◌, ℕ, ◌+◌, ◌-◌, true, ◌||◌, List, [], ◌∷◌, ◌++◌, map, length, take, drop, refl, ap, sym, ◌∙◌, append_assoc, append-nil, arith, length-append, ◌≤◌}
+use Rattle.std.proofs.lemmas.List.{length-map, map-append, take-map, drop-map, take_all, drop_all, take-append-drop}
 use Rattle.std.proofs.lemmas.List.Edits.{insert-append_right}
 use Rattle.std.specs.List.{insert}
 use Rattle.yaml_tokens.specs.declared.token.Token.{Token}
@@ -9,12 +9,8 @@ use Rattle.yaml_scanner.specs.Tokens.{is_end, has_end, end_at}
 use Rattle.defs_text.specs.Position.{Position}
 use Rattle.defs_token.specs.Token as seen
 
-length_shown : (w : List Token) → length (map shown w) ≡ length w
-length_shown [] = refl
-length_shown (t ∷ w) = ap suc (length_shown w)
-
 pub waiting_len : (g w : List Token) → length g + length w ≡ length (map shown g ++ map shown w)
-waiting_len g w = simp (length-append, length_shown) refl
+waiting_len g w = simp (length-append, length-map) refl
 
 pub push_shown : (g w v : List Token) (t : Token) → v ≡ w ++ t ∷ [] → map shown g ++ map shown v ≡ (map shown g ++ map shown w) ++ shown t ∷ []
 push_shown g w v t e = rw (e, map-append shown w (t ∷ [])) (sym (append_assoc (map shown g) (map shown w) (shown t ∷ [])))
@@ -29,7 +25,7 @@ minus : (n i : ℕ) → i ≡ n + i - n
 minus n i = omega arith
 
 pub insert_shown : (g w v : List Token) (i : ℕ) (t : Token) → v ≡ insert w i t → map shown g ++ map shown v ≡ insert (map shown g ++ map shown w) (length g + i) (shown t)
-insert_shown g w v i t e = rw (e, map_insert w i t) (ap (λ x. map shown g ++ insert (map shown w) x (shown t)) (minus (length g) i) ∙ sym (insert-append_right (map shown g) (map shown w) (length g) (length g + i) (shown t) (length_shown g) (omega arith)))
+insert_shown g w v i t e = rw (e, map_insert w i t) (ap (λ x. map shown g ++ insert (map shown w) x (shown t)) (minus (length g) i) ∙ sym (insert-append_right (map shown g) (map shown w) (length g) (length g + i) (shown t) (length-map g shown) (omega arith)))
 
 pub give_shown : (g h w v : List Token) (t : Token) → w ≡ t ∷ v → h ≡ g ++ t ∷ [] → map shown h ++ map shown v ≡ map shown g ++ map shown w
 give_shown g h w v t e f = rw (e, f, map-append shown g (t ∷ [])) (append_assoc (map shown g) (shown t ∷ []) (map shown v))
@@ -37,17 +33,9 @@ give_shown g h w v t e f = rw (e, f, map-append shown g (t ∷ [])) (append_asso
 pub give_len : (g h : List Token) (t : Token) → h ≡ g ++ t ∷ [] → length h ≡ length g + 1
 give_len g h t e = rw e (simp length-append refl)
 
-or_true : (b : Bool) → b || true ≡ true
-or_true true = refl
-or_true false = refl
-
 pub has_end_append : (ts us : List seen.Token) → has_end (ts ++ us) ≡ has_end ts || has_end us
 has_end_append [] us = refl
-has_end_append (t ∷ ts) us = or_of (is_end t.tok) (has_end (ts ++ us)) (has_end ts) (has_end us) (has_end_append ts us)
-  where
-    or_of : (a b c d : Bool) → b ≡ c || d → a || b ≡ (a || c) || d
-    or_of true b c d e = refl
-    or_of false b c d e = e
+has_end_append (t ∷ ts) us = let rest = has_end_append ts us in grind arith
 
 -- the end still waits after a push
 pub push_keeps : (w v : List Token) (t : Token) → v ≡ w ++ t ∷ [] → has_end (map shown w) ≡ true → has_end (map shown v) ≡ true
@@ -58,18 +46,13 @@ pub insert_keeps : (w v : List Token) (i : ℕ) (t : Token) → v ≡ insert w i
 insert_keeps w v i t e h =
     let parts : has_end (map shown (take i w)) || has_end (map shown (drop i w)) ≡ true =
     sym (ap (λ xs. has_end (map shown xs)) (sym (take-append-drop i w)) ∙ ap has_end (map-append shown (take i w) (drop i w)) ∙ has_end_append (map shown (take i w)) (map shown (drop i w))) ∙ h in
-    rw (e, map-append shown (take i w) (t ∷ drop i w), has_end_append (map shown (take i w)) (map shown (t ∷ drop i w))) (between (has_end (map shown (take i w))) (is_end (shown t).tok) (has_end (map shown (drop i w))) parts)
-  where
-    between : (a b c : Bool) → a || c ≡ true → a || (b || c) ≡ true
-    between true b c h = refl
-    between false true c h = refl
-    between false false c h = h
+    rw (e, map-append shown (take i w) (t ∷ drop i w), has_end_append (map shown (take i w)) (map shown (t ∷ drop i w))) (grind (arith, parts))
 
 -- the end waits once it was pushed
 pub end_waits : (w v : List Token) (t : Token) (p : Position) → shown t ≡ end_at p → v ≡ w ++ t ∷ [] → has_end (map shown v) ≡ true
 end_waits w v t p end e =
     let last : is_end (tok_of t.1) ≡ true = ap (λ (s : seen.Token). is_end s.tok) end in
-    rw (e, map-append shown w (t ∷ []), has_end_append (map shown w) (map shown (t ∷ [])), last) (or_true (has_end (map shown w)))
+    rw (e, map-append shown w (t ∷ []), has_end_append (map shown w) (map shown (t ∷ [])), last) (grind arith)
 
 -- a position after all is the end
 insert_past : (w : List Token) (i : ℕ) (t : Token) → length w ≤ i → insert w i t ≡ w ++ t ∷ []

@@ -1,5 +1,5 @@
 -- What was read between two windows.
-use Rattle.yaml_scanner.proofs.Common.{arith, Err, IfErr, IsErrAnd, List, Ok, Reads, refl, Result, WindowView, ℕ, ◌≡◌}
+use Rattle.yaml_scanner.proofs.Common.{arith, List, Reads, refl, WindowView, ℕ, ◌≡◌}
 
 pub Reads-map : {T : Type 0} {P R : List ℕ → List ℕ → Type 0} (old new : WindowView T) → Reads old new P → ((a b : List ℕ) → P a b → R a b) → Reads old new R
 Reads-map old new run f = record { start = run.start; at = run.at; left = run.left; back = run.back; reads = λ w p. f _ _ (run.reads w p) }

@@ -1,5 +1,5 @@
 -- How calls compose.
-use Rattle.yaml_scanner.proofs.Common.{after_char, arith, Becomes, Brings, Err, false, Fault, Fetcher, Fetches, Gets, Held, IsErrAnd, List, Moves, Ok, on_held, once, OnOk, Reads, Reads-saw, Reads-then, refl, Result, Runs, ScannerState, Sees, skip_indicator, slice_index, state, Steps, true, try_held, Turns, ℕ, ◌+◌, ◌>>=◌, ◌∙◌, ◌∷◌, ◌≡◌, ◌≤◌}
+use Rattle.yaml_scanner.proofs.Common.{after_char, arith, Becomes, Brings, Err, false, Fault, Fetcher, Fetches, Gets, Held, IsErrAnd, List, Moves, Ok, on_held, once, OnOk, Reads, Reads-saw, Reads-then, refl, Result, Runs, ScannerState, Sees, skip_indicator, slice_index, state, Steps, true, try_held, Turns, ℕ, ◌+◌, ◌>>=◌, ◌∙◌, ◌∷◌, ◌≡◌}
 use Rattle.yaml_scanner.proofs.ReadsLemmas.{Reads-map, Reads-along, Reads-none}
 
 pub keeps_of : {T : Type 0} {up down : ℕ} (x y : Fetcher T) → Moves x y up down → Fetches x y

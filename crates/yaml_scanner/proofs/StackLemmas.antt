@@ -1,6 +1,7 @@
 -- Lemmas about stacks.
 use Rattle.std.proofs.Common.{◌≡◌, ◌-◌, ◌<◌, ◌≤◌, List, [], ◌∷◌, ◌++◌, reverse, refl, ap, sym, ◌∙◌, Option, Some, None, length, arith, slice_get, set, ◌==◌}
 use Rattle.std.proofs.lemmas.List.{reverse-append, reverse-reverse, length-reverse}
+use Rattle.std.proofs.Math.Seq.{set-append_seam}
 use Rattle.std.proofs.lemmas.Grind.{common_steps, elements}
 use Rattle.std.proofs.lemmas.Bool.{ne_eqb}
 use Rattle.std.proofs.lemmas.Option.{slice_get_read}
@@ -50,15 +51,11 @@ none_under [] h = refl
 none_under (x ∷ []) h = refl
 none_under (x ∷ y ∷ xs) h = absurd (omega (arith, h))
 
-set_last : {A : Type 0} (zs : List A) (x y : A) → set (zs ++ x ∷ []) (length zs) y ≡ zs ++ y ∷ []
-set_last [] x y = refl
-set_last (z ∷ zs) x y = ap (λ l. z ∷ l) (set_last zs x y)
-
 set_by : {A : Type 0} (xs ys : List A) (y : A) → xs ≡ reverse ys → reverse (set xs (length xs - 1) y) ≡ with_top y ys
 set_by xs [] y f = rw f refl
 set_by xs (x ∷ ys) y f =
     let n : length xs - 1 ≡ length (reverse ys) = rw (f, reverse-append (x ∷ []) ys) (grind (arith, elements, common_steps)) in
-    rw (n, f, reverse-append (x ∷ []) ys, set_last (reverse ys) x y, reverse-append (reverse ys) (y ∷ []), reverse-reverse ys) refl
+    rw (n, f, reverse-append (x ∷ []) ys, set-append_seam (reverse ys) x [] y, reverse-append (reverse ys) (y ∷ []), reverse-reverse ys) refl
 
 pub top_set : {A : Type 0} (xs zs : List A) (y : A) → zs ≡ set xs (length xs - 1) y → reverse zs ≡ with_top y (reverse xs)
 top_set xs zs y e = ap reverse e ∙ set_by xs (reverse xs) y (sym (reverse-reverse xs))

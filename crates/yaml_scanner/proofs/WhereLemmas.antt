@@ -1,14 +1,11 @@
 -- Where the scanner stands in a text, and whether it met the stream's start.
-use Rattle.yaml_scanner.proofs.Common.{[], ap, arith, Bool, drop, false, Fetcher, first_position, FollowsIn, handed, has_no_nul, is_empty, length, length-take, List, next_line, None, position_after, position_of, refl, state, suc, sym, take, Token, true, waiting, zero, ℕ, ◌+◌, ◌-◌, ◌<◌, ◌∙◌, ◌∷◌, ◌≡◌}
+use Rattle.yaml_scanner.proofs.Common.{[], ap, arith, Bool, drop, false, Fetcher, first_position, FollowsIn, handed, has_no_nul, is_empty, length, length-take, List, next_line, None, position_after, position_of, refl, state, sym, take, Token, true, waiting, ℕ, ◌+◌, ◌-◌, ◌<◌, ◌∙◌, ◌∷◌, ◌≡◌}
+use Rattle.std.proofs.Math.Seq.{take-nil}
 use Rattle.proof_scanner.specs.Positions.{IsPositionIn}
 use Rattle.proof_scanner.proofs.Sound.FirstTokens.{run_is_where}
 
 none_of : (n : ℕ) (xs : List Token) → xs ≡ [] → (take n xs ≡ []) × (length xs - n ≡ 0)
-none_of n [] e = (take_nil n, omega arith)
-  where
-    take_nil : (n : ℕ) → take {A = Token} n [] ≡ []
-    take_nil zero = refl
-    take_nil (suc n) = refl
+none_of n [] e = (take-nil n, omega arith)
 none_of n (x ∷ xs) e = absurd cc
 
 some_of : (n : ℕ) (xs : List Token) → is_empty xs ≡ false → 0 < length (take n xs) + (length xs - n)

@@ -16,6 +16,7 @@ use std::alloc::Global;
 use yaml_chars::{Characters, Marker};
 use yaml_tokens::{ScanError, ScanResult, Token};
 
+#[tactic(auto, using(crate::proofs::FollowLemmas::scans_from))]
 impl<T: Characters> Scanner<T> {
     /// A scanner of the characters that an iterator gives, up to its first `None` or NUL. It takes no memory.
     ///

@@ -1,4 +1,3 @@
-use Rattle.yaml_scanner.proofs.Common.{false, OutOfMemory, refl}
 use Rattle.yaml_scanner.proofs.FollowLemmas.{held_up}
 use Rattle.yaml_scanner.proofs.fetcher.Fetcher.hold_up.Goals as goal
 

@@ -2,19 +2,6 @@ use Rattle.yaml_scanner.proofs.Common.{sym, ◌∙◌}
 use Rattle.yaml_scanner.proofs.FollowLemmas.{scans_from, leaves_no_row}
 use Rattle.yaml_scanner.proofs.scanner.Scanner.next_token.Goals as goal
 
--- the fault that was kept before
-pub returns-in-Some-clause-scans : goal.returns-in-Some-clause-scans
-returns-in-Some-clause-scans g c = rw (← c.self.view_is) (scans_from c.self.inside.fetcher c.self.invariant)
-
-pub returns-in-Err-clause-scans : goal.returns-in-Err-clause-scans
-returns-in-Err-clause-scans g c = scans_from c.keep.new.self c.keep.ensures.follows
-
-pub returns-then-is_over-clause-scans : goal.returns-then-is_over-clause-scans
-returns-then-is_over-clause-scans g c = rw (← c.self.view_is) (scans_from c.self.inside.fetcher c.self.invariant)
-
-pub returns-in-Ok-clause-scans : goal.returns-in-Ok-clause-scans
-returns-in-Ok-clause-scans g c = scans_from c.pop_token.new.self c.pop_token.ensures.follows
-
 pub returns-in-Some-clause-rowless : goal.returns-in-Some-clause-rowless
 returns-in-Some-clause-rowless g c = leaves_no_row _ _ (rw (← c.self.view_is) (scans_from c.self.inside.fetcher c.self.invariant)) (sym c.get_error.ensures ∙ c.in-Some.is)
 
