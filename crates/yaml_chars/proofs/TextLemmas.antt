@@ -9,9 +9,25 @@ chars-encode c ok =
     let one : encode_utf8_all (c ∷ []) ≡ encode_utf8 c = append-nil (encode_utf8 c) in
     ap chars (sym one) ∙ chars-encodes (c ∷ []) (rw ok refl)
 
+pub chars_nil_of : (bs : List ℕ) → bs ≡ [] → chars bs ≡ []
+chars_nil_of bs e = ap chars e ∙ chars-nil
+
+pub chars_same : (bs cs : List ℕ) → cs ≡ bs → chars cs ≡ chars bs
+chars_same bs cs e = ap chars e
+
+pub chars_append_bytes : {A : Type 0} (s : String A) (more bs : List ℕ) → bs ≡ string_bytes s ++ more → chars bs ≡ chars (string_bytes s) ++ chars more
+chars_append_bytes s more bs e = ap chars e ∙ chars-append (string_bytes s) more (IsUtf8-string_bytes s)
+
+pub chars_append_of : {A B : Type 0} (s : String A) (u : String B) (bs : List ℕ) → bs ≡ string_bytes s ++ string_bytes u → chars bs ≡ chars (string_bytes s) ++ chars (string_bytes u)
+chars_append_of s u bs e = chars_append_bytes s (string_bytes u) bs e
+
+pub chars_push : {A : Type 0} (s : String A) (bs : List ℕ) (c : ℕ) → IsScalar c → bs ≡ string_bytes s ++ encode_utf8 c → chars bs ≡ chars (string_bytes s) ++ c ∷ []
+chars_push s bs c ok e = chars_append_bytes s (encode_utf8 c) bs e ∙ ap (λ cs. chars (string_bytes s) ++ cs) (chars-encode c ok)
+
+-- the same for strings
 pub string_chars_nil : {A : Type 0} (s : String A) → string_bytes s ≡ [] → string_chars s ≡ []
 unfolding string_chars
-string_chars_nil s e = ap chars e ∙ chars-nil
+string_chars_nil s e = chars_nil_of (string_bytes s) e
 
 pub string_chars_same : {A : Type 0} (s t : String A) → string_bytes t ≡ string_bytes s → string_chars t ≡ string_chars s
 unfolding string_chars
@@ -19,26 +35,7 @@ string_chars_same s t e = ap chars e
 
 pub string_chars_push : {A : Type 0} (s t : String A) (c : ℕ) → IsScalar c → string_bytes t ≡ string_bytes s ++ encode_utf8 c → string_chars t ≡ string_chars s ++ c ∷ []
 unfolding string_chars
-string_chars_push s t c ok e =
-    ap chars e ∙ chars-append (string_bytes s) (encode_utf8 c) (IsUtf8-string_bytes s) ∙ ap (λ cs. chars (string_bytes s) ++ cs) (chars-encode c ok)
-
--- the same for bare bytes
-pub chars_nil_of : (bs : List ℕ) → bs ≡ [] → chars bs ≡ []
-chars_nil_of bs e = ap chars e ∙ chars-nil
-
-pub chars_same : (bs cs : List ℕ) → cs ≡ bs → chars cs ≡ chars bs
-chars_same bs cs e = ap chars e
-
-pub chars_push : {A : Type 0} (s : String A) (bs : List ℕ) (c : ℕ) → IsScalar c → bs ≡ string_bytes s ++ encode_utf8 c → chars bs ≡ chars (string_bytes s) ++ c ∷ []
-chars_push s bs c ok e =
-    ap chars e ∙ chars-append (string_bytes s) (encode_utf8 c) (IsUtf8-string_bytes s) ∙ ap (λ cs. chars (string_bytes s) ++ cs) (chars-encode c ok)
-
-pub string_chars_append : {A B : Type 0} (s t : String A) (u : String B) → string_bytes t ≡ string_bytes s ++ string_bytes u → string_chars t ≡ string_chars s ++ string_chars u
-unfolding string_chars
-string_chars_append s t u e = ap chars e ∙ chars-append (string_bytes s) (string_bytes u) (IsUtf8-string_bytes s)
-
-pub chars_append_of : {A B : Type 0} (s : String A) (u : String B) (bs : List ℕ) → bs ≡ string_bytes s ++ string_bytes u → chars bs ≡ chars (string_bytes s) ++ chars (string_bytes u)
-chars_append_of s u bs e = ap chars e ∙ chars-append (string_bytes s) (string_bytes u) (IsUtf8-string_bytes s)
+string_chars_push s t c ok e = chars_push s (string_bytes t) c ok e
 
 suc_is_some : (n : ℕ) → (suc n == 0) ≡ false
 suc_is_some n = grind (arith, nat_tests)
@@ -50,6 +47,3 @@ is_nil_encoded (c ∷ cs) (b ∷ bs) e f = rw (← f) (sym (suc_is_some (length 
 
 pub is_nil_chars : {A : Type 0} (s : String A) → is_empty (chars (string_bytes s)) ≡ (length (string_bytes s) == 0)
 is_nil_chars s = is_nil_encoded (chars (string_bytes s)) (string_bytes s) (encodes-chars (string_bytes s) (IsUtf8-string_bytes s)) refl
-
-pub chars_append_bytes : {A : Type 0} (s : String A) (more bs : List ℕ) → bs ≡ string_bytes s ++ more → chars bs ≡ chars (string_bytes s) ++ chars more
-chars_append_bytes s more bs e = ap chars e ∙ chars-append (string_bytes s) more (IsUtf8-string_bytes s)

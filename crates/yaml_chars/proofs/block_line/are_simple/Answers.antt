@@ -1,4 +1,4 @@
-use Rattle.yaml_chars.proofs.Common.{ap, arith, cases_lt, inl, inr, is_simple, slice_index, subst, sym, true, ◌∙◌, ◌≡◌}
+use Rattle.yaml_chars.proofs.Common.{arith}
 use Rattle.yaml_chars.proofs.block_line.are_simple.Goals as goal
 
 pub held-init : goal.held-init

@@ -11,4 +11,4 @@ pub blocks-2-preserved : goal.blocks-2-preserved
 blocks-2-preserved c = (block_more c.as_bytes-bytes.result.now c.blocks-2.at c.blocks-2.count c.first_lanes-count.result c.blocks-2.invariant.0 c.first_lanes-count.ensures, omega (arith, c.blocks-2-test.true))
 
 pub returns : goal.returns
-returns c = count_whole c.as_bytes-bytes.result.now c.blocks-2.at c.blocks-2.count c.counted_singly.result c.as_bytes-bytes.ensures.utf8 c.blocks-2.invariant.1 c.blocks-2.invariant.0 c.counted_singly.ensures ∙ ap (λ b. length (chars b)) c.as_bytes-bytes.ensures.value
+returns c = count_whole c.as_bytes-bytes.result.now c.blocks-2.at c.blocks-2.count c.counted_singly.result c.as_bytes-bytes.ensures.utf8 c.blocks-2.invariant.0 c.counted_singly.ensures ∙ ap (λ b. length (chars b)) c.as_bytes-bytes.ensures.value

@@ -1,5 +1,5 @@
 use Rattle.yaml_chars.proofs.Common.{arith, nat_tests, slice_index, ◌+◌, ◌<◌}
-use Rattle.yaml_chars.proofs.WordsLemmas.{words_none, word_further, words_more, ascii_none, ascii_further, ascii_word, or_parts}
+use Rattle.yaml_chars.proofs.WordsLemmas.{words_none, words_more, ascii_none, ascii_word, or_parts}
 use Rattle.yaml_chars.proofs.run.Run.words.Goals as goal
 
 pub words-init : goal.words-init
