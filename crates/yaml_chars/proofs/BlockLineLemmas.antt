@@ -26,12 +26,6 @@ plain_blank c h = (grind (arith, nat_tests), λ e. grind (arith, nat_tests))
 plain_visible : (c : ℕ) → (nat_lt 32 c && nat_lt c 127) ≡ true → IsPlain c
 plain_visible c h = (grind (arith, nat_tests), λ e. grind (arith, nat_tests))
 
-pub simple_none : (bs : List ℕ) → AreSimpleUpTo bs 0
-simple_none bs = record { within = omega arith; inner = λ k h. absurd (omega (arith, h)) }
-
-pub simple_more : (bs : List ℕ) (n : ℕ) → AreSimpleUpTo bs n → n < length bs → is_simple (slice_index bs n) ≡ true → AreSimpleUpTo bs (n + 1)
-simple_more bs n so h goes = grind arith
-
 pub simple_further : (bs : List ℕ) (at n : ℕ) → AreSimpleUpTo bs at → at + 16 < length bs → n ≤ 16
     → ((k : ℕ) → k < n → halts_simple (slice_index bs (at + k)) ≡ false) → AreSimpleUpTo bs (at + n)
 simple_further bs at n so room few go = record {
@@ -83,16 +77,9 @@ text_ends held bs from n so begun some first after last = record {
     size = length-drop from (held ++ take n bs) ∙ ap (λ m. m - from) (whole_length held bs n so.within)
 
     simple : (k : ℕ) → from ≤ k → k < length held + n → is_simple (slice_index (held ++ take n bs) k) ≡ true
-    simple k a b = elim (cases_lt from k) [
-      | inr here ↦ let same : from ≡ k = omega arith in rw (← same) (opens_is_simple _ first)
-      | inl later ↦ elim (cases_lt k (length held)) [
-        | inl before ↦ rw (held_at held (take n bs) k before) (after k (omega arith) before)
-        | inr beyond ↦
-            let there : length held + (k - length held) ≡ k = omega arith in
-            let low : k - length held < n = omega arith in
-            rw (← there, after_at held bs n (k - length held) low) (so.inner (k - length held) low)
-      ]
-    ]
+    simple k a b =
+        let same : length held ≤ k → length held + (k - length held) ≡ k = λ l. omega arith in
+        grind (arith, opens_is_simple, held_at held (take n bs) k, after_at held bs n (k - length held), so.inner (k - length held), after k)
 
 -- ---- the bytes of a part
 
@@ -158,18 +145,9 @@ indented_append (suc n) a b = ap (λ x. 32 ∷ x) (indented_append n a b)
 
 module _ {mark from : ℕ} {held bs : List ℕ} {n spaces : ℕ} (bytes : Bytes mark from held bs n spaces) where
   plain_at : (k : ℕ) → k < n + 1 + spaces + 1 → IsPlain (slice_index bs k)
-  plain_at k h = elim (cases_lt k n) [
-    | inl before ↦ plain_simple _ (bytes.text.bytes k before)
-    | inr later ↦ elim (cases_lt n k) [
-      | inr here ↦ let same : n ≡ k = omega arith in rw (← same, bytes.marked) bytes.plain
-      | inl after ↦ elim (cases_lt k (n + 1 + spaces)) [
-        | inl blank ↦
-            let same : n + 1 + (k - (n + 1)) ≡ k = omega arith in
-            rw (← same, bytes.blank (k - (n + 1)) (omega arith)) (omega arith, λ z. absurd (omega arith))
-        | inr last ↦ let same : n + 1 + spaces ≡ k = omega arith in rw (← same) bytes.next
-      ]
-    ]
-  ]
+  plain_at k h =
+      let same : n < k → n + 1 + (k - (n + 1)) ≡ k = λ l. omega arith in
+      (grind (arith, plain_simple, bytes.text.bytes k, bytes.blank (k - (n + 1))), λ e. grind (arith, plain_simple, bytes.text.bytes k, bytes.blank (k - (n + 1))))
 
   pub part_cut : IsUtf8 bs → IsCharBoundary bs (n + 1 + spaces + 1)
   part_cut u = IsCharBoundary-after_ascii bs (n + 1 + spaces) u bytes.within bytes.next.0

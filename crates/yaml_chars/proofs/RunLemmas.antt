@@ -9,9 +9,9 @@ pub ran_on : (run : Run) (c : ℕ) (a b : List ℕ) (p : Position) (t : List ℕ
 ran_on run c a b p t e goes = rw (e, goes) refl
 
 -- a run goes on by one character
-pub GoesOn-more : {T : Type 0} (run : Run) (old s next : Pulled T) (n c : ℕ) (before t : List ℕ)
+pub GoesOn-more : {T : Type 0} {run : Run} {old s next : Pulled T} {n c : ℕ} {before t : List ℕ}
     → GoesOn run old s n before t → Pulls s c next → stops run c ≡ false → c ≢ 0 → GoesOn run old next (n + 1) before (t ++ c ∷ [])
-GoesOn-more run old s next n c before t on pulls goes some = record {
+GoesOn-more {run = run} {n = n} {c = c} on pulls goes some = record {
   left = let more = pulls.char some in omega (arith, on.left, more.3);
   fills = λ at line col f.
       let here : at + (n + 1) ≡ (at + n) + 1 = omega arith in
@@ -20,9 +20,13 @@ GoesOn-more run old s next n c before t on pulls goes some = record {
   reads = λ at line col f.
       let here : at + (n + 1) ≡ (at + n) + 1 = omega arith in
       let there : col + (n + 1) ≡ (col + n) + 1 = omega arith in
-      let step = Reads-taken (on.fills at line col f) pulls some refl 0 0 in
-      rw (here, there) (Reads-then _ _ _ (on.reads at line col f) step (λ a b d e g. e ∙ ran_on run c b d _ t g goes));
+      rw (here, there) (Reads-then _ _ _ (on.reads at line col f) (Reads-taken (on.fills at line col f) pulls some refl 0 0) (λ a b d e g. e ∙ ran_on run c b d _ _ g goes));
 }
+
+-- a run goes on until a character comes with which it does not, or memory is refused
+pub GoesOn-over : {T : Type 0} {run : Run} {old s new : Pulled T} {n c : ℕ} {refused : Bool} {before t : List ℕ}
+    → GoesOn run old s n before t → Pulls s c new → (refused ≡ false → stops run c ≡ true) → GoesOver run old new n c refused before t
+GoesOn-over on pulls stop = record { last = _; goes = on; later = pulls; stops = stop }
 
 -- a run ends at the end of the text
 pub stops_nul : (run : Run) → stops run 0 ≡ true
@@ -41,9 +45,6 @@ GoesOver-ended run s t done none = record {
   later = record { start = refl; ends = λ _. (refl, done, none); char = λ h. absurd (h refl) };
   stops = λ _. stops_nul run;
 }
-
-pub true_is_not_false : true ≡ false → ⊥
-true_is_not_false h = cc
 
 -- a run stops before what ends it
 pub ran_stops : (run : Run) (b : List ℕ) (p : Position) (t : List ℕ) → stops run (slice_index b 0) ≡ true → ran run b p t ≡ record { rest = b; position = p; text = t }

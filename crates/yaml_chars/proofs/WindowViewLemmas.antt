@@ -107,10 +107,7 @@ module _ {T : Type 0} {s next : Pulled T} {ring : List ℕ} {at line col c : ℕ
         let same = pulls.ends (omega arith) in
         let past = reaches fills in
         record {
-          window = λ k in_range. rw same.0 (elim (cases_lt k (length ring)) [
-            | inl before ↦ grind (arith, elements, common_steps, fills.window k before)
-            | inr last ↦ grind (arith, elements, common_steps)
-          ]);
+          window = λ k in_range. rw same.0 (grind (arith, elements, common_steps, fills.window k));
           going = λ h. cc;
           ended = λ h. rw same.0 (omega arith);
           within = rw same.0 fills.within;

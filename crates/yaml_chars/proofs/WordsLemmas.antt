@@ -1,22 +1,16 @@
 -- Lemmas about characters of a line that are known to come.
 use Rattle.std.specs.Str.{chars}
+use Rattle.std.specs.Iterator.{size}
+use Rattle.std.specs.Prelude.{if◌then◌else◌}
+use Rattle.yaml_chars.specs.Words.{Gives}
 use Rattle.std.proofs.lemmas.List.{get_or_past, length-take, nil_from_length}
 use Rattle.yaml_chars.proofs.WindowViewLemmas.{Fills-given, reaches, Reads-given, Reads-map}
 use Rattle.yaml_chars.specs.InMemory.{text_rest}
 use Rattle.yaml_chars.specs.declared.characters.TextInMemory.{TextInMemory}
-use Rattle.yaml_chars.proofs.Common.{[], and_parts, ap, append-nil, append_assoc, are_words, AreAscii, AreWordsBetween, AreWordsUpTo, arith, bare, begins_byte, begins_word, Bool, byte_from_char, cases_lt, char_from_byte, chars_past_char, chars_steps, Count, drop, encode_ascii, encodes-chars, EndsAtAscii, false, Fills, GivesWords, Goes, halts, halts_line, HasNoNul, inl, inr, is_blank, is_break, is_flow, is_in_words, is_word_byte, IsAscii, IsCharBoundary, IsCharBoundary-after_ascii, IsCharBoundary-before_ascii, IsCharBoundary-end, IsCharBoundary-start, IsFinite, IsUtf8, IsUtf8-past_char, IsUtf8-take, IsWordBetween, IterStands, LanesGo, len_utf8_bounds, length, length-append, length-encode, length-take-le, Line, List, nat_lt, nat_tests, not, Option, Plain, Position, Pulled, Quoted, Reads, refl, Run, slice_get, slice_index, slice_range, Some, stops, stops_beyond, stops_byte, subst, suc, sym, take, take-append-drop, TakesWords, true, Yields, zero, ℕ, ◌&&◌, ◌++◌, ◌+◌, ◌-◌, ◌<◌, ◌==◌, ◌||◌, ◌∙◌, ◌∷◌, ◌≡◌, ◌≢◌, ◌≤◌, ◌⊎◌, get_or-append-add, get_or-take}
+use Rattle.yaml_chars.proofs.Common.{[], and_parts, ap, append-nil, append_assoc, are_words, AreAscii, AreWordsBetween, AreWordsUpTo, arith, bare, begins_byte, begins_word, Bool, byte_from_char, cases_lt, char_from_byte, chars_past_char, chars_steps, Count, drop, encode_ascii, encodes-chars, EndsAtAscii, false, Fills, GivesWords, Goes, halts, halts_line, HasNoNul, inl, inr, is_blank, is_break, is_flow, is_in_words, is_word_byte, IsAscii, IsCharBoundary, IsCharBoundary-after_ascii, IsCharBoundary-before_ascii, IsCharBoundary-end, IsCharBoundary-start, IsFinite, IsUtf8, IsUtf8-past_char, IsUtf8-take, IsWordBetween, IterStands, LanesGo, len_utf8_bounds, length, length-append, length-encode, length-take-le, Line, List, nat_lt, nat_tests, not, Option, Plain, Position, Pulled, Quoted, Reads, refl, Run, slice_get, slice_index, slice_range, Some, stops, stops_beyond, stops_byte, subst, suc, sym, take, take-append-drop, TakesWords, true, Yields, zero, ℕ, ◌&&◌, ◌++◌, ◌+◌, ◌-◌, ◌<◌, ◌||◌, ◌∙◌, ◌∷◌, ◌≡◌, ◌≢◌, ◌≤◌, ◌⊎◌, get_or-append-add, get_or-take}
 use lib.Utf8.{encode, encodes}
 
 -- ---- bytes
-
--- the byte of an ASCII character, and any other byte
-low_byte : (run : Run) (b : ℕ) → b < 128 → (stops_byte run b ≡ stops run b) × (begins_byte run b ≡ begins_word run b)
-unfolding stops_byte begins_byte
-low_byte run b low = let e : nat_lt b 128 ≡ true = grind (arith, nat_tests) in rw e (refl, refl)
-
-high_byte : (run : Run) (b : ℕ) → 128 ≤ b → (stops_byte run b ≡ stops_beyond run) × (begins_byte run b ≡ not (stops_beyond run))
-unfolding stops_byte begins_byte
-high_byte run b high = let e : nat_lt b 128 ≡ false = grind (arith, nat_tests) in rw e (refl, refl)
 
 pub ordinary_in_line : (b : ℕ) → 32 ≤ b → stops_byte Line b ≡ false
 unfolding stops_byte stops is_break
@@ -49,9 +43,6 @@ begins_in_plain flow b h e f = grind (arith, nat_tests)
 pub not_out : (x : Bool) → not x ≡ false → x ≡ true
 not_out a h = grind arith
 
-not_true : (x : Bool) → not x ≡ true → x ≡ false
-not_true a h = grind arith
-
 pub flow_low : (b : ℕ) → is_flow b ≡ true → b < 128
 unfolding is_flow
 flow_low b h = grind (arith, nat_tests)
@@ -62,10 +53,8 @@ begins_goes a b h = grind arith
 
 -- what a word begins with does not end it
 byte_begins_goes : (run : Run) (b : ℕ) → begins_byte run b ≡ true → stops_byte run b ≡ false
-byte_begins_goes run b h = elim (cases_lt b 128) [
-  | inl low ↦ let e = low_byte run b low in e.0 ∙ begins_goes run b (sym e.1 ∙ h)
-  | inr high ↦ let e = high_byte run b high in e.0 ∙ not_true _ (sym e.1 ∙ h)
-]
+unfolding begins_byte stops_byte
+byte_begins_goes run b h = grind (arith, begins_goes run b)
 
 -- ---- a text in memory gives its characters
 
@@ -97,24 +86,12 @@ gives_front s t n some within u cut rest = by (chars (take n (text_rest s))) (en
         gives_chars c cs (drop n (text_rest s)) s t u
         (sym (take-append-drop n (text_rest s)) ∙ ap (λ x. x ++ drop n (text_rest s)) (sym e) ∙ append_assoc (encode c) (encodes cs) _) rest
 
-pub true_is_not_false : true ≡ false → ⊥
-true_is_not_false h = cc
-
-goes_word : (run : Run) (c d : ℕ) → stops run c ≡ false → is_in_words run c d ≡ true
-goes_word run c d h = rw h refl
-
 goes_in_words : (run : Run) (c d : ℕ) → stops_byte run c ≡ false → is_word_byte run c d ≡ true
 goes_in_words run c d h = rw h refl
 
-or_true : (b : Bool) → (b || true) ≡ true
-or_true a = grind arith
-
-blank_word : (run : Run) (c d : ℕ) → is_blank c ≡ true → begins_word run d ≡ true → is_in_words run c d ≡ true
-blank_word run c d e h = rw (e, h) (or_true (not (stops run c)))
-
 blank_in_words : (run : Run) (c d : ℕ) → c ≡ 32 → begins_byte run d ≡ true → is_word_byte run c d ≡ true
 unfolding is_blank
-blank_in_words run c d e h = rw (e, h) (or_true (not (stops_byte run 32)))
+blank_in_words run c d e h = grind arith
 
 -- ---- words
 
@@ -183,34 +160,23 @@ begins_of_high a c b h = grind arith
 
 -- a blank that goes on in bytes goes on in characters
 blank_of_bytes : (run : Run) (cs : List ℕ) → begins_byte run (slice_index (encodes cs) 0) ≡ true → begins_word run (slice_index cs 0) ≡ true
-blank_of_bytes run [] h = let e = low_byte run 0 (omega arith) in sym e.1 ∙ h
+unfolding begins_byte
+blank_of_bytes run [] h = h
 blank_of_bytes run (d ∷ ds) h = elim (cases_lt d 128) [
-  | inl low ↦
-      let same : slice_index (encode d ++ encodes ds) 0 ≡ d = byte_from_char _ (encodes ds) d refl low in
-      let e = low_byte run d low in sym e.1 ∙ ap (begins_byte run) (sym same) ∙ h
-  | inr high ↦ let e = high_byte run _ (lead_high d (encodes ds) high) in begins_of_high run d high (not_true _ (sym e.1 ∙ h))
+  | inl low ↦ let same : slice_index (encode d ++ encodes ds) 0 ≡ d = byte_from_char _ (encodes ds) d refl low in grind (arith, nat_tests)
+  | inr high ↦ grind (arith, nat_tests, lead_high d (encodes ds) high, begins_of_high run d high)
 ]
 
-in_words_of : (run : Run) (c : ℕ) (cs : List ℕ) → is_word_byte run (slice_index (encode c ++ encodes cs) 0) (slice_index (encode c ++ encodes cs) 1) ≡ true → is_in_words run c (slice_index cs 0) ≡ true
+in_words_of : (run : Run) (c : ℕ) (cs : List ℕ)
+    → is_word_byte run (slice_index (encode c ++ encodes cs) 0) (slice_index (encode c ++ encodes cs) 1) ≡ true → is_in_words run c (slice_index cs 0) ≡ true
+unfolding stops_byte
 in_words_of run c cs h = elim (cases_lt c 128) [
   | inl low ↦
-      let one : encode c ++ encodes cs ≡ c ∷ encodes cs = ap (λ x. x ++ encodes cs) (encode_ascii c low) in
-      let g : is_word_byte run c (slice_index (encodes cs) 0) ≡ true = subst (λ x. is_word_byte run (slice_index x 0) (slice_index x 1) ≡ true) one h in
-      by_blank low g (stops_byte run c) refl
-  | inr high ↦
-      goes_word run c _ (goes_high run c high (beyond_of high (stops_beyond run) refl))
+      let g = rw (ap (λ x. x ++ encodes cs) (encode_ascii c low)) at h in
+      let same : nat_lt c 128 ≡ true = grind (arith, nat_tests) in
+      grind (arith, g, blank_of_bytes run cs)
+  | inr high ↦ grind (arith, lead_high c (encodes cs) high, word_byte_low, goes_high run c high)
 ]
-  where
-    by_blank : c < 128 → is_word_byte run c (slice_index (encodes cs) 0) ≡ true → (x : Bool) → stops_byte run c ≡ x → is_in_words run c (slice_index cs 0) ≡ true
-    by_blank low g false e = let same = low_byte run c low in goes_word run c _ (sym same.0 ∙ e)
-    by_blank low g true e =
-        let both : (is_blank c && begins_byte run (slice_index (encodes cs) 0)) ≡ true = rw e at g in
-        let parts = and_parts (is_blank c) _ both in
-        blank_word run c _ parts.0 (blank_of_bytes run cs parts.1)
-
-    beyond_of : 128 ≤ c → (x : Bool) → stops_beyond run ≡ x → stops_beyond run ≡ false
-    beyond_of high false e = e
-    beyond_of high true e = absurd (omega (arith, lead_high c (encodes cs) high, word_byte_low run _ _ e h))
 
 chars_of_bytes : (run : Run) (cs : List ℕ) → AreWordsUpTo run (encodes cs) (length (encodes cs)) → are_words run cs ≡ true
 chars_of_bytes run [] words = refl
@@ -230,14 +196,8 @@ words_of run bs n u words ends =
 
 -- ---- words are found
 
-pub ascii_none : (bs : List ℕ) (from : ℕ) → AreAscii bs from from
-ascii_none bs from k a b = absurd (omega (arith, a, b))
-
-pub ascii_further : (bs : List ℕ) (from mid to : ℕ) → AreAscii bs from mid → AreAscii bs mid to → AreAscii bs from to
-ascii_further bs from mid to low more k a b = elim (cases_lt k mid) [ inl before ↦ low k a before | inr after ↦ more k after b ]
-
-pub words_more : (run : Run) (bs : List ℕ) (n to : ℕ) → AreWordsUpTo run bs n → n + 1 < length bs → slice_index bs n ≡ 32 → begins_byte run (slice_index bs (n + 1)) ≡ true
-    → IsWordBetween run bs (n + 2) to → AreWordsUpTo run bs to
+pub words_more : (run : Run) (bs : List ℕ) (n to : ℕ) → AreWordsUpTo run bs n → n + 1 < length bs → slice_index bs n ≡ 32
+    → begins_byte run (slice_index bs (n + 1)) ≡ true → IsWordBetween run bs (n + 2) to → AreWordsUpTo run bs to
 words_more run bs n to words h blank begins w = record {
   within = w.within;
   inner = λ k a. grind (arith, words.inner k, words.last k, w.inner k, goes_in_words, blank_in_words, byte_begins_goes);
@@ -261,26 +221,18 @@ goes_quoted quote c d small h = record { word = λ apart. grind (arith, nat_test
 pub goes_line : (c d : ℕ) → halts_line c ≡ false → Goes Line c d
 goes_line c d h = let goes = ordinary_in_line c (grind (arith, nat_tests)) in record { word = λ apart. goes; blank = λ e. goes_in_words Line c d goes }
 
--- only where a run goes up to the line's end, a blank goes on before a blank
-blank_before : (run : Run) (c : ℕ) → is_blank c ≡ true → begins_byte run 32 ≡ true → stops_byte run c ≡ false
-unfolding begins_byte begins_word stops_byte stops is_break is_blank
-blank_before a c h g = grind (arith, nat_tests)
-
 -- a character before a blank is of a word
 before_blank : (run : Run) (c : ℕ) → is_word_byte run c 32 ≡ true → stops_byte run c ≡ false
-before_blank run c h = by (stops_byte run c) refl
-  where
-    by : (x : Bool) → stops_byte run c ≡ x → stops_byte run c ≡ false
-    by false f = f
-    by true f = let parts = and_parts (is_blank c) _ (rw f at h) in blank_before run c parts.0 parts.1
+unfolding begins_byte begins_word stops_byte stops is_break is_blank
+before_blank a c h = grind (arith, nat_tests)
 
 -- where the last lane is no blank, they are words; where it is one, those before it are
 pub lanes_words : (run : Run) (bs : List ℕ) (at n to : ℕ) → at + 16 < length bs → n ≤ 16 → LanesGo run bs at n
     → ((to ≡ n) × (0 < n → slice_index bs (at + n - 1) ≢ 32)) ⊎ ((to + 1 ≡ n) × (slice_index bs (at + n - 1) ≡ 32)) → AreWordsBetween run bs at (at + to)
 lanes_words run bs at n to room few go end = record {
   after = omega arith;
-  within = elim end [ inl e ↦ omega (arith, e.0, room, few) | inr e ↦ omega (arith, e.0, room, few) ];
-  inner = λ j a b. in_words j a (elim end [ inl e ↦ omega (arith, e.0, b) | inr e ↦ omega (arith, e.0, b) ]);
+  within = omega (arith, room, few, short);
+  inner = λ j a b. in_words j a (omega (arith, b, short));
   last = λ j a b. elim end [
     | inl e ↦
         let here : at + n - 1 ≡ j = omega (arith, e.0, b) in
@@ -291,6 +243,9 @@ lanes_words run bs at n to room few go end = record {
   ];
 }
   where
+    short : to ≤ n
+    short = elim end [ inl e ↦ omega (arith, e.0) | inr e ↦ omega (arith, e.0) ]
+
     goes : (j : ℕ) → at ≤ j → j < at + n → Goes run (slice_index bs j) (slice_index bs (j + 1))
     goes j a b =
         let here : at + (j - at) ≡ j = omega arith in
@@ -298,14 +253,7 @@ lanes_words run bs at n to room few go end = record {
         rw (here, next) at (go (j - at) (omega arith))
 
     in_words : (j : ℕ) → at ≤ j → j < at + n → is_word_byte run (slice_index bs j) (slice_index bs (j + 1)) ≡ true
-    in_words j a b = by (slice_index bs j == 32) refl
-      where
-        by : (x : Bool) → (slice_index bs j == 32) ≡ x → is_word_byte run (slice_index bs j) (slice_index bs (j + 1)) ≡ true
-        by true e = let g = goes j a b in g.blank (grind (arith, nat_tests))
-        by false e = let g = goes j a b in goes_in_words run _ _ (g.word (grind (arith, nat_tests)))
-
-pub words_none : (run : Run) (bs : List ℕ) → AreWordsUpTo run bs 0
-words_none run bs = record { within = omega arith; inner = λ k h. absurd (omega (arith, h)); last = λ k h. absurd (omega (arith, h)) }
+    in_words j a b = let g = goes j a b in grind (arith, g.word, g.blank, goes_in_words)
 
 pub words_further : (run : Run) (bs : List ℕ) (n to : ℕ) → AreWordsUpTo run bs n → AreWordsBetween run bs n to → AreWordsUpTo run bs to
 words_further run bs n to words more = grind arith
@@ -318,13 +266,12 @@ word_further run bs n to words w = grind arith
 pub or_parts : (x y : Bool) → (x || y) ≡ false → (x ≡ false) × (y ≡ false)
 or_parts a y h = grind arith
 
-pub blocks_ascii : (x y : Bool) (bs : List ℕ) (at n : ℕ) → (x ≡ false → AreAscii bs 0 at) → (y ≡ false → (k : ℕ) → k < 16 → slice_index bs (at + k) < 128) → n ≤ 16 → (x || y) ≡ false → AreAscii bs 0 (at + n)
+pub blocks_ascii : (x y : Bool) (bs : List ℕ) (at n : ℕ) → (x ≡ false → AreAscii bs 0 at)
+    → (y ≡ false → (k : ℕ) → k < 16 → slice_index bs (at + k) < 128) → n ≤ 16 → (x || y) ≡ false → AreAscii bs 0 (at + n)
 blocks_ascii x y bs at n before here few h k a b =
     let parts = or_parts x y h in
-    elim (cases_lt k at) [
-      | inl low ↦ before parts.0 k a low
-      | inr high ↦ let same : at + (k - at) ≡ k = omega (arith, high) in subst (λ i. slice_index bs i < 128) same (here parts.1 (k - at) (omega (arith, high, b, few)))
-    ]
+    let same : at ≤ k → at + (k - at) ≡ k = λ l. omega arith in
+    grind (arith, before parts.0 k, here parts.1 (k - at))
 
 -- ---- the front of a slice
 
@@ -351,13 +298,17 @@ yields_append : {S A : Type 0} (steps : S → Option A → S → Type 0) (xs ys 
 yields_append steps [] ys s t u e y = subst (λ x. Yields steps x ys u) (sym e) y
 yields_append steps (x ∷ xs) ys s t u e y = (e.0, e.1, yields_append steps xs ys e.0 t u e.2 y)
 
--- more characters came
-pub Stands-on : {T : Type 0} {can : T → Type 0} {steps : T → Option ℕ → T → Type 0} {left : T → Count} {start : T} {taken : List ℕ} {done : Bool} {iter : T} (part all : List ℕ) {next : T}
-    → IterStands can steps left start taken done iter → done ≡ false → Yields steps iter part next → can next × IsFinite (left next) → all ≡ taken ++ part
-    → IterStands can steps left start all done next
-Stands-on {steps = steps} {start = start} {taken = taken} {iter = iter} part all {next = next} stands going step ready whole =
-    let more = rw (← whole) at (yields_append steps taken part start iter next (stands.here going) step) in
-    record { here = λ _. more; ready = λ _. ready; came = record { going = λ _. (next, more); ended = λ h. cc } }
+-- the source stands after characters that came, and has given them
+module _ {T : Type 0} {can : T → Type 0} {steps : T → Option ℕ → T → Type 0} {left : T → Count} {start : T} {taken : List ℕ} {done : Bool} {iter : T}
+    (stands : IterStands can steps left start taken done iter) (going : done ≡ false) (part : List ℕ) {all : List ℕ} (whole : all ≡ taken ++ part) (next : T) where
+  pub Stands-on : Yields steps iter part next → can next × IsFinite (left next) → IterStands can steps left start all done next
+  Stands-on step ready =
+      let more = rw (← whole) at (yields_append steps taken part start iter next (stands.here going) step) in
+      record { here = λ _. more; ready = λ _. ready; came = record { going = λ _. (next, more); ended = λ h. cc } }
+
+  pub Gives-on : (IsFinite (left iter) → IsFinite (left next) × (size (left next) + length part ≤ size (left iter)))
+      → Gives (record { start = start; taken = taken; done = done; left = if done then 0 else size (left iter) }) (record { start = start; taken = all; done = done; left = if done then 0 else size (left next) }) part
+  Gives-on goes = let ready = stands.ready going in let fewer = goes ready.1 in record { start = refl; taken = whole; done = refl; none = λ d. cc; left = rw going fewer.1 }
 
 -- no character of words is a NUL
 words_some : (run : Run) (c d : ℕ) → is_in_words run c d ≡ true → c ≢ 0
@@ -400,26 +351,12 @@ last_in_words a c d h = grind arith
 
 words_append : (run : Run) (xs ys : List ℕ) → are_words run xs ≡ true → are_words run ys ≡ true → are_words run (xs ++ ys) ≡ true
 words_append run [] ys f g = g
-words_append run (x ∷ xs) ys f g =
-    let parts = and_parts (is_in_words run x (slice_index xs 0)) _ f in
-    rw (in_longer xs parts.0, words_append run xs ys parts.1 g) refl
-  where
-    in_longer : (xs : List ℕ) → is_in_words run x (slice_index xs 0) ≡ true → is_in_words run x (slice_index (xs ++ ys) 0) ≡ true
-    in_longer [] h = last_in_words run x _ h
-    in_longer (y ∷ ys) h = h
+words_append run (x ∷ []) ys f g = grind (arith, last_in_words)
+words_append run (x ∷ y ∷ xs) ys f g = grind (arith, words_append run (y ∷ xs) ys)
 
 pub takes_then : (run : Run) (a b d : List ℕ) (p q r : Position) (t u v : List ℕ) → TakesWords run a b p q t u → TakesWords run b d q r u v → TakesWords run a d p r t v
-takes_then run a b d p q r t u v x y =
-    let count : length (x.part ++ y.part) ≡ length x.part + length y.part = length-append x.part y.part in
-    let index : p.index + length x.part + length y.part ≡ p.index + length (x.part ++ y.part) = omega (arith, count) in
-    let col : p.col + length x.part + length y.part ≡ p.col + length (x.part ++ y.part) = omega (arith, count) in
-    record {
-      part = x.part ++ y.part;
-      split = x.split ∙ ap (λ z. x.part ++ z) y.split ∙ sym (append_assoc x.part y.part d);
-      words = words_append run x.part y.part x.words y.words;
-      position = y.position ∙ ap (λ (z : Position). record { index = z.index + length y.part; line = z.line; col = z.col + length y.part }) x.position ∙ (λ i. record { index = index i; line = p.line; col = col i });
-      text = y.text ∙ ap (λ z. z ++ y.part) x.text ∙ append_assoc t x.part y.part;
-    }
+takes_then run a b d p q r t u v x y = grind (arith, words_append, length-append x.part y.part, append_assoc x.part y.part d, append_assoc t x.part y.part)
 
-pub takes_one : (run : Run) (c : ℕ) (a b : List ℕ) (p q : Position) (t u : List ℕ) → stops run c ≡ false → a ≡ c ∷ b → q.index ≡ p.index + 1 → q.line ≡ p.line → q.col ≡ p.col + 1 → u ≡ t ++ c ∷ [] → TakesWords run a b p q t u
+pub takes_one : (run : Run) (c : ℕ) (a b : List ℕ) (p q : Position) (t u : List ℕ) → stops run c ≡ false → a ≡ c ∷ b → q.index ≡ p.index + 1 → q.line ≡ p.line
+    → q.col ≡ p.col + 1 → u ≡ t ++ c ∷ [] → TakesWords run a b p q t u
 takes_one run c a b p q t u goes split index line col text = grind arith

@@ -1,5 +1,5 @@
 use Rattle.yaml_chars.proofs.Common.{arith, nat_tests, slice_index, ◌+◌, ◌<◌}
-use Rattle.yaml_chars.proofs.WordsLemmas.{words_none, words_more, ascii_none, ascii_word, or_parts}
+use Rattle.yaml_chars.proofs.WordsLemmas.{words_more, ascii_word, or_parts}
 use Rattle.yaml_chars.proofs.run.Run.words.Goals as goal
 
 pub words-init : goal.words-init
@@ -17,7 +17,4 @@ words-preserved c = (
 )
 
 pub returns-then-not-may_begin-clause-words : goal.returns-then-not-may_begin-clause-words
-returns-then-not-may_begin-clause-words c = words_none _ _
-
-pub returns-then-not-may_begin-clause-ascii : goal.returns-then-not-may_begin-clause-ascii
-returns-then-not-may_begin-clause-ascii c = λ e. ascii_none _ 0
+returns-then-not-may_begin-clause-words c = grind arith

@@ -1,6 +1,6 @@
-use Rattle.yaml_chars.proofs.Common.{ap, ap₂, arith, begin, chars, drop, drop-append-le, false, length, refl, slice_index, sym, take, ◌++◌, ◌+◌, ◌==◌, ◌∙◌, ◌≡◌}
+use Rattle.yaml_chars.proofs.Common.{ap, ap₂, arith, begin, chars, drop, drop-append-le, false, slice_index, sym, take, ◌++◌, ◌+◌, ◌==◌, ◌∙◌, ◌≡◌}
 use Rattle.yaml_chars.proofs.BlockLineLemmas.{chars_front, part_bytes, part_cut}
-use Rattle.yaml_chars.proofs.WordsLemmas.{front, Stands-on}
+use Rattle.yaml_chars.proofs.WordsLemmas.{front, Gives-on, Stands-on}
 use Rattle.yaml_chars.proofs.source.Source.part_on.Goals as goal
 
 pub range-passed-requires-clause-end_boundary : goal.range-passed-requires-clause-end_boundary
@@ -16,8 +16,8 @@ pub invariant_of-self : goal.invariant_of-self
 invariant_of-self g c =
     let going : c.self.inside.done ≡ false = rw (← c.self.view_is) at (sym c.has_ended.ensures.value ∙ c.if-has_ended.false) in
     let ready = c.self.invariant.ready going in
-    Stands-on _ _ c.self.invariant going c.pass.ensures.gives (c.pass.ensures.can, (c.pass.ensures.goes ready.1).0)
-    (c.push_text.ensures ∙ ap (λ x. c.self.inside.taken.items ++ chars x) (front _ c.range-passed.ensures.value c.known-known.ensures))
+    Stands-on c.self.invariant going _ (c.push_text.ensures ∙ ap (λ x. c.self.inside.taken.items ++ chars x) (front _ c.range-passed.ensures.value c.known-known.ensures))
+    _ c.pass.ensures.gives (c.pass.ensures.can, (c.pass.ensures.goes ready.1).0)
 
 pub returns-clause-some : goal.returns-clause-some
 returns-clause-some g c =
@@ -25,7 +25,6 @@ returns-clause-some g c =
     let count = n + 1 + c.in-Some.ended.spaces + 1 in
     let known = g.T.Characters.known c.self.inside.iter in
     let going : c.self.inside.done ≡ false = rw (← c.self.view_is) at (sym c.has_ended.ensures.value ∙ c.if-has_ended.false) in
-    let ready = c.self.invariant.ready going in
     let same = c.as_bytes-bytes.ensures.value ∙ c.known-known.ensures in
     let ends = rw same at c.in-Some.ensures in
     let bytes = part_bytes c.args.part c.args.held.now known _ _ ends in
@@ -35,13 +34,7 @@ returns-clause-some g c =
       going = going;
       known = known;
       ends = ends;
-      gives = record {
-        start = refl;
-        taken = c.push_text.ensures ∙ ap (λ x. c.self.inside.taken.items ++ x) (ap chars (front count c.range-passed.ensures.value c.known-known.ensures) ∙ all);
-        done = refl;
-        none = λ d. cc;
-        left = rw going (omega (arith, (c.pass.ensures.goes ready.1).1, ap length all));
-      };
+      gives = Gives-on c.self.invariant going _ (c.push_text.ensures ∙ ap (λ x. c.self.inside.taken.items ++ x) (ap chars (front count c.range-passed.ensures.value c.known-known.ensures) ∙ all)) _ (rw all at c.pass.ensures.goes);
       broke = ap (λ b. slice_index b n == 10) same;
       next = c.from-next.ensures ∙ ap (λ b. slice_index b (n + 1 + c.in-Some.ended.spaces)) same;
       joined =

@@ -1,5 +1,5 @@
 use Rattle.yaml_chars.proofs.Common.{ap, arith, chars, false, length, refl, sym, take, ◌++◌, ◌∙◌, ◌≡◌}
-use Rattle.yaml_chars.proofs.WordsLemmas.{ascii_of, front, front_range, Stands-on, words_cut, words_cut_known, words_known}
+use Rattle.yaml_chars.proofs.WordsLemmas.{ascii_of, front, front_range, Gives-on, Stands-on, words_cut, words_cut_known, words_known}
 use Rattle.yaml_chars.proofs.source.Source.pass_words.Goals as goal
 
 pub range-words-requires-clause-end_boundary : goal.range-words-requires-clause-end_boundary
@@ -17,26 +17,19 @@ pub invariant_of-self : goal.invariant_of-self
 invariant_of-self g c =
     let going : c.self.inside.done ≡ false = rw (← c.self.view_is) at (sym c.has_ended.ensures.value ∙ c.if-has_ended.false) in
     let ready = c.self.invariant.ready going in
-    Stands-on _ _ c.self.invariant going c.pass.ensures.gives (c.pass.ensures.can, (c.pass.ensures.goes ready.1).0)
-    (c.push_text.ensures ∙ ap (λ x. c.self.inside.taken.items ++ chars x) (front _ c.range-words.ensures.value c.known-known.ensures))
+    Stands-on c.self.invariant going _ (c.push_text.ensures ∙ ap (λ x. c.self.inside.taken.items ++ chars x) (front _ c.range-words.ensures.value c.known-known.ensures))
+    _ c.pass.ensures.gives (c.pass.ensures.can, (c.pass.ensures.goes ready.1).0)
 
 pub returns : goal.returns
 returns g c =
     let going : c.self.inside.done ≡ false = rw (← c.self.view_is) at (sym c.has_ended.ensures.value ∙ c.if-has_ended.false) in
-    let ready = c.self.invariant.ready going in
     let piece = front _ c.range-words.ensures.value c.known-known.ensures in (
       chars (take c.words-found.result.end (g.T.Characters.known c.self.inside.iter)),
       rw (← c.self.view_is) record {
         part = chars (take c.words-found.result.end (g.T.Characters.known c.self.inside.iter));
         count = sym (c.character_count-count.ensures ∙ ap (λ x. length (chars x)) piece);
         words = words_known c.args.run c.as_bytes.ensures.value c.known-known.ensures c.known-known.utf8 c.words-found.ensures.words (c.words-found.ensures.ends c.if-found-eq0.false);
-        gives = record {
-          start = refl;
-          taken = c.push_text.ensures ∙ ap (λ x. c.self.inside.taken.items ++ chars x) piece;
-          done = refl;
-          none = λ d. cc;
-          left = rw going (omega (arith, (c.pass.ensures.goes ready.1).1));
-        };
+        gives = Gives-on c.self.invariant going _ (c.push_text.ensures ∙ ap (λ x. c.self.inside.taken.items ++ chars x) piece) _ c.pass.ensures.goes;
         text = refl;
       },
     )
