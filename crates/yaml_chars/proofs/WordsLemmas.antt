@@ -40,9 +40,6 @@ pub begins_in_plain : (flow : Bool) (b : ℕ) → stops_byte (Plain true) b ≡ 
 unfolding begins_byte begins_word stops_byte
 begins_in_plain flow b h e f = grind (arith, nat_tests)
 
-pub not_out : (x : Bool) → not x ≡ false → x ≡ true
-not_out a h = grind arith
-
 pub flow_low : (b : ℕ) → is_flow b ≡ true → b < 128
 unfolding is_flow
 flow_low b h = grind (arith, nat_tests)
@@ -58,33 +55,31 @@ byte_begins_goes run b h = grind (arith, begins_goes run b)
 
 -- ---- a text in memory gives its characters
 
-pub some_of : (n : ℕ) → n ≢ 0 → 0 < n
-some_of n h = omega (arith, h)
-
 abbrev Steps : TextInMemory → Option ℕ → TextInMemory → Type 0
 Steps s r t = chars_steps s.chars r t.chars
 
 step : (c : ℕ) (s t : TextInMemory) → IsUtf8 (text_rest s) → text_rest s ≡ encode c ++ text_rest t → Steps s (Some c) t
 step c s t u e = (e, (λ l. refl), sym (ap (λ x. slice_get x 0) (chars_past_char (text_rest s) (text_rest t) c u e)))
 
-gives_chars : (c : ℕ) (part post : List ℕ) (s t : TextInMemory) → IsUtf8 (text_rest s) → text_rest s ≡ encode c ++ (encodes part ++ post) → text_rest t ≡ post
-    → Yields Steps s (c ∷ part) t
-gives_chars c [] post s t u e rest = (t, step c s t u (e ∙ ap (λ x. encode c ++ x) (sym rest)), refl)
-gives_chars c (d ∷ part) post s t u e rest =
-    let f : text_rest s ≡ encode c ++ (encode d ++ (encodes part ++ post)) = e ∙ ap (λ x. encode c ++ x) (append_assoc (encode d) (encodes part) post) in
-    let next : TextInMemory = record { chars = record { rest = record { ref_ptr = s.chars.rest.ref_ptr; now = encode d ++ (encodes part ++ post) } } } in
-    (next, step c s next u f, gives_chars d part post next t (IsUtf8-past_char (text_rest s) _ c u f) refl rest)
+encode_some : (c : ℕ) (rest : List ℕ) → 0 < length (encode c ++ rest)
+encode_some c rest = omega (arith, length-append (encode c) rest, length-encode c, (len_utf8_bounds c).0)
+
+gives_chars : (cs post : List ℕ) (s t : TextInMemory) → 0 < length (encodes cs) → IsUtf8 (text_rest s) → text_rest s ≡ encodes cs ++ post → text_rest t ≡ post
+    → Yields Steps s cs t
+gives_chars [] post s t some u e rest = absurd (omega (arith, some))
+gives_chars (c ∷ []) post s t some u e rest = (t, step c s t u (e ∙ append_assoc (encode c) [] post ∙ ap (λ x. encode c ++ x) (sym rest)), refl)
+gives_chars (c ∷ d ∷ cs) post s t some u e rest =
+    let f = e ∙ append_assoc (encode c) (encodes (d ∷ cs)) post in
+    let next : TextInMemory = record { chars = record { rest = record { ref_ptr = s.chars.rest.ref_ptr; now = encodes (d ∷ cs) ++ post } } } in
+    (next, step c s next u f, gives_chars (d ∷ cs) post next t (encode_some d (encodes cs)) (IsUtf8-past_char (text_rest s) _ c u f) refl rest)
 
 -- the characters of the first bytes
-pub gives_front : (s t : TextInMemory) (n : ℕ) → 0 < n → n ≤ length (text_rest s) → IsUtf8 (text_rest s) → IsCharBoundary (text_rest s) n → text_rest t ≡ drop n (text_rest s)
-    → Yields Steps s (chars (take n (text_rest s))) t
-gives_front s t n some within u cut rest = by (chars (take n (text_rest s))) (encodes-chars _ (IsUtf8-take _ n u cut))
-  where
-    by : (cs : List ℕ) → encodes cs ≡ take n (text_rest s) → Yields Steps s cs t
-    by [] e = absurd (omega (arith, some, within, length-take-le n (text_rest s) within, ap length e))
-    by (c ∷ cs) e =
-        gives_chars c cs (drop n (text_rest s)) s t u
-        (sym (take-append-drop n (text_rest s)) ∙ ap (λ x. x ++ drop n (text_rest s)) (sym e) ∙ append_assoc (encode c) (encodes cs) _) rest
+pub gives_front : (s t : TextInMemory) (n : ℕ) → n ≢ 0 → n ≤ length (text_rest s) → IsUtf8 (text_rest s) → IsCharBoundary (text_rest s) n
+    → text_rest t ≡ drop n (text_rest s) → Yields Steps s (chars (take n (text_rest s))) t
+gives_front s t n some within u cut rest =
+    let same = encodes-chars _ (IsUtf8-take _ n u cut) in
+    gives_chars _ (drop n (text_rest s)) s t (omega (arith, some, ap length same, length-take-le n (text_rest s) within)) u
+    (sym (ap (λ x. x ++ drop n (text_rest s)) same ∙ take-append-drop n (text_rest s))) rest
 
 goes_in_words : (run : Run) (c d : ℕ) → stops_byte run c ≡ false → is_word_byte run c d ≡ true
 goes_in_words run c d h = rw h refl
@@ -145,14 +140,9 @@ words_after run xs ys words =
 lead_high : (c : ℕ) (rest : List ℕ) → 128 ≤ c → 128 ≤ slice_index (encode c ++ rest) 0
 lead_high c rest high = elim (cases_lt (slice_index (encode c ++ rest) 0) 128) [
   | inl low ↦
-      let some : 0 < length (encode c ++ rest) = omega (arith, length-append (encode c) rest, length-encode c, (len_utf8_bounds c).0) in
-      absurd (omega (arith, high, low, char_from_byte (encode c ++ rest) rest c refl low some))
+      absurd (omega (arith, high, low, char_from_byte (encode c ++ rest) rest c refl low (encode_some c rest)))
   | inr h ↦ h
 ]
-
-goes_high : (run : Run) (c : ℕ) → 128 ≤ c → stops_beyond run ≡ false → stops run c ≡ false
-unfolding stops is_break is_blank is_flow
-goes_high a c b h = grind arith
 
 begins_of_high : (run : Run) (c : ℕ) → 128 ≤ c → stops_beyond run ≡ false → begins_word run c ≡ true
 unfolding begins_word stops is_break is_blank is_flow
@@ -175,7 +165,7 @@ in_words_of run c cs h = elim (cases_lt c 128) [
       let g = rw (ap (λ x. x ++ encodes cs) (encode_ascii c low)) at h in
       let same : nat_lt c 128 ≡ true = grind (arith, nat_tests) in
       grind (arith, g, blank_of_bytes run cs)
-  | inr high ↦ grind (arith, lead_high c (encodes cs) high, word_byte_low, goes_high run c high)
+  | inr high ↦ grind (arith, lead_high c (encodes cs) high, word_byte_low, begins_of_high run c high, begins_goes run c)
 ]
 
 chars_of_bytes : (run : Run) (cs : List ℕ) → AreWordsUpTo run (encodes cs) (length (encodes cs)) → are_words run cs ≡ true
@@ -183,11 +173,8 @@ chars_of_bytes run [] words = refl
 chars_of_bytes run (c ∷ cs) words =
     rw (in_words_of run c cs first, chars_of_bytes run cs (words_after run (encode c) (encodes cs) words)) refl
   where
-    some : 0 < length (encode c ++ encodes cs)
-    some = omega (arith, length-append (encode c) (encodes cs), length-encode c, (len_utf8_bounds c).0)
-
     first : is_word_byte run (slice_index (encode c ++ encodes cs) 0) (slice_index (encode c ++ encodes cs) 1) ≡ true
-    first = elim (cases_lt 1 (length (encode c ++ encodes cs))) [ inl more ↦ words.inner 0 more | inr one ↦ goes_in_words run _ _ (words.last 0 (omega (arith, some))) ]
+    first = elim (cases_lt 1 (length (encode c ++ encodes cs))) [ inl more ↦ words.inner 0 more | inr one ↦ goes_in_words run _ _ (words.last 0 (omega (arith, encode_some c (encodes cs)))) ]
 
 -- the characters of the first bytes are words
 pub words_of : (run : Run) (bs : List ℕ) (n : ℕ) → IsUtf8 bs → AreWordsUpTo run bs n → EndsAtAscii run bs n → are_words run (chars (take n bs)) ≡ true
@@ -257,9 +244,6 @@ lanes_words run bs at n to room few go end = record {
 
 pub words_further : (run : Run) (bs : List ℕ) (n to : ℕ) → AreWordsUpTo run bs n → AreWordsBetween run bs n to → AreWordsUpTo run bs to
 words_further run bs n to words more = grind arith
-
-pub word_further : (run : Run) (bs : List ℕ) (n to : ℕ) → AreWordsUpTo run bs n → IsWordBetween run bs n to → AreWordsUpTo run bs to
-word_further run bs n to words w = grind arith
 
 -- ---- whether a byte outside ASCII was met
 

@@ -1,34 +1,5 @@
 -- `new` makes a value of no bytes, whose ghost field is the empty list.
-use mathlib.Core.Path.{refl}
-use mathlib.Core.List.{[], ◌∷◌}
-use seplogic.Ra.Ura.{Ura}
-use mir.Syntax.{Fn, a_type}
-use mir.Val.{Val, vstruct, vcons, vnil}
-use mir.MapTy.{inst_fn}
-use base.Logic.{SProp, ent}
-use base.Fml.{Fml}
-use prog.Memory.{Memory}
-use prog.Routine.{Routine}
-use prog.Wp.{Calls, Loops, WpFn, Tables}
-use types.Logic.{Logic}
-use contract.Monad.{Fun}
-use contract.Running.{tables, tables_of}
-use sound.WpLaws.{WpFn-mono}
-use types.Kit.{‵, raw, ◌⊛◌, ◌$◌, ◌∵◌, !, qed, move, keep, split, join, use0, suffices, done}
-use types.Run.{no_more, and_then, returns, enter}
-use types.Part.{agg}
-use types.ByLocal.{alloc_all, pass_all, free_all, look_at, get, sets}
-use denote.RattleType.{RattleType, owns}
-use denote.Param.{layouts}
-use denote.Param.Laws.{Laws}
-use denote.Shadow.{makes_shadow}
-use denote.Signature.{types_at, type_at}
-use denote.Steps.{nothing}
-use denote.Triple.Clauses.{Clauses, closing}
-use denote.Triple.Entry.{alive, Res}
-use denote.Triple.Spec.{Meets, triple_of}
-use denote.Triple.Table.{entered}
-use denote.Triple.Walked.{says, Stays, walk_of, ends_at, walk_Meets}
+use Rattle.yaml_chars.proofs.LogicWords.{!, [], a_type, agg, alive, alloc_all, and_then, Calls, Clauses, closing, done, ends_at, ent, enter, entered, Fml, Fn, free_all, Fun, get, inst_fn, join, keep, Laws, layouts, Logic, look_at, Loops, makes_shadow, Meets, Memory, move, no_more, nothing, owns, pass_all, qed, RattleType, raw, refl, Res, returns, Routine, says, sets, split, SProp, Stays, suffices, Tables, tables, tables_of, triple_of, type_at, types_at, Ura, use0, Val, vcons, vnil, vstruct, walk_Meets, walk_of, WpFn, WpFn-mono, ‵, ◌$◌, ◌∵◌, ◌∷◌, ◌⊛◌}
 use Rattle.yaml_chars.specs.contracts.ghost_list.GhostList.new.{ended, clauses}
 use Rattle.yaml_chars.specs.contracts.ghost_list.GhostList.new.Key.{name as #self}
 use Rattle.yaml_chars.proofs.ghost_list.GhostList.new.Statement as stated

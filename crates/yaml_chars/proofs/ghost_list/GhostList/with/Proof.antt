@@ -1,37 +1,5 @@
 -- `with` makes a value of no bytes, whose ghost field is what `before` shows, and one item more.
-use mathlib.Core.Path.{refl, sym, subst}
-use mathlib.Core.List.{List, [], ◌∷◌, ◌++◌}
-use seplogic.Ra.Ura.{Ura}
-use mir.Syntax.{Fn, a_type}
-use mir.Val.{Val, vptr, vstruct, vcons, vnil}
-use mir.MapTy.{inst_fn}
-use base.Logic.{SProp, ent, via, fst∗, snd∗}
-use base.Fml.{Fml}
-use prog.Memory.{Memory}
-use prog.Routine.{Routine}
-use prog.Wp.{Calls, Loops, WpFn, Tables}
-use types.Logic.{Logic, sem}
-use contract.Monad.{Fun, fact_use}
-use contract.Running.{tables, tables_of}
-use sound.WpLaws.{WpFn-mono}
-use types.Kit.{‵, raw, ◌⊛◌, ◌$◌, ◌∵◌, !, qed, move, keep, split, join, fjoin, use0, suffices, done}
-use types.Run.{no_more, and_then, returns, enter}
-use types.Part.{agg}
-use types.ByLocal.{alloc_all, pass_all, free_all, look_at, get, sets}
-use denote.RattleType.{RattleType, owns}
-use denote.Exit.{yes}
-use denote.Laws.{Are, Ises, owns_show, showss}
-use denote.Param.{param, layouts}
-use denote.Param.Laws.{Laws}
-use denote.Shadow.{makes_shadow}
-use denote.Builtin.{RefOf}
-use denote.Signature.{types_at, type_at, plain}
-use denote.Steps.{nothing}
-use denote.Triple.Clauses.{Clauses, closing}
-use denote.Triple.Entry.{on_entry, alive, Res}
-use denote.Triple.Spec.{Meets, triple_of}
-use denote.Triple.Table.{entered}
-use denote.Triple.Walked.{says, Stays, stay_dropped, walk_of, ends_at, Goes-dropped, walk_Meets}
+use Rattle.yaml_chars.proofs.LogicWords.{!, [], a_type, agg, alive, alloc_all, and_then, Are, Calls, Clauses, closing, done, ends_at, ent, enter, entered, fact_use, fjoin, Fml, Fn, free_all, fst∗, Fun, get, Goes-dropped, inst_fn, Ises, join, keep, Laws, layouts, List, Logic, look_at, Loops, makes_shadow, Meets, Memory, move, no_more, nothing, on_entry, owns, owns_show, param, pass_all, plain, qed, RattleType, raw, refl, RefOf, Res, returns, Routine, says, sem, sets, showss, snd∗, split, SProp, stay_dropped, Stays, subst, suffices, sym, Tables, tables, tables_of, triple_of, type_at, types_at, Ura, use0, Val, vcons, via, vnil, vptr, vstruct, walk_Meets, walk_of, WpFn, WpFn-mono, yes, ‵, ◌$◌, ◌++◌, ◌∵◌, ◌∷◌, ◌⊛◌}
 use Rattle.yaml_chars.specs.contracts.ghost_list.GhostList as history
 use Rattle.yaml_chars.specs.contracts.ghost_list.GhostList.with.{ended, clauses}
 use Rattle.yaml_chars.specs.contracts.ghost_list.GhostList.with.Key.{name as #self}

@@ -1,13 +1,10 @@
 use Rattle.yaml_chars.proofs.Common.{ap, arith, chars, false, length, refl, sym, take, ◌++◌, ◌∙◌, ◌≡◌}
-use Rattle.yaml_chars.proofs.WordsLemmas.{ascii_of, front, front_range, Gives-on, Stands-on, words_cut, words_cut_known, words_known}
+use Rattle.yaml_chars.proofs.WordsLemmas.{front, Gives-on, Stands-on, words_cut, words_cut_known, words_known}
 use Rattle.yaml_chars.proofs.source.Source.pass_words.Goals as goal
 
 pub range-words-requires-clause-end_boundary : goal.range-words-requires-clause-end_boundary
 range-words-requires-clause-end_boundary g c =
     words_cut c.args.run c.as_bytes.ensures.value c.known-known.ensures c.known-known.utf8 c.words-found.ensures.words (c.words-found.ensures.ends c.if-found-eq0.false)
-
-pub character_count-count-requires : goal.character_count-count-requires
-character_count-count-requires g c = grind (arith, front_range, ascii_of)
 
 pub pass-requires-clause-cut : goal.pass-requires-clause-cut
 pass-requires-clause-cut g c =
