@@ -1,4 +1,4 @@
-use Rattle.yaml_chars.proofs.Common.{ap, arith, chars, false, length, refl, sym, take, ◌++◌, ◌∙◌, ◌≡◌}
+use Rattle.yaml_chars.proofs.Common.{ap, chars, false, length, refl, sym, take, ◌++◌, ◌∙◌, ◌≡◌}
 use Rattle.yaml_chars.proofs.WordsLemmas.{front, Gives-on, Stands-on, words_cut, words_cut_known, words_known}
 use Rattle.yaml_chars.proofs.source.Source.pass_words.Goals as goal
 
