@@ -1,6 +1,6 @@
 -- Lemmas about keys, values and other scalars of one line that are known to come.
 use Rattle.std.proofs.lemmas.List.{take_more}
-use Rattle.yaml_chars.proofs.Common.{[], ap, append_assoc, ap₂, AreSimpleUpTo, arith, bare, begin, Bool, cases_lt, chars, chars-IsAscii, drop, Ends, EndsKey, EndsLine, false, Fills, get_or-append-add, get_or-drop, get_or-take, get_or_append_left, GivesPart, halts_simple, HasNoNul, indented, inl, inr, is_alphanumeric, is_simple, IsCharBoundary, IsCharBoundary-after_ascii, IsSimpleText, IsTextUpTo, IsUtf8, length, length-append, length-drop, length-take-le, List, nat_lt, nat_tests, opens_simple, Pulled, Reads, refl, slice_index, subst, suc, sym, take, TakesKey, TakesLine, true, zero, ℕ, ◌&&◌, ◌++◌, ◌+◌, ◌-◌, ◌<◌, ◌==◌, ◌||◌, ◌∙◌, ◌∷◌, ◌≡◌, ◌≢◌, ◌≤◌}
+use Rattle.yaml_chars.proofs.Common.{[], ap, append_assoc, ap₂, AreSimpleUpTo, arith, bare, begin, Bool, cases_lt, chars, chars-IsAscii, drop, drop_more, Ends, EndsKey, EndsLine, false, Fills, get_or-append-add, get_or-drop, get_or-take, get_or_append_left, GivesPart, halts_simple, HasNoNul, indented, inl, inr, is_alphanumeric, is_simple, IsCharBoundary, IsCharBoundary-after_ascii, IsSimpleText, IsTextUpTo, IsUtf8, length, length-append, length-drop, length-take-le, List, nat_lt, nat_tests, opens_simple, Pulled, Reads, refl, slice_index, subst, suc, sym, take, TakesKey, TakesLine, true, zero, ℕ, ◌&&◌, ◌++◌, ◌+◌, ◌-◌, ◌<◌, ◌==◌, ◌||◌, ◌∙◌, ◌∷◌, ◌≡◌, ◌≢◌, ◌≤◌}
 use Rattle.yaml_chars.specs.declared.block_line.LineKind.{LineKind}
 use Rattle.yaml_chars.specs.declared.block_line.LineKind.TheVariants.{Key, Value, Node}
 use Rattle.yaml_chars.proofs.WindowViewLemmas.{Fills-given, Reads-given, Reads-map}
@@ -30,10 +30,7 @@ pub simple_further : (bs : List ℕ) (at n : ℕ) → AreSimpleUpTo bs at → at
     → ((k : ℕ) → k < n → halts_simple (slice_index bs (at + k)) ≡ false) → AreSimpleUpTo bs (at + n)
 simple_further bs at n so room few go = record {
   within = omega (arith, room, few);
-  inner = λ k h. elim (cases_lt k at) [
-    | inl before ↦ so.inner k before
-    | inr after ↦ let here : at + (k - at) ≡ k = omega arith in rw (← here) (halts_is_simple _ (go (k - at) (omega (arith, h, after))))
-  ];
+  inner = λ k h. let same : at ≤ k → at + (k - at) ≡ k = λ l. omega arith in grind (arith, so.inner k, go (k - at), halts_is_simple);
 }
 
 -- what a text may begin with is simple
@@ -46,9 +43,6 @@ unfolding is_simple
 space_is_simple c e = grind (arith, nat_tests)
 
 -- ---- what is held, and the bytes after it
-
-held_at : (held more : List ℕ) (k : ℕ) → k < length held → slice_index (held ++ more) k ≡ slice_index held k
-held_at held more k h = get_or_append_left held more 0 k h
 
 after_at : (held bs : List ℕ) (n k : ℕ) → k < n → slice_index (held ++ take n bs) (length held + k) ≡ slice_index bs k
 after_at held bs n k h = get_or-append-add held (take n bs) k 0 ∙ get_or-take n bs k 0 h
@@ -79,7 +73,7 @@ text_ends held bs from n so begun some first after last = record {
     simple : (k : ℕ) → from ≤ k → k < length held + n → is_simple (slice_index (held ++ take n bs) k) ≡ true
     simple k a b =
         let same : length held ≤ k → length held + (k - length held) ≡ k = λ l. omega arith in
-        grind (arith, opens_is_simple, held_at held (take n bs) k, after_at held bs n (k - length held), so.inner (k - length held), after k)
+        grind (arith, opens_is_simple, get_or_append_left held (take n bs) 0 k, after_at held bs n (k - length held), so.inner (k - length held), after k)
 
 -- ---- the bytes of a part
 
@@ -252,9 +246,6 @@ module _ {T : Type 0} {part : LineKind} {held : List ℕ} {s new : Pulled T} {n 
       col = refl;
     }
 
-head_again : (xs : List ℕ) (c : ℕ) → 0 < length xs → slice_index xs 0 ≡ c → xs ≡ c ∷ drop 1 xs
-head_again a c b e = grind arith
-
 -- what is held and the bytes after it are a space and the value
 pub value_stands : (limit : ℕ) {T : Type 0} {held : List ℕ} {s new : Pulled T} {n : ℕ} {broken : Bool} {spaces c : ℕ} {text : List ℕ} (given : GivesPart (Value limit) held s new n broken spaces c text)
     → held ++ take n given.known ≡ (32 ∷ []) ++ text
@@ -262,5 +253,5 @@ value_stands limit {held = held} {n = n} given =
     let ends = given.ends.1 in
     let up_to = ends.text in
     let whole = held ++ take n given.known in
-    head_again whole 32 (omega (arith, whole_length held given.known n up_to.within, up_to.begun)) (held_at held (take n given.known) 0 (omega (arith, up_to.begun)) ∙ given.ends.0)
-    ∙ ap (λ x. 32 ∷ x) (sym given.joined)
+    drop_more whole 0 0 (omega (arith, whole_length held given.known n up_to.within, up_to.begun))
+    ∙ ap₂ (λ x y. x ∷ y) (get_or_append_left held (take n given.known) 0 0 (omega (arith, up_to.begun)) ∙ given.ends.0) (sym given.joined)

@@ -12,12 +12,6 @@ up_to_nul-next : (c : ℕ) (cs : List ℕ) → c ≢ 0 → up_to_nul (c ∷ cs) 
 unfolding is_nul
 up_to_nul-next c cs n = grind arith
 
-first-no_nul : (c : ℕ) (cs : List ℕ) → HasNoNul (c ∷ cs) → c ≢ 0
-first-no_nul c cs h = h 0 (omega arith)
-
-rest-no_nul : (c : ℕ) (cs : List ℕ) → HasNoNul (c ∷ cs) → HasNoNul cs
-rest-no_nul c cs h = λ k in_range. h (suc k) (omega arith)
-
 module _ {S : Type 0} (steps : S → Option ℕ → S → Type 0) where
   -- after characters that came, the others come
   later : (cs all : List ℕ) (it t : S) → AlwaysYields steps (λ c. c) it all → Yields steps it cs t → HasNoNul cs
@@ -26,8 +20,8 @@ module _ {S : Type 0} (steps : S → Option ℕ → S → Type 0) where
   later (c ∷ cs) [] it t always y h = absurd (always c y.0 y.1)
   later (c ∷ cs) (d ∷ all) it t always y h =
       let next = always.1 c y.0 y.1 in
-      let after = later cs all y.0 t next.1 y.2 (rest-no_nul c cs h) in
-      (after.0, after.1, rw (← next.0) (rw (up_to_nul-next c all (first-no_nul c cs h)) (ap (λ xs. c ∷ xs) after.2)))
+      let after = later cs all y.0 t next.1 y.2 (λ k l. h (suc k) (omega arith)) in
+      (after.0, after.1, rw (← next.0) (rw (up_to_nul-next c all (h 0 (omega arith))) (ap (λ xs. c ∷ xs) after.2)))
 
   -- where the end comes, there are none
   none : (all : List ℕ) (t : S) (o : Option ℕ) (u : S) → AlwaysYields steps (λ c. c) t all → steps t o u → IsEnd o → up_to_nul all ≡ []

@@ -37,13 +37,10 @@ pub string_chars_push : {A : Type 0} (s t : String A) (c : ℕ) → IsScalar c �
 unfolding string_chars
 string_chars_push s t c ok e = chars_push s (string_bytes t) c ok e
 
-suc_is_some : (n : ℕ) → (suc n == 0) ≡ false
-suc_is_some n = grind (arith, nat_tests)
-
 is_nil_encoded : (cs bs : List ℕ) → encode_utf8_all cs ≡ bs → cs ≡ chars bs → is_empty (chars bs) ≡ (length bs == 0)
 is_nil_encoded [] bs e f = rw (← f, ← e) refl
 is_nil_encoded (c ∷ cs) [] e f = let g : c ∷ cs ≡ [] = f ∙ chars-nil in cc
-is_nil_encoded (c ∷ cs) (b ∷ bs) e f = rw (← f) (sym (suc_is_some (length bs)))
+is_nil_encoded (c ∷ cs) (b ∷ bs) e f = rw (← f) (grind (arith, nat_tests))
 
 pub is_nil_chars : {A : Type 0} (s : String A) → is_empty (chars (string_bytes s)) ≡ (length (string_bytes s) == 0)
 is_nil_chars s = is_nil_encoded (chars (string_bytes s)) (string_bytes s) (encodes-chars (string_bytes s) (IsUtf8-string_bytes s)) refl
