@@ -1,6 +1,6 @@
 -- Lemmas about keys, values and other scalars of one line that are known to come.
 use Rattle.std.proofs.lemmas.List.{take_more}
-use Rattle.yaml_chars.proofs.Common.{[], ap, append_assoc, ap₂, AreSimpleUpTo, arith, bare, begin, Bool, cases_lt, chars, chars-IsAscii, drop, drop_more, Ends, EndsKey, EndsLine, false, Fills, get_or-append-add, get_or-drop, get_or-take, get_or_append_left, GivesPart, halts_simple, HasNoNul, indented, inl, inr, is_alphanumeric, is_simple, IsCharBoundary, IsCharBoundary-after_ascii, IsSimpleText, IsTextUpTo, IsUtf8, length, length-append, length-drop, length-take-le, List, nat_lt, nat_tests, opens_simple, Pulled, Reads, refl, slice_index, subst, suc, sym, take, TakesKey, TakesLine, true, zero, ℕ, ◌&&◌, ◌++◌, ◌+◌, ◌-◌, ◌<◌, ◌==◌, ◌||◌, ◌∙◌, ◌∷◌, ◌≡◌, ◌≢◌, ◌≤◌}
+use Rattle.yaml_chars.proofs.Common.{[], ap, append_assoc, ap₂, AreSimpleUpTo, arith, bare, begin, Bool, chars, chars-IsAscii, drop, drop_more, Ends, EndsKey, EndsLine, false, Fills, get_or-append-add, get_or-drop, get_or-take, get_or_append_left, GivesPart, halts_simple, HasNoNul, indented, inl, inr, is_alphanumeric, is_simple, IsCharBoundary, IsCharBoundary-after_ascii, IsSimpleText, IsTextUpTo, IsUtf8, length, length-append, length-drop, length-take-le, List, nat_lt, nat_tests, opens_simple, Pulled, Reads, refl, slice_index, subst, suc, sym, take, TakesKey, TakesLine, true, zero, ℕ, ◌&&◌, ◌++◌, ◌+◌, ◌-◌, ◌<◌, ◌==◌, ◌||◌, ◌∙◌, ◌∷◌, ◌≡◌, ◌≢◌, ◌≤◌}
 use Rattle.yaml_chars.specs.declared.block_line.LineKind.{LineKind}
 use Rattle.yaml_chars.specs.declared.block_line.LineKind.TheVariants.{Key, Value, Node}
 use Rattle.yaml_chars.proofs.WindowViewLemmas.{Fills-given, Reads-given, Reads-map}
@@ -73,7 +73,8 @@ text_ends held bs from n so begun some first after last = record {
     simple : (k : ℕ) → from ≤ k → k < length held + n → is_simple (slice_index (held ++ take n bs) k) ≡ true
     simple k a b =
         let same : length held ≤ k → length held + (k - length held) ≡ k = λ l. omega arith in
-        grind (arith, opens_is_simple, get_or_append_left held (take n bs) 0 k, after_at held bs n (k - length held), so.inner (k - length held), after k)
+        let beyond = after_at held bs n (k - length held) in
+        grind (arith, opens_is_simple, get_or_append_left held (take n bs) 0 k, beyond, so.inner (k - length held), after k)
 
 -- ---- the bytes of a part
 
@@ -106,7 +107,8 @@ line_bytes from limit held bs n spaces e = record {
   next = plain_visible _ e.next;
 }
 
-pub part_bytes : (part : LineKind) (held bs : List ℕ) (n spaces : ℕ) → Ends part held bs n spaces → (mark : ℕ) × Bytes mark (begin part) held bs n spaces
+pub part_bytes : (part : LineKind) (held bs : List ℕ) (n spaces : ℕ) → Ends part held bs n spaces
+    → (mark : ℕ) × Bytes mark (begin part) held bs n spaces
 part_bytes Key held bs n spaces e = (58, key_bytes held bs n spaces e)
 part_bytes (Value limit) held bs n spaces e = (10, line_bytes 1 limit held bs n spaces e.1)
 part_bytes (Node limit) held bs n spaces (inl e) = (58, key_bytes held bs n spaces e)
@@ -128,7 +130,8 @@ indented_after bs b i (suc spaces) within blank =
     let same : i + suc spaces ≡ i + 1 + spaces = omega arith in
     let none : i ≡ i + 0 = omega arith in
     let first : slice_index bs i ≡ 32 = ap (slice_index bs) none ∙ blank 0 (omega arith) in
-    let later = λ (k : ℕ) (h : k < spaces). let next : i + 1 + k ≡ i + suc k = omega arith in ap (slice_index bs) next ∙ blank (suc k) (omega (arith, h)) in
+    let later = λ (k : ℕ) (h : k < spaces).
+    let next : i + 1 + k ≡ i + suc k = omega arith in ap (slice_index bs) next ∙ blank (suc k) (omega (arith, h)) in
     ap (λ m. take m bs ++ b) same ∙ indented_after bs b (i + 1) spaces (omega (arith, within)) later
     ∙ ap (λ x. x ++ indented spaces b) (take_more bs i 0 (omega (arith, within)) ∙ ap (λ x. take i bs ++ x ∷ []) first)
     ∙ append_assoc (take i bs) (32 ∷ []) (indented spaces b)
@@ -141,7 +144,9 @@ module _ {mark from : ℕ} {held bs : List ℕ} {n spaces : ℕ} (bytes : Bytes 
   plain_at : (k : ℕ) → k < n + 1 + spaces + 1 → IsPlain (slice_index bs k)
   plain_at k h =
       let same : n < k → n + 1 + (k - (n + 1)) ≡ k = λ l. omega arith in
-      (grind (arith, plain_simple, bytes.text.bytes k, bytes.blank (k - (n + 1))), λ e. grind (arith, plain_simple, bytes.text.bytes k, bytes.blank (k - (n + 1))))
+      let text = bytes.text.bytes k in
+      let blank = bytes.blank (k - (n + 1)) in
+      (grind (arith, plain_simple, text, blank), λ e. grind (arith, plain_simple, text, blank))
 
   pub part_cut : IsUtf8 bs → IsCharBoundary bs (n + 1 + spaces + 1)
   part_cut u = IsCharBoundary-after_ascii bs (n + 1 + spaces) u bytes.within bytes.next.0
@@ -156,15 +161,18 @@ module _ {mark from : ℕ} {held bs : List ℕ} {n spaces : ℕ} (bytes : Bytes 
 
   whole_front : take (n + 1 + spaces + 1) bs ≡ take n bs ++ mark ∷ indented spaces (slice_index bs (n + 1 + spaces) ∷ [])
   whole_front =
-      take_more bs (n + 1 + spaces) 0 bytes.within ∙ indented_after bs (slice_index bs (n + 1 + spaces) ∷ []) (n + 1) spaces (omega (arith, bytes.within)) bytes.blank
-      ∙ ap (λ x. x ++ indented spaces (slice_index bs (n + 1 + spaces) ∷ [])) (take_more bs n 0 (omega (arith, bytes.within)) ∙ ap (λ x. take n bs ++ x ∷ []) bytes.marked)
+      take_more bs (n + 1 + spaces) 0 bytes.within ∙ indented_after bs (slice_index bs (n + 1 + spaces) ∷ []) (n + 1) spaces
+      (omega (arith, bytes.within)) bytes.blank
+      ∙ ap (λ x. x ++ indented spaces (slice_index bs (n + 1 + spaces) ∷ []))
+      (take_more bs n 0 (omega (arith, bytes.within)) ∙ ap (λ x. take n bs ++ x ∷ []) bytes.marked)
       ∙ append_assoc (take n bs) (mark ∷ []) _
 
 -- ---- a part is taken into a window
 
-module _ {T : Type 0} {part : LineKind} {held : List ℕ} {s new : Pulled T} {n : ℕ} {broken : Bool} {spaces c : ℕ} {text : List ℕ} {at line col : ℕ}
-    (fills : Fills s held at line col) (given : GivesPart part held s new n broken spaces c text) where
-  module _ (before : List ℕ) (stands : held ++ take n given.known ≡ before ++ text) {mark from : ℕ} (bytes : Bytes mark from held given.known n spaces) where
+module _ {T : Type 0} {part : LineKind} {held : List ℕ} {s new : Pulled T} {n : ℕ} {broken : Bool} {spaces c : ℕ} {text : List ℕ}
+    {at line col : ℕ} (fills : Fills s held at line col) (given : GivesPart part held s new n broken spaces c text) where
+  module _ (before : List ℕ) (stands : held ++ take n given.known ≡ before ++ text) {mark from : ℕ}
+      (bytes : Bytes mark from held given.known n spaces) where
     -- what is read, up to the character after it
     abbrev gone : List ℕ
     gone = before ++ (text ++ mark ∷ indented spaces [])
@@ -187,14 +195,17 @@ module _ {T : Type 0} {part : LineKind} {held : List ℕ} {s new : Pulled T} {n 
     lengths : length before + length text ≡ length held + n
     lengths = sym (length-append before text) ∙ ap length (sym stands) ∙ whole_length held given.known n (omega (arith, bytes.within))
 
-    Fills-part : (to row place : ℕ) → to ≡ at + (length held + n + 1 + spaces) → row + place ≤ to + 1 → place ≤ to → Fills new (c ∷ []) to row place
+    Fills-part : (to row place : ℕ) → to ≡ at + (length held + n + 1 + spaces) → row + place ≤ to + 1 → place ≤ to
+        → Fills new (c ∷ []) to row place
     Fills-part to row place end lines cols =
-        Fills-given fills given.gives (fills.going given.going) gone (c ∷ []) split to row place (omega (arith, end, sizes)) (no_nul_front bytes) lines cols
+        Fills-given fills given.gives (fills.going given.going) gone (c ∷ []) split to row place (omega (arith, end, sizes))
+        (no_nul_front bytes) lines cols
 
     Reads-part : (to row place h k : ℕ) → to ≡ at + (length held + n + 1 + spaces)
         → Reads (record (bare s at line col) { ahead = h }) (record (bare new to row place) { ahead = k }) (λ a b.
         (a ≡ before ++ (text ++ mark ∷ indented spaces b)) × (slice_index b 0 ≡ slice_index given.known (n + 1 + spaces)))
-    Reads-part to row place h k end = Reads-map _ _ (Reads-given fills given.gives (fills.going given.going) gone (c ∷ []) split to row place h k (omega (arith, end, sizes))) (λ a b e.
+    Reads-part to row place h k end = Reads-map _ _
+        (Reads-given fills given.gives (fills.going given.going) gone (c ∷ []) split to row place h k (omega (arith, end, sizes))) (λ a b e.
         (e.0 ∙ simp (append_assoc, indented_append), ap (λ x. slice_index x 0) e.2 ∙ given.next))
 
   -- a key
@@ -205,7 +216,8 @@ module _ {T : Type 0} {part : LineKind} {held : List ℕ} {s new : Pulled T} {n 
     pub Fills-key : Fills new (c ∷ []) (at + (length held + n + 1)) line (col + (length held + n + 1))
     Fills-key = Fills-part [] stands bytes_key _ line _ (omega (arith, ends.1)) (omega (arith, fills.lines)) (omega (arith, fills.cols))
 
-    pub takes_key : (h k : ℕ) → TakesKey (record (bare s at line col) { ahead = h }) (record (bare new (at + (length held + n + 1)) line (col + (length held + n + 1))) { ahead = k }) text
+    pub takes_key : (h k : ℕ) → TakesKey (record (bare s at line col) { ahead = h })
+        (record (bare new (at + (length held + n + 1)) line (col + (length held + n + 1))) { ahead = k }) text
     takes_key h k =
         let key = ends.0 in
         let up_to = key.text in
@@ -224,7 +236,8 @@ module _ {T : Type 0} {part : LineKind} {held : List ℕ} {s new : Pulled T} {n 
         }
 
   -- a text, a line feed and the next line's spaces
-  module _ (before : List ℕ) {limit : ℕ} (stands : held ++ take n given.known ≡ before ++ text) (ends : EndsLine (begin part) limit held given.known n spaces) where
+  module _ (before : List ℕ) {limit : ℕ} (stands : held ++ take n given.known ≡ before ++ text)
+      (ends : EndsLine (begin part) limit held given.known n spaces) where
     bytes_line : Bytes 10 (begin part) held given.known n spaces
     bytes_line = line_bytes (begin part) limit held given.known n spaces ends
 
@@ -232,9 +245,11 @@ module _ {T : Type 0} {part : LineKind} {held : List ℕ} {s new : Pulled T} {n 
     simple_line = let up_to = ends.text in subst IsSimpleText (sym given.joined) up_to.simple
 
     pub Fills-line : Fills new (c ∷ []) (at + (length held + n + 1 + spaces)) (line + 1) spaces
-    Fills-line = Fills-part before stands bytes_line _ (line + 1) spaces refl (omega (arith, fills.lines, lengths before stands bytes_line, simple_line.some)) (omega arith)
+    Fills-line = Fills-part before stands bytes_line _ (line + 1) spaces refl
+        (omega (arith, fills.lines, lengths before stands bytes_line, simple_line.some)) (omega arith)
 
-    pub takes_line : (h k : ℕ) → TakesLine before limit (record (bare s at line col) { ahead = h }) (record (bare new (at + (length held + n + 1 + spaces)) (line + 1) spaces) { ahead = k }) text
+    pub takes_line : (h k : ℕ) → TakesLine before limit (record (bare s at line col) { ahead = h })
+        (record (bare new (at + (length held + n + 1 + spaces)) (line + 1) spaces) { ahead = k }) text
     takes_line h k = record {
       spaces = spaces;
       low = ends.low;

@@ -49,7 +49,8 @@ firsts_char c rest = by (ltb c 128) (ltb c 2048) (ltb c 65536) refl
         → count_by is_first_byte (cond x (c ∷ []) (cond y ((192 + c / 64) ∷ next c ∷ []) (cond z ((224 + c / 4096) ∷ next (c / 64) ∷ next c ∷ []) ((240 + c / 262144) ∷ next (c / 4096) ∷ next (c / 64) ∷ next c ∷ []))) ++ rest) ≡ suc (count_by is_first_byte rest)
     by true y z e = begins_low c rest (grind (arith, nat_tests))
     by false true z e = begins_high (192 + c / 64) (next c ∷ rest) (omega arith) ∙ ap suc (follows c rest)
-    by false false true e = begins_high (224 + c / 4096) (next (c / 64) ∷ next c ∷ rest) (omega arith) ∙ ap suc (follows (c / 64) (next c ∷ rest) ∙ follows c rest)
+    by false false true e = begins_high (224 + c / 4096) (next (c / 64) ∷ next c ∷ rest) (omega arith)
+        ∙ ap suc (follows (c / 64) (next c ∷ rest) ∙ follows c rest)
     by false false false e =
         begins_high (240 + c / 262144) (next (c / 4096) ∷ next (c / 64) ∷ next c ∷ rest) (omega arith)
         ∙ ap suc (follows (c / 4096) (next (c / 64) ∷ next c ∷ rest) ∙ follows (c / 64) (next c ∷ rest) ∙ follows c rest)
@@ -63,8 +64,10 @@ firsts_chars : (bs : List ℕ) → IsUtf8 bs → count_by is_first_byte bs ≡ l
 firsts_chars bs u = ap (count_by is_first_byte) (sym (encodes-chars bs u)) ∙ firsts_encodes (chars bs)
 
 -- counted in two parts
-count_more : (xs : List ℕ) (at n : ℕ) → count_by is_first_byte (take (at + n) xs) ≡ count_by is_first_byte (take at xs) + count_by is_first_byte (take n (drop at xs))
-count_more xs at n = ap (count_by is_first_byte) (take-add at n xs) ∙ sum_by-append (λ y. cond (is_first_byte y) 1 0) (take at xs) (take n (drop at xs))
+count_more : (xs : List ℕ) (at n : ℕ)
+    → count_by is_first_byte (take (at + n) xs) ≡ count_by is_first_byte (take at xs) + count_by is_first_byte (take n (drop at xs))
+count_more xs at n = ap (count_by is_first_byte) (take-add at n xs)
+    ∙ sum_by-append (λ y. cond (is_first_byte y) 1 0) (take at xs) (take n (drop at xs))
 
 pub block_more : (xs : List ℕ) (at m n : ℕ) → m ≡ count_by is_first_byte (take at xs) → n ≡ count_by is_first_byte (chunk at 16 xs) → m + n ≡ count_by is_first_byte (take (at + 16) xs)
 block_more xs at m n e f = omega (arith, e, f, count_more xs at 16)
@@ -72,7 +75,9 @@ block_more xs at m n e f = omega (arith, e, f, count_more xs at 16)
 pub block_few : (xs : List ℕ) (at m n : ℕ) → at + 16 ≤ length xs → m ≡ count_by is_first_byte (take at xs) → n ≡ count_by is_first_byte (chunk at 16 xs) → m + n ≤ length xs
 block_few xs at m n room e f = omega (arith, block_more xs at m n e f, count_by-le-length is_first_byte (take (at + 16) xs), length-take-le (at + 16) xs room, room)
 
-pub count_whole : (bs : List ℕ) (at m n : ℕ) → IsUtf8 bs → m ≡ count_by is_first_byte (take at bs) → n ≡ count_by is_first_byte (take (length bs - at) (drop at bs))
+pub count_whole : (bs : List ℕ) (at m n : ℕ) → IsUtf8 bs → m ≡ count_by is_first_byte (take at bs)
+    → n ≡ count_by is_first_byte (take (length bs - at) (drop at bs))
     → m + n ≡ length (chars bs)
 count_whole bs at m n u e f =
-    omega (arith, e, f, ap (count_by is_first_byte) (take_rest bs at), sum_by-take-drop (λ y. cond (is_first_byte y) 1 0) bs at, firsts_chars bs u)
+    let rest = ap (count_by is_first_byte) (take_rest bs at) in
+    omega (arith, e, f, rest, sum_by-take-drop (λ y. cond (is_first_byte y) 1 0) bs at, firsts_chars bs u)

@@ -28,7 +28,8 @@ pub against : {V : Type 0} (f : ℕ → ℕ → ℕ) (g : V → ℕ) (v : List V
 against f g v n y long e = zip2_of_maps f g (λ _. y) v e (splat_is_map v n y long)
 
 -- the lanes' top bits are what was tested
-pub tested : {V : Type 0} (p : V → Bool) (v : List V) (z : List ℕ) → length v ≤ 64 → z ≡ map (λ x. lane (p x)) v → mask_l (map (top 7) z) % 2 ^ 64 ≡ mask_l (map p v)
+pub tested : {V : Type 0} (p : V → Bool) (v : List V) (z : List ℕ) → length v ≤ 64 → z ≡ map (λ x. lane (p x)) v
+    → mask_l (map (top 7) z) % 2 ^ 64 ≡ mask_l (map p v)
 tested p v z short e = rw e (simp (map-map, top_lane) (mask_l-mod (map p v) 64 (omega (arith, length-map v p))))
 
 -- sixteen lanes, and what each holds
@@ -67,7 +68,8 @@ sides (x ∷ xs) (y ∷ ys) e = let rest = sides xs ys (omega (arith, e)) in (ap
 pub length-pairs : (xs ys : List ℕ) → length xs ≡ length ys → length (pairs xs ys) ≡ length xs
 length-pairs xs ys e = let both = sides xs ys e in sym (ap length both.0 ∙ length-map (pairs xs ys) (λ x. x.0))
 
-get_or-pairs : (xs ys : List ℕ) (k : ℕ) → length xs ≡ length ys → k < length xs → get_or (pairs xs ys) k (0, 0) ≡ (get_or xs k 0, get_or ys k 0)
+get_or-pairs : (xs ys : List ℕ) (k : ℕ) → length xs ≡ length ys → k < length xs
+    → get_or (pairs xs ys) k (0, 0) ≡ (get_or xs k 0, get_or ys k 0)
 get_or-pairs [] ys k e l = absurd (omega (arith, l))
 get_or-pairs (x ∷ xs) [] k e l = absurd (omega (arith, e))
 get_or-pairs (x ∷ xs) (y ∷ ys) zero e l = refl
@@ -85,5 +87,6 @@ pairs_at bs at room =
     let alike = here.long ∙ sym (length-chunk (at + 1) 16 bs (omega arith)) in
     record {
       long = length-pairs _ _ alike ∙ here.long;
-      holds = λ k h. get_or-pairs _ _ k alike (omega (arith, here.long)) ∙ ap₂ (λ x y. (x, y)) (here.holds k h) (get_or-chunk (at + 1) 16 bs k 0 h);
+      holds = λ k h. get_or-pairs _ _ k alike (omega (arith, here.long))
+          ∙ ap₂ (λ x y. (x, y)) (here.holds k h) (get_or-chunk (at + 1) 16 bs k 0 h);
     }

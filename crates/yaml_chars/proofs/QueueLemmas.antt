@@ -23,7 +23,8 @@ module _ (N k n : ℕ) (xs : List ℕ) (start_in_range : k < N) (len_fits : n �
       get_or-take n _ i d in_range ∙ elim (mod_wraps_once N (k + i) (omega arith)) [
         | inl unwrapped ↦ get_or_append_left _ _ d i (omega arith) ∙ get_or-drop k xs i d ∙ ap (λ j. get_or xs j d) (omega arith)
         | inr wrapped ↦
-            get_or-append_right _ _ (N - k) i d (omega arith) (omega arith) ∙ get_or-take k xs _ d (omega arith) ∙ ap (λ j. get_or xs j d) (omega arith)
+            get_or-append_right _ _ (N - k) i d (omega arith) (omega arith) ∙ get_or-take k xs _ d (omega arith)
+            ∙ ap (λ j. get_or xs j d) (omega arith)
       ]
 
 -- A second block, since these use the lemmas above at other windows.

@@ -20,7 +20,8 @@ GoesOn-more {run = run} {n = n} {c = c} on pulls goes some = record {
   reads = λ at line col f.
       let here : at + (n + 1) ≡ (at + n) + 1 = omega arith in
       let there : col + (n + 1) ≡ (col + n) + 1 = omega arith in
-      rw (here, there) (Reads-then _ _ _ (on.reads at line col f) (Reads-taken (on.fills at line col f) pulls some refl 0 0) (λ a b d e g. e ∙ ran_on run c b d _ _ g goes));
+      rw (here, there) (Reads-then _ _ _ (on.reads at line col f) (Reads-taken (on.fills at line col f) pulls some refl 0 0)
+      (λ a b d e g. e ∙ ran_on run c b d _ _ g goes));
 }
 
 -- a run goes on until a character comes with which it does not, or memory is refused
@@ -51,8 +52,9 @@ pub ran_stops : (run : Run) (b : List ℕ) (p : Position) (t : List ℕ) → sto
 ran_stops run [] p t h = refl
 ran_stops run (c ∷ b) p t h = rw h refl
 
-module _ {T : Type 0} {run : Run} {s : Pulled T} {ring : List ℕ} {at line col : ℕ} {new : Pulled T} {n c : ℕ} {refused : Bool} {before after : List ℕ}
-    (fills : Fills s ring at line col) (none : length ring ≡ 0) (over : GoesOver run s new n c refused before after) where
+module _ {T : Type 0} {run : Run} {s : Pulled T} {ring : List ℕ} {at line col : ℕ} {new : Pulled T} {n c : ℕ} {refused : Bool}
+    {before after : List ℕ} (fills : Fills s ring at line col) (none : length ring ≡ 0)
+    (over : GoesOver run s new n c refused before after) where
   empty : Fills s [] at line col
   empty = rw (nil_from_length ring none) at fills
 
@@ -65,7 +67,8 @@ module _ {T : Type 0} {run : Run} {s : Pulled T} {ring : List ℕ} {at line col 
 
   pub Reads-over : (h k : ℕ) → Reads (record (bare s at line col) { ahead = h }) (record (bare new (at + n) line (col + n)) { ahead = k }) (λ a b.
       (ran run a (record { index = at; line = line; col = col }) before ≡ ran run b (record { index = at + n; line = line; col = col + n }) after) × (slice_index b 0 ≡ c))
-  Reads-over h k = Reads-then _ _ _ (Reads-ahead _ _ h (over.goes.reads at line col empty)) (Reads-more last_fills over.later 0 k) (λ a b d e f.
+  Reads-over h k = Reads-then _ _ _ (Reads-ahead _ _ h (over.goes.reads at line col empty)) (Reads-more last_fills over.later 0 k)
+      (λ a b d e f.
       (e ∙ ap (λ x. ran run x (record { index = at + n; line = line; col = col + n }) after) (sym f.0), f.1 refl))
 
   -- where memory was there, the run ended

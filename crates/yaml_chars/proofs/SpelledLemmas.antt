@@ -41,7 +41,8 @@ module _ {S : Type 0} (steps : S → Option ℕ → S → Type 0) where
       came false from = from.going refl
 
       begins : take (length b.taken) (up_to_nul all) ≡ b.taken
-      begins = let y = came b.done b.came in let after = later b.taken all it y.0 always y.1 b.no_nul in rw after.2 (take_at b.taken _ _ refl)
+      begins = let y = came b.done b.came in let after = later b.taken all it y.0 always y.1 b.no_nul in
+          rw after.2 (take_at b.taken _ _ refl)
 
 -- the characters of a text
 pub Chars-spelled : (it : Chars) (bs : List ℕ) → IsUtf8 bs → chars_rest it ≡ bs → AlwaysYields chars_steps (λ c. c) it (chars bs)

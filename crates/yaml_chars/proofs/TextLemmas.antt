@@ -1,7 +1,7 @@
 -- Lemmas about texts as lists of characters.
 use Rattle.std.specs.Str.{chars}
 use Rattle.std.specs.Char.{IsScalar}
-use Rattle.yaml_chars.proofs.Common.{[], ap, append-nil, arith, chars-append, chars-encodes, chars-nil, encode_utf8, encode_utf8_all, encodes-chars, false, is_empty, IsUtf8-string_bytes, length, List, nat_tests, refl, String, string_bytes, string_chars, suc, sym, ℕ, ◌++◌, ◌==◌, ◌∙◌, ◌∷◌, ◌≡◌}
+use Rattle.yaml_chars.proofs.Common.{[], ap, append-nil, arith, chars-append, chars-encodes, chars-nil, encode_utf8, encode_utf8_all, encodes-chars, is_empty, IsUtf8-string_bytes, length, List, nat_tests, refl, String, string_bytes, string_chars, sym, ℕ, ◌++◌, ◌==◌, ◌∙◌, ◌∷◌, ◌≡◌}
 
 -- the character that the bytes of one spell
 pub chars-encode : (c : ℕ) → IsScalar c → chars (encode_utf8 c) ≡ c ∷ []
@@ -15,10 +15,12 @@ chars_nil_of bs e = ap chars e ∙ chars-nil
 pub chars_same : (bs cs : List ℕ) → cs ≡ bs → chars cs ≡ chars bs
 chars_same bs cs e = ap chars e
 
-pub chars_append_bytes : {A : Type 0} (s : String A) (more bs : List ℕ) → bs ≡ string_bytes s ++ more → chars bs ≡ chars (string_bytes s) ++ chars more
+pub chars_append_bytes : {A : Type 0} (s : String A) (more bs : List ℕ) → bs ≡ string_bytes s ++ more
+    → chars bs ≡ chars (string_bytes s) ++ chars more
 chars_append_bytes s more bs e = ap chars e ∙ chars-append (string_bytes s) more (IsUtf8-string_bytes s)
 
-pub chars_append_of : {A B : Type 0} (s : String A) (u : String B) (bs : List ℕ) → bs ≡ string_bytes s ++ string_bytes u → chars bs ≡ chars (string_bytes s) ++ chars (string_bytes u)
+pub chars_append_of : {A B : Type 0} (s : String A) (u : String B) (bs : List ℕ) → bs ≡ string_bytes s ++ string_bytes u
+    → chars bs ≡ chars (string_bytes s) ++ chars (string_bytes u)
 chars_append_of s u bs e = chars_append_bytes s (string_bytes u) bs e
 
 pub chars_push : {A : Type 0} (s : String A) (bs : List ℕ) (c : ℕ) → IsScalar c → bs ≡ string_bytes s ++ encode_utf8 c → chars bs ≡ chars (string_bytes s) ++ c ∷ []
@@ -33,7 +35,8 @@ pub string_chars_same : {A : Type 0} (s t : String A) → string_bytes t ≡ str
 unfolding string_chars
 string_chars_same s t e = ap chars e
 
-pub string_chars_push : {A : Type 0} (s t : String A) (c : ℕ) → IsScalar c → string_bytes t ≡ string_bytes s ++ encode_utf8 c → string_chars t ≡ string_chars s ++ c ∷ []
+pub string_chars_push : {A : Type 0} (s t : String A) (c : ℕ) → IsScalar c → string_bytes t ≡ string_bytes s ++ encode_utf8 c
+    → string_chars t ≡ string_chars s ++ c ∷ []
 unfolding string_chars
 string_chars_push s t c ok e = chars_push s (string_bytes t) c ok e
 

@@ -17,14 +17,17 @@ no_nul_append (x ∷ xs) ys f g (suc k) l = no_nul_append xs ys (λ j m. f (suc 
 pub reaches : {T : Type 0} {s : Pulled T} {ring : List ℕ} {at line col : ℕ} → Fills s ring at line col → length s.taken ≤ at + length ring
 reaches {s = s} {ring = ring} {at = at} fills = by s.done fills.ended fills.going
   where
-    by : (done : Bool) → (done ≡ true → length s.taken ≤ at + length ring) → (done ≡ false → at + length ring ≡ length s.taken) → length s.taken ≤ at + length ring
+    by : (done : Bool) → (done ≡ true → length s.taken ≤ at + length ring) → (done ≡ false → at + length ring ≡ length s.taken)
+        → length s.taken ≤ at + length ring
     by a ended going = grind arith
 
-pub Reads-map : {T : Type 0} {P Q : List ℕ → List ℕ → Type 0} (old new : WindowView T) → Reads old new P → ((a b : List ℕ) → P a b → Q a b) → Reads old new Q
+pub Reads-map : {T : Type 0} {P Q : List ℕ → List ℕ → Type 0} (old new : WindowView T) → Reads old new P
+    → ((a b : List ℕ) → P a b → Q a b) → Reads old new Q
 Reads-map old new run gives = grind arith
 
 -- how much is in the window says nothing of the text
-pub Reads-ahead : {T : Type 0} {P : List ℕ → List ℕ → Type 0} (old new : WindowView T) (h : ℕ) → Reads old new P → Reads (record old { ahead = h }) new P
+pub Reads-ahead : {T : Type 0} {P : List ℕ → List ℕ → Type 0} (old new : WindowView T) (h : ℕ) → Reads old new P
+    → Reads (record old { ahead = h }) new P
 Reads-ahead old new h r = record {
   start = r.start;
   at = r.at;
@@ -36,8 +39,8 @@ Reads-ahead old new h r = record {
 -- ---- characters come
 
 -- characters came from a source, and of these and what the window held a part was read
-module _ {T : Type 0} {s new : Pulled T} {held part : List ℕ} {at line col : ℕ} (fills : Fills s held at line col) (gives : Gives s new part)
-    (reach : at + length held ≡ length s.taken) (gone ring : List ℕ) (split : held ++ part ≡ gone ++ ring) where
+module _ {T : Type 0} {s new : Pulled T} {held part : List ℕ} {at line col : ℕ} (fills : Fills s held at line col)
+    (gives : Gives s new part) (reach : at + length held ≡ length s.taken) (gone ring : List ℕ) (split : held ++ part ≡ gone ++ ring) where
   len : length new.taken ≡ length s.taken + length part
   len = ap length gives.taken ∙ length-append s.taken part
 
@@ -47,10 +50,12 @@ module _ {T : Type 0} {s new : Pulled T} {held part : List ℕ} {at line col : �
   rest : drop at new.taken ≡ gone ++ ring
   rest =
       let here : held ≡ drop at s.taken =
-      ext_get_or 0 held (drop at s.taken) (omega (arith, length-drop at s.taken)) (λ k h. fills.window k h ∙ sym (get_or-drop at s.taken k 0)) in
+      ext_get_or 0 held (drop at s.taken) (omega (arith, length-drop at s.taken))
+      (λ k h. fills.window k h ∙ sym (get_or-drop at s.taken k 0)) in
       ap (drop at) gives.taken ∙ drop-append-le at s.taken part (omega arith) ∙ ap (λ x. x ++ part) (sym here) ∙ split
 
-  pub Fills-given : (to row place : ℕ) → to ≡ at + length gone → HasNoNul part → row + place ≤ to + 1 → place ≤ to → Fills new ring to row place
+  pub Fills-given : (to row place : ℕ) → to ≡ at + length gone → HasNoNul part → row + place ≤ to + 1 → place ≤ to
+      → Fills new ring to row place
   Fills-given to row place end some lines cols = record {
     window = λ k l.
         let there : at + (length gone + k) ≡ to + k = omega arith in
@@ -67,7 +72,8 @@ module _ {T : Type 0} {s new : Pulled T} {held part : List ℕ} {at line col : �
 
   -- what was left is what was read and what is left, which begins with what the window holds
   pub Reads-given : (to row place h k : ℕ) → to ≡ at + length gone
-      → Reads (record (bare s at line col) { ahead = h }) (record (bare new to row place) { ahead = k }) (λ a b. (a ≡ gone ++ b) × (z : List ℕ) × (b ≡ ring ++ z))
+      → Reads (record (bare s at line col) { ahead = h }) (record (bare new to row place) { ahead = k })
+      (λ a b. (a ≡ gone ++ b) × (z : List ℕ) × (b ≡ ring ++ z))
   Reads-given to row place h k end = record {
     start = gives.start;
     at = omega arith;
@@ -86,9 +92,12 @@ module _ {T : Type 0} {s new : Pulled T} {held part : List ℕ} {at line col : �
         (a ∙ ap (λ x. gone ++ x) (sym b), z, b);
   }
 
-module _ {T : Type 0} {s next : Pulled T} {ring : List ℕ} {at line col c : ℕ} (fills : Fills s ring at line col) (pulls : Pulls s c next) where
+module _ {T : Type 0} {s next : Pulled T} {ring : List ℕ} {at line col c : ℕ} (fills : Fills s ring at line col)
+    (pulls : Pulls s c next) where
   char_gives : c ≢ 0 → Gives s next (c ∷ [])
-  char_gives some = let more = pulls.char some in record { start = pulls.start; taken = more.1; done = more.2 ∙ sym more.0; none = λ d. cc; left = omega (arith, more.3) }
+  char_gives some =
+      let more = pulls.char some in
+      record { start = pulls.start; taken = more.1; done = more.2 ∙ sym more.0; none = λ d. cc; left = omega (arith, more.3) }
 
   char_some : c ≢ 0 → HasNoNul (c ∷ [])
   char_some some k l = let first : 0 ≡ k = omega arith in subst (λ j. slice_index (c ∷ []) j ≢ 0) first some
@@ -101,7 +110,8 @@ module _ {T : Type 0} {s next : Pulled T} {ring : List ℕ} {at line col c : ℕ
   Fills-more = elim (cases_lt 0 c) [
     | inl some ↦
         let c_some : c ≢ 0 = λ e. absurd (omega arith) in
-        Fills-given fills (char_gives c_some) (char_reach c_some) [] _ refl at line col (omega arith) (char_some c_some) fills.lines fills.cols
+        Fills-given fills (char_gives c_some) (char_reach c_some) [] _ refl at line col (omega arith)
+        (char_some c_some) fills.lines fills.cols
     | inr none ↦
         let lens : length (ring ++ c ∷ []) ≡ length ring + 1 = simp length-append in
         let same = pulls.ends (omega arith) in
@@ -119,7 +129,8 @@ module _ {T : Type 0} {s next : Pulled T} {ring : List ℕ} {at line col c : ℕ
   ]
 
   -- the text that is left stays, and begins with what came, where nothing was in the window
-  pub Reads-more : (h k : ℕ) → Reads (record (bare s at line col) { ahead = h }) (record (bare next at line col) { ahead = k }) (λ a b. (b ≡ a) × (length ring ≡ 0 → slice_index b 0 ≡ c))
+  pub Reads-more : (h k : ℕ) → Reads (record (bare s at line col) { ahead = h }) (record (bare next at line col) { ahead = k })
+      (λ a b. (b ≡ a) × (length ring ≡ 0 → slice_index b 0 ≡ c))
   Reads-more h k = elim (cases_lt 0 c) [
     | inl some ↦
         let c_some : c ≢ 0 = λ e. absurd (omega arith) in
@@ -149,10 +160,13 @@ module _ {T : Type 0} {s next : Pulled T} {ring : List ℕ} {at line col c : ℕ
 
     pub Fills-taken : Fills next [] (at + 1) line (col + 1)
     Fills-taken =
-        Fills-given fills (char_gives some) (char_reach some) (c ∷ []) [] taken_split (at + 1) line (col + 1) (omega arith) (char_some some) (omega (arith, fills.lines)) (omega (arith, fills.cols))
+        Fills-given fills (char_gives some) (char_reach some) (c ∷ []) [] taken_split (at + 1) line (col + 1) (omega arith)
+        (char_some some) (omega (arith, fills.lines)) (omega (arith, fills.cols))
 
-    pub Reads-taken : (h k : ℕ) → Reads (record (bare s at line col) { ahead = h }) (record (bare next (at + 1) line (col + 1)) { ahead = k }) (λ a b. a ≡ c ∷ b)
-    Reads-taken h k = Reads-map _ _ (Reads-given fills (char_gives some) (char_reach some) (c ∷ []) [] taken_split (at + 1) line (col + 1) h k (omega arith)) (λ a b e. e.0)
+    pub Reads-taken : (h k : ℕ) → Reads (record (bare s at line col) { ahead = h })
+        (record (bare next (at + 1) line (col + 1)) { ahead = k }) (λ a b. a ≡ c ∷ b)
+    Reads-taken h k = Reads-map _ _ (Reads-given fills (char_gives some) (char_reach some) (c ∷ []) [] taken_split (at + 1) line
+        (col + 1) h k (omega arith)) (λ a b e. e.0)
 
 -- ---- windows one after the other
 

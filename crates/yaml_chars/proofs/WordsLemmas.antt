@@ -64,14 +64,25 @@ step c s t u e = (e, (λ l. refl), sym (ap (λ x. slice_get x 0) (chars_past_cha
 encode_some : (c : ℕ) (rest : List ℕ) → 0 < length (encode c ++ rest)
 encode_some c rest = omega (arith, length-append (encode c) rest, length-encode c, (len_utf8_bounds c).0)
 
-gives_chars : (cs post : List ℕ) (s t : TextInMemory) → 0 < length (encodes cs) → IsUtf8 (text_rest s) → text_rest s ≡ encodes cs ++ post → text_rest t ≡ post
+gives_chars : (cs post : List ℕ) (s t : TextInMemory) → 0 < length (encodes cs) → IsUtf8 (text_rest s) → text_rest s ≡ encodes cs ++ post
+    → text_rest t ≡ post
     → Yields Steps s cs t
 gives_chars [] post s t some u e rest = absurd (omega (arith, some))
-gives_chars (c ∷ []) post s t some u e rest = (t, step c s t u (e ∙ append_assoc (encode c) [] post ∙ ap (λ x. encode c ++ x) (sym rest)), refl)
+gives_chars (c ∷ []) post s t some u e rest =
+    (t, step c s t u (e ∙ append_assoc (encode c) [] post ∙ ap (λ x. encode c ++ x) (sym rest)), refl)
 gives_chars (c ∷ d ∷ cs) post s t some u e rest =
     let f = e ∙ append_assoc (encode c) (encodes (d ∷ cs)) post in
-    let next : TextInMemory = record { chars = record { rest = record { ref_ptr = s.chars.rest.ref_ptr; now = encodes (d ∷ cs) ++ post } } } in
-    (next, step c s next u f, gives_chars (d ∷ cs) post next t (encode_some d (encodes cs)) (IsUtf8-past_char (text_rest s) _ c u f) refl rest)
+    let next : TextInMemory = record {
+      chars = record {
+        rest =
+            record { ref_ptr = s.chars.rest.ref_ptr; now = encodes (d ∷ cs) ++ post };
+      };
+    } in (
+      next,
+      step c s next u f,
+      gives_chars (d ∷ cs) post next t (encode_some d (encodes cs))
+          (IsUtf8-past_char (text_rest s) _ c u f) refl rest,
+    )
 
 -- the characters of the first bytes
 pub gives_front : (s t : TextInMemory) (n : ℕ) → n ≢ 0 → n ≤ length (text_rest s) → IsUtf8 (text_rest s) → IsCharBoundary (text_rest s) n
@@ -132,7 +143,8 @@ words_after run xs ys words =
     let next = λ (k : ℕ). let same : length xs + (k + 1) ≡ length xs + k + 1 = omega arith in same in
     record {
       within = omega arith;
-      inner = λ k h. rw (← get_or-append-add xs ys k 0, ← get_or-append-add xs ys (k + 1) 0, next k) (words.inner (length xs + k) (omega (arith, size)));
+      inner = λ k h. rw (← get_or-append-add xs ys k 0, ← get_or-append-add xs ys (k + 1) 0, next k)
+          (words.inner (length xs + k) (omega (arith, size)));
       last = λ k h. rw (← get_or-append-add xs ys k 0) (words.last (length xs + k) (omega (arith, size)));
     }
 
@@ -158,7 +170,8 @@ blank_of_bytes run (d ∷ ds) h = elim (cases_lt d 128) [
 ]
 
 in_words_of : (run : Run) (c : ℕ) (cs : List ℕ)
-    → is_word_byte run (slice_index (encode c ++ encodes cs) 0) (slice_index (encode c ++ encodes cs) 1) ≡ true → is_in_words run c (slice_index cs 0) ≡ true
+    → is_word_byte run (slice_index (encode c ++ encodes cs) 0) (slice_index (encode c ++ encodes cs) 1) ≡ true
+    → is_in_words run c (slice_index cs 0) ≡ true
 unfolding stops_byte
 in_words_of run c cs h = elim (cases_lt c 128) [
   | inl low ↦
@@ -174,12 +187,14 @@ chars_of_bytes run (c ∷ cs) words =
     rw (in_words_of run c cs first, chars_of_bytes run cs (words_after run (encode c) (encodes cs) words)) refl
   where
     first : is_word_byte run (slice_index (encode c ++ encodes cs) 0) (slice_index (encode c ++ encodes cs) 1) ≡ true
-    first = elim (cases_lt 1 (length (encode c ++ encodes cs))) [ inl more ↦ words.inner 0 more | inr one ↦ goes_in_words run _ _ (words.last 0 (omega (arith, encode_some c (encodes cs)))) ]
+    first = elim (cases_lt 1 (length (encode c ++ encodes cs)))
+        [ inl more ↦ words.inner 0 more | inr one ↦ goes_in_words run _ _ (words.last 0 (omega (arith, encode_some c (encodes cs)))) ]
 
 -- the characters of the first bytes are words
 pub words_of : (run : Run) (bs : List ℕ) (n : ℕ) → IsUtf8 bs → AreWordsUpTo run bs n → EndsAtAscii run bs n → are_words run (chars (take n bs)) ≡ true
 words_of run bs n u words ends =
-    chars_of_bytes run (chars (take n bs)) (rw (encodes-chars _ (IsUtf8-take bs n u (boundary_of run bs n u words ends))) (words_taken run bs n words))
+    chars_of_bytes run (chars (take n bs)) (rw (encodes-chars _ (IsUtf8-take bs n u (boundary_of run bs n u words ends)))
+    (words_taken run bs n words))
 
 -- ---- words are found
 
@@ -206,7 +221,8 @@ unfolding begins_byte begins_word stops_byte stops is_break is_blank
 goes_quoted quote c d small h = record { word = λ apart. grind (arith, nat_tests); blank = λ e. grind (arith, nat_tests) }
 
 pub goes_line : (c d : ℕ) → halts_line c ≡ false → Goes Line c d
-goes_line c d h = let goes = ordinary_in_line c (grind (arith, nat_tests)) in record { word = λ apart. goes; blank = λ e. goes_in_words Line c d goes }
+goes_line c d h = let goes = ordinary_in_line c (grind (arith, nat_tests)) in
+    record { word = λ apart. goes; blank = λ e. goes_in_words Line c d goes }
 
 -- a character before a blank is of a word
 before_blank : (run : Run) (c : ℕ) → is_word_byte run c 32 ≡ true → stops_byte run c ≡ false
@@ -215,7 +231,8 @@ before_blank a c h = grind (arith, nat_tests)
 
 -- where the last lane is no blank, they are words; where it is one, those before it are
 pub lanes_words : (run : Run) (bs : List ℕ) (at n to : ℕ) → at + 16 < length bs → n ≤ 16 → LanesGo run bs at n
-    → ((to ≡ n) × (0 < n → slice_index bs (at + n - 1) ≢ 32)) ⊎ ((to + 1 ≡ n) × (slice_index bs (at + n - 1) ≡ 32)) → AreWordsBetween run bs at (at + to)
+    → ((to ≡ n) × (0 < n → slice_index bs (at + n - 1) ≢ 32)) ⊎ ((to + 1 ≡ n) × (slice_index bs (at + n - 1) ≡ 32))
+    → AreWordsBetween run bs at (at + to)
 lanes_words run bs at n to room few go end = record {
   after = omega arith;
   within = omega (arith, room, few, short);
@@ -266,7 +283,8 @@ pub front : {slice text known : List ℕ} (n : ℕ) → slice ≡ slice_range te
 front {text = text} n e same = e ∙ front_range n text ∙ ap (take n) same
 
 -- words of a text that is known
-module _ (run : Run) {bytes text known : List ℕ} {n : ℕ} (same : bytes ≡ text) (is : text ≡ known) (u : IsUtf8 text) (words : AreWordsUpTo run bytes n) (ends : EndsAtAscii run bytes n) where
+module _ (run : Run) {bytes text known : List ℕ} {n : ℕ} (same : bytes ≡ text) (is : text ≡ known) (u : IsUtf8 text)
+    (words : AreWordsUpTo run bytes n) (ends : EndsAtAscii run bytes n) where
   pub words_cut : IsCharBoundary text n
   words_cut = boundary_of run text n u (rw same at words) (rw same at ends)
 
@@ -283,16 +301,19 @@ yields_append steps [] ys s t u e y = subst (λ x. Yields steps x ys u) (sym e) 
 yields_append steps (x ∷ xs) ys s t u e y = (e.0, e.1, yields_append steps xs ys e.0 t u e.2 y)
 
 -- the source stands after characters that came, and has given them
-module _ {T : Type 0} {can : T → Type 0} {steps : T → Option ℕ → T → Type 0} {left : T → Count} {start : T} {taken : List ℕ} {done : Bool} {iter : T}
-    (stands : IterStands can steps left start taken done iter) (going : done ≡ false) (part : List ℕ) {all : List ℕ} (whole : all ≡ taken ++ part) (next : T) where
+module _ {T : Type 0} {can : T → Type 0} {steps : T → Option ℕ → T → Type 0} {left : T → Count} {start : T} {taken : List ℕ} {done : Bool}
+    {iter : T} (stands : IterStands can steps left start taken done iter) (going : done ≡ false) (part : List ℕ) {all : List ℕ}
+    (whole : all ≡ taken ++ part) (next : T) where
   pub Stands-on : Yields steps iter part next → can next × IsFinite (left next) → IterStands can steps left start all done next
   Stands-on step ready =
       let more = rw (← whole) at (yields_append steps taken part start iter next (stands.here going) step) in
       record { here = λ _. more; ready = λ _. ready; came = record { going = λ _. (next, more); ended = λ h. cc } }
 
   pub Gives-on : (IsFinite (left iter) → IsFinite (left next) × (size (left next) + length part ≤ size (left iter)))
-      → Gives (record { start = start; taken = taken; done = done; left = if done then 0 else size (left iter) }) (record { start = start; taken = all; done = done; left = if done then 0 else size (left next) }) part
-  Gives-on goes = let ready = stands.ready going in let fewer = goes ready.1 in record { start = refl; taken = whole; done = refl; none = λ d. cc; left = rw going fewer.1 }
+      → Gives (record { start = start; taken = taken; done = done; left = if done then 0 else size (left iter) })
+      (record { start = start; taken = all; done = done; left = if done then 0 else size (left next) }) part
+  Gives-on goes = let ready = stands.ready going in let fewer = goes ready.1 in
+      record { start = refl; taken = whole; done = refl; none = λ d. cc; left = rw going fewer.1 }
 
 -- no character of words is a NUL
 words_some : (run : Run) (c d : ℕ) → is_in_words run c d ≡ true → c ≢ 0
@@ -313,18 +334,20 @@ module _ {T : Type 0} {run : Run} {s : Pulled T} {ring : List ℕ} {at line col 
   split = rw (nil_from_length ring none) (sym (append-nil given.part))
 
   pub Fills-gives : Fills new ring (at + n) line (col + n)
-  Fills-gives = rw (nil_from_length ring none) (Fills-given fills given.gives reach given.part [] split (at + n) line (col + n) (omega (arith, given.count))
+  Fills-gives = rw (nil_from_length ring none) (Fills-given fills given.gives reach given.part [] split (at + n) line (col + n)
+      (omega (arith, given.count))
       (words_no_nul run given.part given.words) (omega (arith, fills.lines)) (omega (arith, fills.cols)))
 
   pub Reads-gives : (h k : ℕ) → Reads (record (bare s at line col) { ahead = h }) (record (bare new (at + n) line (col + n)) { ahead = k }) (λ a b.
       TakesWords run a b (record { index = at; line = line; col = col }) (record { index = at + n; line = line; col = col + n }) before after)
-  Reads-gives h k = Reads-map _ _ (Reads-given fills given.gives reach given.part [] split (at + n) line (col + n) h k (omega (arith, given.count))) (λ a b e. record {
-    part = given.part;
-    split = e.0;
-    words = given.words;
-    position = λ i. record { index = at + sym given.count i; line = line; col = col + sym given.count i };
-    text = given.text;
-  })
+  Reads-gives h k = Reads-map _ _ (Reads-given fills given.gives reach given.part [] split (at + n) line (col + n) h k
+      (omega (arith, given.count))) (λ a b e. record {
+        part = given.part;
+        split = e.0;
+        words = given.words;
+        position = λ i. record { index = at + sym given.count i; line = line; col = col + sym given.count i };
+        text = given.text;
+      })
 
 -- ---- words in two parts
 
@@ -339,8 +362,10 @@ words_append run (x ∷ []) ys f g = grind (arith, last_in_words)
 words_append run (x ∷ y ∷ xs) ys f g = grind (arith, words_append run (y ∷ xs) ys)
 
 pub takes_then : (run : Run) (a b d : List ℕ) (p q r : Position) (t u v : List ℕ) → TakesWords run a b p q t u → TakesWords run b d q r u v → TakesWords run a d p r t v
-takes_then run a b d p q r t u v x y = grind (arith, words_append, length-append x.part y.part, append_assoc x.part y.part d, append_assoc t x.part y.part)
+takes_then run a b d p q r t u v x y =
+    grind (arith, words_append, length-append x.part y.part, append_assoc x.part y.part d, append_assoc t x.part y.part)
 
-pub takes_one : (run : Run) (c : ℕ) (a b : List ℕ) (p q : Position) (t u : List ℕ) → stops run c ≡ false → a ≡ c ∷ b → q.index ≡ p.index + 1 → q.line ≡ p.line
+pub takes_one : (run : Run) (c : ℕ) (a b : List ℕ) (p q : Position) (t u : List ℕ) → stops run c ≡ false → a ≡ c ∷ b
+    → q.index ≡ p.index + 1 → q.line ≡ p.line
     → q.col ≡ p.col + 1 → u ≡ t ++ c ∷ [] → TakesWords run a b p q t u
 takes_one run c a b p q t u goes split index line col text = grind arith

@@ -7,4 +7,5 @@ pub returns : goal.returns
 returns c =
     let v = c.args.block in
     let long = c.fits-block.0 in
-    masked _ is_first_byte v _ (omega arith) c.fits-block.1 (either _ _ v (zip2_splat below v 16 128 long) (splat_first below v 16 191 long)) tt
+    masked _ is_first_byte v _ (omega arith) c.fits-block.1 (either _ _ v (zip2_splat below v 16 128 long)
+    (splat_first below v 16 191 long)) tt

@@ -8,4 +8,5 @@ returns c =
     let v = c.args.block in
     let long = c.fits-block.0 in
     masked _ halts_simple v _ (omega arith) c.fits-block.1
-    (either _ _ v (either _ _ v (either _ _ v (zip2_splat below v 16 32 long) (splat_first below v 16 126 long)) (zip2_splat hit v 16 58 long)) (zip2_splat hit v 16 35 long)) tt
+    (either _ _ v (either _ _ v (either _ _ v (zip2_splat below v 16 32 long) (splat_first below v 16 126 long))
+    (zip2_splat hit v 16 58 long)) (zip2_splat hit v 16 35 long)) tt

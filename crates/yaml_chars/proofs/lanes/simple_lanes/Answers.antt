@@ -3,7 +3,8 @@ use Rattle.yaml_chars.proofs.LaneLemmas.{bytes_at, goes_all, count_of, goes_befo
 use Rattle.yaml_chars.proofs.lanes.simple_lanes.Goals as goal
 
 pub returns-then-found-eq0-clause-goes : goal.returns-then-found-eq0-clause-goes
-returns-then-found-eq0-clause-goes c = goes_all (bytes_at _ c.args.at c.requires) halts_simple _ c.not_simple-found.ensures c.if-found-eq0.true
+returns-then-found-eq0-clause-goes c =
+    goes_all (bytes_at _ c.args.at c.requires) halts_simple _ c.not_simple-found.ensures c.if-found-eq0.true
 
 pub returns-clause-within : goal.returns-clause-within
 returns-clause-within c = count_of (bytes_at _ c.args.at c.requires) halts_simple _ c.not_simple-found.ensures c.if-found-eq0.false

@@ -10,7 +10,8 @@ new_spec 𝓤 𝓛 𝓜 𝓡 wired Y laws =
     let T = ended Y in
     let c = clauses Y 𝓛 𝓜.mem 𝓡.returns in
     let at = layouts (a_type ∷ []) (Y, tt) in
-    proved 𝓛 T tt c 𝓜 𝓡 tt (#self at) (inst_fn at code.function) (code.unfolded 𝓤 𝓛.H 𝓜 𝓡 wired (Y, tt)) (λ κs. tt) (λ κs. tt) (λ κs qs bounds a g are.
+    proved 𝓛 T tt c 𝓜 𝓡 tt (#self at) (inst_fn at code.function) (code.unfolded 𝓤 𝓛.H 𝓜 𝓡 wired (Y, tt)) (λ κs. tt) (λ κs. tt)
+    (λ κs qs bounds a g are.
     let y : (walk_of 𝓛 T tt c).Ghost = ((κs, qs, bounds, a, tt), g) in
     let v : Val = vstruct (vcons (vstruct vnil) vnil) in
     let r : Res T.signature κs = record { marker = record {}; items = [] } in
@@ -19,6 +20,7 @@ new_spec 𝓤 𝓛 𝓜 𝓡 wired Y laws =
     split ! $ keep ! (0 ∷ []) $ enter ! _ _ _ _ _ $ alloc_all ! (λ l. pass_all ! refl tt $
     sets ! (agg ! (no_more !)) refl (tt, tt) $ sets ! (agg ! (and_then ! (get ! refl) (no_more !))) refl (tt, (tt, tt)) $
     returns ! (look_at ! 0 refl) $ free_all ! refl $
-    use0 𝓛 (‵ O) (makes_shadow 𝓛 O ((λ vss. (tt, ((λ uss. (tt, tt)), tt))), tt) (((vstruct vnil ∷ [], tt), (refl, ((tt, (refl, tt)), tt))), tt)) $
+    use0 𝓛 (‵ O) (makes_shadow 𝓛 O ((λ vss. (tt, ((λ uss. (tt, tt)), tt))), tt)
+    (((vstruct vnil ∷ [], tt), (refl, ((tt, (refl, tt)), tt))), tt)) $
     suffices ! _ (ends_at 𝓛 T tt c y v r tt tt) $ says ! refl $
     nothing ! $ join ! $ move ! (1 ∷ 0 ∷ []) $ join ! $ done !))

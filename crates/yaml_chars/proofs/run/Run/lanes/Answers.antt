@@ -5,7 +5,8 @@ use Rattle.yaml_chars.proofs.run.Run.lanes.Goals as goal
 
 pub returns-then-bytes-at-eq32-clause-words : goal.returns-then-bytes-at-eq32-clause-words
 returns-then-bytes-at-eq32-clause-words c =
-    lanes_words _ _ c.args.at _ _ c.requires c.lanes_on-count.ensures.within c.lanes_on-count.ensures.goes (inr (omega (arith, c.if-count-gt0.true), c.if-bytes-at-eq32.true))
+    lanes_words _ _ c.args.at _ _ c.requires c.lanes_on-count.ensures.within c.lanes_on-count.ensures.goes
+    (inr (omega (arith, c.if-count-gt0.true), c.if-bytes-at-eq32.true))
 
 pub returns-clause-words : goal.returns-clause-words
 returns-clause-words c = lanes_words _ _ c.args.at _ _ c.requires c.lanes_on-count.ensures.within c.lanes_on-count.ensures.goes (inl (

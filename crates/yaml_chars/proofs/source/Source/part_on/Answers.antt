@@ -5,7 +5,8 @@ use Rattle.yaml_chars.proofs.source.Source.part_on.Goals as goal
 
 pub range-passed-requires-clause-end_boundary : goal.range-passed-requires-clause-end_boundary
 range-passed-requires-clause-end_boundary g c =
-    let bytes = part_bytes c.args.part c.args.held.now _ _ _ (rw c.as_bytes-bytes.ensures.value at c.in-Some.ensures) in part_cut bytes.1 c.known-known.utf8
+    let bytes = part_bytes c.args.part c.args.held.now _ _ _ (rw c.as_bytes-bytes.ensures.value at c.in-Some.ensures) in
+    part_cut bytes.1 c.known-known.utf8
 
 pub pass-requires-clause-cut : goal.pass-requires-clause-cut
 pass-requires-clause-cut g c =
@@ -16,7 +17,8 @@ pub invariant_of-self : goal.invariant_of-self
 invariant_of-self g c =
     let going : c.self.inside.done ≡ false = rw (← c.self.view_is) at (sym c.has_ended.ensures.value ∙ c.if-has_ended.false) in
     let ready = c.self.invariant.ready going in
-    Stands-on c.self.invariant going _ (c.push_text.ensures ∙ ap (λ x. c.self.inside.taken.items ++ chars x) (front _ c.range-passed.ensures.value c.known-known.ensures))
+    Stands-on c.self.invariant going _ (c.push_text.ensures ∙ ap (λ x. c.self.inside.taken.items ++ chars x)
+    (front _ c.range-passed.ensures.value c.known-known.ensures))
     _ c.pass.ensures.gives (c.pass.ensures.can, (c.pass.ensures.goes ready.1).0)
 
 pub returns-clause-some : goal.returns-clause-some
@@ -34,7 +36,9 @@ returns-clause-some g c =
       going = going;
       known = known;
       ends = ends;
-      gives = Gives-on c.self.invariant going _ (c.push_text.ensures ∙ ap (λ x. c.self.inside.taken.items ++ x) (ap chars (front count c.range-passed.ensures.value c.known-known.ensures) ∙ all)) _ (rw all at c.pass.ensures.goes);
+      gives = Gives-on c.self.invariant going _ (c.push_text.ensures
+          ∙ ap (λ x. c.self.inside.taken.items ++ x) (ap chars (front count c.range-passed.ensures.value c.known-known.ensures) ∙ all)) _
+          (rw all at c.pass.ensures.goes);
       broke = ap (λ b. slice_index b n == 10) same;
       next = c.from-next.ensures ∙ ap (λ b. slice_index b (n + 1 + c.in-Some.ended.spaces)) same;
       joined =
