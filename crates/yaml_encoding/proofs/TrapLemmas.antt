@@ -10,65 +10,63 @@ weaker P Q f (Ok s) p = f _ p
 weaker P Q f (Err (Message m)) p = f _ p
 weaker P Q f (Err OutOfMemory) p = tt
 
-module _ (step : Steps) where
-  -- a step adds nothing
-  called_ignored : ((n a : ℕ) (input so_far : List ℕ) (answer : Answer) → step n a input so_far answer → answer ≡ go_on so_far)
-      → (ps : List Part) (so_far : List ℕ) (o : Outcome) → IsCalled step ps so_far o → o ≡ text (so_far ++ ignored ps)
-  called_ignored f [] so_far o h = h ∙ ap text (sym (append-nil so_far))
-  called_ignored f (character c ∷ ps) so_far o h = called_ignored f ps (so_far ++ c ∷ []) o h ∙ ap text (append_assoc so_far (c ∷ []) (ignored ps))
-  called_ignored f (malformation position n a input ∷ ps) so_far o (inl (next, taken, h)) =
-      let e = f n a input so_far (go_on next) taken in
-      let same : next ≡ so_far = cc in
-      called_ignored f ps next o h ∙ ap (λ s. text (s ++ ignored ps)) same
-  called_ignored f (malformation position n a input ∷ ps) so_far o (inr (m, taken, h)) =
-      let e = f n a input so_far (break m) taken in cc
+-- What comes of parts is known by these, where `comes` says what it is after a text so far.
+record Comes (step : Steps) (comes : List ℕ → List Part → Outcome) : Type 0 where
+  pub none : (so_far : List ℕ) → comes so_far [] ≡ text so_far
+  pub one : (so_far : List ℕ) (c : ℕ) (ps : List Part) → comes so_far (character c ∷ ps) ≡ comes (so_far ++ c ∷ []) ps
+  pub goes : (so_far : List ℕ) (position n a : ℕ) (input next : List ℕ) (ps : List Part) → step n a input so_far (go_on next)
+      → comes so_far (malformation position n a input ∷ ps) ≡ comes next ps
+  pub stops : (so_far : List ℕ) (position n a : ℕ) (input m : List ℕ) (ps : List Part) → step n a input so_far (break m)
+      → comes so_far (malformation position n a input ∷ ps) ≡ stopped (message_or m position n input)
 
-  -- a step adds U+FFFD
-  called_replaced : ((n a : ℕ) (input so_far : List ℕ) (answer : Answer) → step n a input so_far answer → answer ≡ go_on (so_far ++ 0xFFFD ∷ []))
-      → (ps : List Part) (so_far : List ℕ) (o : Outcome) → IsCalled step ps so_far o → o ≡ text (so_far ++ replaced ps)
-  called_replaced f [] so_far o h = h ∙ ap text (sym (append-nil so_far))
-  called_replaced f (character c ∷ ps) so_far o h = called_replaced f ps (so_far ++ c ∷ []) o h ∙ ap text (append_assoc so_far (c ∷ []) (replaced ps))
-  called_replaced f (malformation position n a input ∷ ps) so_far o (inl (next, taken, h)) =
-      let e = f n a input so_far (go_on next) taken in
-      let same : next ≡ so_far ++ 0xFFFD ∷ [] = cc in
-      called_replaced f ps next o h ∙ ap (λ s. text (s ++ replaced ps)) same ∙ ap text (append_assoc so_far (0xFFFD ∷ []) (replaced ps))
-  called_replaced f (malformation position n a input ∷ ps) so_far o (inr (m, taken, h)) =
-      let e = f n a input so_far (break m) taken in cc
+called : (step : Steps) (comes : List ℕ → List Part → Outcome) → Comes step comes → (ps : List Part) (so_far : List ℕ) (o : Outcome)
+    → IsCalled step ps so_far o → o ≡ comes so_far ps
+called step comes c [] so_far o h = h ∙ sym (c.none so_far)
+called step comes c (character x ∷ ps) so_far o h = called step comes c ps (so_far ++ x ∷ []) o h ∙ sym (c.one so_far x ps)
+called step comes c (malformation position n a input ∷ ps) so_far o (inl (next, taken, h)) =
+    called step comes c ps next o h ∙ sym (c.goes so_far position n a input next ps taken)
+called step comes c (malformation position n a input ∷ ps) so_far o (inr (m, taken, h)) = h ∙ sym (c.stops so_far position n a input m ps taken)
 
-  -- characters before an outcome
-  abbrev put_all : List ℕ → Outcome → Outcome
-  put_all cs (text ds) = text (cs ++ ds)
-  put_all cs (stopped m) = stopped m
+-- characters before an outcome
+abbrev put_all : List ℕ → Outcome → Outcome
+put_all cs (text ds) = text (cs ++ ds)
+put_all cs (stopped m) = stopped m
 
-  put_all-one : (cs : List ℕ) (c : ℕ) (o : Outcome) → put_all (cs ++ c ∷ []) o ≡ put_all cs (put_before c o)
-  put_all-one cs c (text ds) = ap text (append_assoc cs (c ∷ []) ds)
-  put_all-one cs c (stopped m) = refl
+put_all-one : (cs : List ℕ) (c : ℕ) (o : Outcome) → put_all cs (put_before c o) ≡ put_all (cs ++ c ∷ []) o
+put_all-one cs c (text ds) = ap text (sym (append_assoc cs (c ∷ []) ds))
+put_all-one cs c (stopped m) = refl
 
-  put_all-none : (o : Outcome) → put_all [] o ≡ o
-  put_all-none (text ds) = refl
-  put_all-none (stopped m) = refl
+put_all-none : (o : Outcome) → put_all [] o ≡ o
+put_all-none (text ds) = refl
+put_all-none (stopped m) = refl
 
-  -- a step stops without a message
-  called_strict : ((n a : ℕ) (input so_far : List ℕ) (answer : Answer) → step n a input so_far answer → answer ≡ break [])
-      → (ps : List Part) (so_far : List ℕ) (o : Outcome) → IsCalled step ps so_far o → o ≡ put_all so_far (strict ps)
-  called_strict f [] so_far o h = h ∙ ap text (sym (append-nil so_far))
-  called_strict f (character c ∷ ps) so_far o h = called_strict f ps (so_far ++ c ∷ []) o h ∙ put_all-one so_far c (strict ps)
-  called_strict f (malformation position n a input ∷ ps) so_far o (inl (next, taken, h)) =
-      let e = f n a input so_far (go_on next) taken in cc
-  called_strict f (malformation position n a input ∷ ps) so_far o (inr (m, taken, h)) =
-      let e = f n a input so_far (break m) taken in
-      let none : m ≡ [] = cc in
-      h ∙ ap (λ said. stopped (message_or said position n input)) none
-
-module _ {F : _} {m : _} (called : YAMLDecodingTrapFn F m → Steps) (trap : YAMLDecodingTrap F m) (input : List ℕ) (r : Result (String Global) Stop) (is : OutcomeIs r (IsDecodedByCalls (steps_by called trap) input)) where
+module _ {F : _} {m : _} (stored : YAMLDecodingTrapFn F m → Steps) (trap : YAMLDecodingTrap F m) (input : List ℕ) (r : Result (String Global) Stop) (is : OutcomeIs r (IsDecodedByCalls (steps_by stored trap) input)) where
   pub text_ignored : trap ≡ Ignore → OutcomeIs r (λ o. o ≡ text (ignored (parts input)))
-  text_ignored e = weaker _ _ (λ o h. called_ignored (steps_by called Ignore) (λ n a i s answer taken. taken) (parts input) [] o h) r (rw e at is)
+  text_ignored e = weaker _ _ (λ o h. called (steps_by stored Ignore) (λ s ps. text (s ++ ignored ps)) (record {
+    none = λ s. ap text (append-nil s);
+    one = λ s c ps. ap text (sym (append_assoc s (c ∷ []) (ignored ps)));
+    goes = λ s position n a i next ps taken. let e : go_on next ≡ go_on s = taken in let same : next ≡ s = cc in ap (λ x. text (x ++ ignored ps)) (sym same);
+    stops = λ s position n a i m ps taken. let e : break m ≡ go_on s = taken in cc;
+  }) (parts input) [] o h) r (rw e at is)
 
   pub text_replaced : trap ≡ Replace → OutcomeIs r (λ o. o ≡ text (replaced (parts input)))
-  text_replaced e = weaker _ _ (λ o h. called_replaced (steps_by called Replace) (λ n a i s answer taken. taken) (parts input) [] o h) r (rw e at is)
+  text_replaced e = weaker _ _ (λ o h. called (steps_by stored Replace) (λ s ps. text (s ++ replaced ps)) (record {
+    none = λ s. ap text (append-nil s);
+    one = λ s c ps. ap text (sym (append_assoc s (c ∷ []) (replaced ps)));
+    goes = λ s position n a i next ps taken.
+        let e : go_on next ≡ go_on (s ++ 0xFFFD ∷ []) = taken in
+        let same : next ≡ s ++ 0xFFFD ∷ [] = cc in
+        ap text (sym (append_assoc s (0xFFFD ∷ []) (replaced ps))) ∙ ap (λ x. text (x ++ replaced ps)) (sym same);
+    stops = λ s position n a i m ps taken. let e : break m ≡ go_on (s ++ 0xFFFD ∷ []) = taken in cc;
+  }) (parts input) [] o h) r (rw e at is)
 
   pub text_strict : trap ≡ Strict → OutcomeIs r (λ o. o ≡ strict (parts input))
-  text_strict e = weaker _ _ (λ o h. called_strict (steps_by called Strict) (λ n a i s answer taken. taken) (parts input) [] o h ∙ put_all-none (steps_by called Strict) (strict (parts input))) r (rw e at is)
+  text_strict e = weaker _ _ (λ o h. called (steps_by stored Strict) (λ s ps. put_all s (strict ps)) (record {
+    none = λ s. ap text (append-nil s);
+    one = λ s c ps. put_all-one s c (strict ps);
+    goes = λ s position n a i next ps taken. let e : go_on next ≡ break [] = taken in cc;
+    stops = λ s position n a i m ps taken. let e : break m ≡ break [] = taken in let same : m ≡ [] = cc in ap (λ x. stopped (message_or x position n i)) (sym same);
+  }) (parts input) [] o h ∙ put_all-none (strict (parts input))) r (rw e at is)
 
-  pub text_called : (f : YAMLDecodingTrapFn F m) → trap ≡ Call f → OutcomeIs r (IsDecodedByCalls (called f) input)
+  pub text_called : (f : YAMLDecodingTrapFn F m) → trap ≡ Call f → OutcomeIs r (IsDecodedByCalls (stored f) input)
   text_called f e = weaker _ _ (λ o h. h) r (rw e at is)
