@@ -29,43 +29,28 @@ unfolding start_of
 front_4 c b x y z r l h e f g i =
     let v : (((b - 0xF0) * 64 + (x - 0x80)) * 64 + (y - 0x80)) * 64 + (z - 0x80) ≡ c = omega arith in grind (arith, nat_tests)
 
-encoded_2 : (c : ℕ) → 128 ≤ c → c < 2048 → (192 + c / 64) ∷ next c ∷ [] ≡ encode c
-unfolding encode
-encoded_2 c l h = cond_above c 128 _ _ _ l (cond_below c 2048 _ _ h)
-
-encoded_3 : (c : ℕ) → 2048 ≤ c → c < 65536 → (224 + c / 4096) ∷ next (c / 64) ∷ next c ∷ [] ≡ encode c
-unfolding encode
-encoded_3 c l h = cond_above c 128 _ _ _ (omega arith) (cond_above c 2048 _ _ _ l (cond_below c 65536 _ _ h))
-
-encoded_4 : (c : ℕ) → 65536 ≤ c → (240 + c / 262144) ∷ next (c / 4096) ∷ next (c / 64) ∷ next c ∷ [] ≡ encode c
-unfolding encode
-encoded_4 c l = cond_above c 128 _ _ _ (omega arith) (cond_above c 2048 _ _ _ (omega arith) (cond_above c 65536 _ _ _ l refl))
-
 encode_front : (c : ℕ) (r : List ℕ) → scalar c ≡ true → means (length (encode c)) c ≡ front utf_8_sequence (encode c ++ r)
+unfolding encode
 encode_front c r s =
     let k = scalar_cases c s in
     let top : c < 1114112 = elim k [ inl h ↦ omega arith | inr h ↦ h.1 ] in
     let apart : (c < 55296) ⊎ (57344 ≤ c) = elim k [ inl h ↦ inl h | inr h ↦ inr (h.0) ] in
     elim (cases_lt c 128) [
-      | inl h ↦ rw (encode_ascii c h) (sym (front_1 c r h))
+      | inl h ↦ grind (arith, nat_tests, front_1 c r h)
       | inr l ↦ elim (cases_lt c 2048) [
-        | inl h ↦ rw (← encoded_2 c l h) (sym (front_2 c (192 + c / 64) (next c) r l h refl refl))
+        | inl h ↦ grind (arith, nat_tests, front_2 c (192 + c / 64) (next c) r l h refl refl)
         | inr m ↦ elim (cases_lt c 65536) [
-          | inl h ↦ rw (← encoded_3 c m h) (sym (front_3 c (224 + c / 4096) (next (c / 64)) (next c) r m h apart refl refl refl))
-          | inr n ↦ rw (← encoded_4 c n) (sym (front_4 c (240 + c / 262144) (next (c / 4096)) (next (c / 64)) (next c) r n top refl refl refl refl))
+          | inl h ↦ grind (arith, nat_tests, front_3 c (224 + c / 4096) (next (c / 64)) (next c) r m h apart refl refl refl)
+          | inr n ↦ grind (arith, nat_tests, front_4 c (240 + c / 262144) (next (c / 4096)) (next (c / 64)) (next c) r n top refl refl refl refl)
         ]
       ]
     ]
 
 -- ---- text with which an input begins
 
-either_some : (t : Bool) (n m : ℕ) → 0 < m → 0 < (if t then suc n else m)
-either_some true n m h = omega arith
-either_some false n m h = h
-
 up_to_some : (bs : List ℕ) (n : ℕ) → is_utf8 (take 1 bs) ≡ true → 0 < valid_len_up_to bs (suc n)
 up_to_some bs zero e = rw e (omega arith)
-up_to_some bs (suc n) e = either_some (is_utf8 (take (suc (suc n)) bs)) (suc n) _ (up_to_some bs n e)
+up_to_some bs (suc n) e = grind (arith, up_to_some bs n e)
 
 -- text that begins with an ASCII byte is not empty
 pub valid_some : (bs : List ℕ) → 0 < length bs → get_or bs 0 0 < 128 → 0 < utf8_valid_len bs
