@@ -1,10 +1,10 @@
-use Rattle.yaml_encoding.proofs.Common.{[], encoding_of, refl, rules, sequence_of, string_chars}
+use Rattle.yaml_encoding.proofs.Common.{encoding_of, refl, rules, sequence_of, string_chars}
 use Rattle.yaml_encoding.proofs.ValidLemmas.{passes_text}
 use Rattle.yaml_encoding.proofs.ReadLemmas.{rest_of, takes, passes_character, passes_malformation, passes_stop}
 use Rattle.yaml_encoding.proofs.text.read_some.Goals as goal
 
 pub trapped-requires : goal.trapped-requires
-trapped-requires g c = (takes (λ n a i s o. Unit {0}) (encoding_of c.args.encoding) c.args.input.now c.args.position [] (sequence_of c.sequence-sequence.result) _ (rest_of c.args.input.now c.args.position) c.requires c.sequence-sequence.ensures).1
+trapped-requires g c = (takes (encoding_of c.args.encoding) c.args.input.now c.args.position (sequence_of c.sequence-sequence.result) _ (rest_of c.args.input.now c.args.position) c.requires c.sequence-sequence.ensures).1
 
 pub returns-in-Ok : goal.returns-in-Ok
 returns-in-Ok g c = passes_malformation _ _ c.args.input.now c.args.position _ (sequence_of c.sequence-sequence.result) _ (rest_of c.args.input.now c.args.position) c.requires c.sequence-sequence.ensures _ _ (search rules) c.in-Ok.ensures (search rules)
