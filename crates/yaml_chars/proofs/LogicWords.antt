@@ -1,7 +1,7 @@
 -- The words of the logic that proofs by hand here use, passed on from one place. Declares nothing.
 pub use mathlib.Core.Path.{refl}
 pub use mathlib.Core.List.{[], ◌++◌, ◌∷◌}
-pub use mir.Syntax.{a_type, Fn}
+pub use mir.Syntax.{a_type}
 pub use mir.Val.{Val, vcons, vnil, vstruct}
 pub use mir.MapTy.{inst_fn}
 pub use base.Fml.{Fml}
@@ -9,7 +9,7 @@ pub use types.Kit.{ !, done, fjoin, join, keep, move, qed, raw, split, suffices,
 pub use types.Run.{and_then, enter, no_more, returns}
 pub use types.Part.{agg}
 pub use types.ByLocal.{alloc_all, free_all, get, look_at, pass_all, sets}
-pub use denote.RattleType.{owns, RattleType}
+pub use denote.RattleType.{owns}
 pub use denote.Exit.{yes}
 pub use denote.Builtin.{RefOf}
 pub use denote.Param.{layouts, param}

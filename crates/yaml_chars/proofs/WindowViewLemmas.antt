@@ -1,6 +1,6 @@
 -- Lemmas about a window.
 use Rattle.std.proofs.lemmas.List.{drop-drop, drop_at, ext_get_or, nil_from_length, take-take, take_at}
-use Rattle.yaml_chars.proofs.Common.{[], ap, append-nil, append_assoc, arith, bare, Bool, cases_lt, common_steps, drop, drop-append-le, drop_all, elements, false, Fills, get_or-append-add, get_or-drop, HasNoNul, inl, inr, length, length-append, length-drop, List, Possible, Pulled, Pulls, Reads, refl, Sees, slice_index, subst, suc, sym, take, take-append-drop, take-length, true, WindowView, zero, ℕ, ◌++◌, ◌+◌, ◌∙◌, ◌∷◌, ◌≡◌, ◌≢◌, ◌≤◌}
+use Rattle.yaml_chars.proofs.Common.{[], ap, append-nil, append_assoc, arith, bare, Bool, cases_lt, common_steps, drop, drop-append-le, drop_all, elements, Err, false, Fills, get_or-append-add, get_or-drop, HasNoNul, inl, inr, length, length-append, length-drop, List, Ok, OnOk, Possible, Pulled, Pulls, Reads, refl, Result, Sees, slice_index, subst, suc, sym, take, take-append-drop, take-length, true, WindowView, zero, ℕ, ◌++◌, ◌+◌, ◌∙◌, ◌∷◌, ◌≡◌, ◌≢◌, ◌≤◌}
 use Rattle.yaml_chars.specs.Words.{Gives}
 
 -- a text that begins with two lists begins with the first
@@ -24,6 +24,10 @@ reaches {s = s} {ring = ring} {at = at} fills = by s.done fills.ended fills.goin
 pub Reads-map : {T : Type 0} {P Q : List ℕ → List ℕ → Type 0} (old new : WindowView T) → Reads old new P
     → ((a b : List ℕ) → P a b → Q a b) → Reads old new Q
 Reads-map old new run gives = grind arith
+
+pub OnOk-map : {A E P Q : Type 0} (r : Result A E) → OnOk r P → (P → Q) → OnOk r Q
+OnOk-map (Ok v) h gives = gives h
+OnOk-map (Err e) h gives = tt
 
 -- how much is in the window says nothing of the text
 pub Reads-ahead : {T : Type 0} {P : List ℕ → List ℕ → Type 0} (old new : WindowView T) (h : ℕ) → Reads old new P
