@@ -1,6 +1,7 @@
 -- Lemmas about tests of sixteen bytes at a time.
+use Rattle.std.proofs.lemmas.List.{get_or-map}
 use Rattle.std.proofs.lemmas.Simd.{map-map, splat_is_map, zip2_of_maps}
-use Rattle.yaml_chars.proofs.Common.{[], ap, ap₂, arith, Bool, cond, false, get_or-chunk, leading_from_mask_l, length, length-chunk, length-map, List, map, mask_l-mod, not, pairs, prefix_len, prefix_len-le-length, prefix_len_passes, refl, replicate, slice_index, suc, sym, trailing_mask_l, true, zero, ℕ, ◌%◌, ◌&&◌, ◌+◌, ◌<◌, ◌^◌, ◌||◌, ◌∙◌, ◌∷◌, ◌≡◌, ◌≢◌, ◌≤◌}
+use Rattle.yaml_chars.proofs.Common.{[], ap, ap₂, arith, Bool, cond, false, get_or-chunk, leading_from_mask_l, length, length-chunk, length-map, List, map, mask_l-mod, not, pairs, prefix_len, prefix_len-le-length, prefix_len_passes, refl, replicate, slice_index, sym, trailing_mask_l, true, ℕ, ◌%◌, ◌&&◌, ◌+◌, ◌<◌, ◌^◌, ◌||◌, ◌∙◌, ◌∷◌, ◌≡◌, ◌≢◌, ◌≤◌}
 use lib.Bits.{bit_or, bit_and}
 use lib.Count.{count_trailing_zeros}
 use lib.Lanes.{zip2, mask_l, top, chunk}
@@ -70,10 +71,10 @@ length-pairs xs ys e = let both = sides xs ys e in sym (ap length both.0 ∙ len
 
 get_or-pairs : (xs ys : List ℕ) (k : ℕ) → length xs ≡ length ys → k < length xs
     → get_or (pairs xs ys) k (0, 0) ≡ (get_or xs k 0, get_or ys k 0)
-get_or-pairs [] ys k e l = absurd (omega (arith, l))
-get_or-pairs (x ∷ xs) [] k e l = absurd (omega (arith, e))
-get_or-pairs (x ∷ xs) (y ∷ ys) zero e l = refl
-get_or-pairs (x ∷ xs) (y ∷ ys) (suc k) e l = get_or-pairs xs ys k (omega (arith, e)) (omega (arith, l))
+get_or-pairs xs ys k e l =
+    let both = sides xs ys e in
+    let at = λ (f : ℕ × ℕ → ℕ). get_or-map f (pairs xs ys) k (0, 0) 0 (omega (arith, length-pairs xs ys e)) in
+    grind (arith, ap (λ v. get_or v k 0) both.0, ap (λ v. get_or v k 0) both.1, at (λ x. x.0), at (λ x. x.1))
 
 -- ---- the bytes of a slice
 

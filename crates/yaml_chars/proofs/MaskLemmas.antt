@@ -1,7 +1,7 @@
 -- A mask that a vector's tests give, held to a test of each byte, for the crates that look at blocks of bytes.
 use Rattle.std.proofs.lemmas.List.Folds.{prefix_len-append}
 use Rattle.std.proofs.lemmas.Simd.{zip2_of_maps, zip2_splat_left}
-use Rattle.yaml_chars.proofs.Common.{[], ap, ap₂, arith, Bool, cases_order, chunk-drop, cond, drop, eq-eqb, eqb, false, Fits, leading_from_mask_l, length, length-chunk, length-map, List, list_any, ltb, map, mask_l-mod, ne_eqb, not, not-suc-le-zero, prefix_len, prefix_len-le-length, refl, replicate, suc, sym, T, trailing_mask_l, true, w8, zero, ℕ, ◌%◌, ◌&&◌, ◌+◌, ◌<◌, ◌^◌, ◌∙◌, ◌∷◌, ◌≡◌, ◌≤◌, ◌⊎◌}
+use Rattle.yaml_chars.proofs.Common.{[], ap, ap₂, arith, Bool, cases_order, chunk-drop, cond, drop, eq-eqb, eqb, false, Fits, leading_from_mask_l, length, length-chunk, length-map, List, list_any, ltb, map, mask_l-mod, ne_eqb, not, not-suc-le-zero, prefix_len, prefix_len-le-length, refl, replicate, suc, sym, T, trailing_mask_l, true, w8, zero, ℕ, ◌%◌, ◌&&◌, ◌+◌, ◌<◌, ◌^◌, ◌∙◌, ◌∷◌, ◌≡◌, ◌≤◌}
 use lib.Bits.{bit_or, bit_and}
 use lib.Count.{count_trailing_zeros}
 use lib.Lanes.{zip2, mask_l, top, chunk, Each1}
@@ -39,15 +39,9 @@ abbrev pub all_upto : (ℕ → Bool) → ℕ → Bool
 all_upto p zero = true
 all_upto p (suc n) = p n && all_upto p n
 
-both : (a b : Bool) → T (a && b) → T a × T b
-both d b h = grind arith
-
 pub each_upto : (p : ℕ → Bool) (n : ℕ) → T (all_upto p n) → (i : ℕ) → i < n → T (p i)
 each_upto p zero h i lt = absurd (not-suc-le-zero lt)
-each_upto p (suc n) h i lt = go (each_upto p n (both (p n) (all_upto p n) h).1 i) (cases_order i n)
-  where
-    go : (i < n → T (p i)) → (i ≡ n) ⊎ ((i < n) ⊎ (n < i)) → T (p i)
-    go before a = grind arith
+each_upto p (suc n) h i lt = grind (arith, each_upto p n, cases_order i n)
 
 each_byte : (f : ℕ → ℕ) (p : ℕ → Bool) → T (all_upto (λ x. same (top 7 (f x)) (p x)) 256) → (v : List ℕ) → Each1 (Fits w8) v → map (top 7) (map f v) ≡ map p v
 each_byte f p all [] fits = refl

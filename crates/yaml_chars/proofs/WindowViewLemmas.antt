@@ -1,6 +1,6 @@
 -- Lemmas about a window.
 use Rattle.std.proofs.lemmas.List.{drop-drop, drop_at, ext_get_or, nil_from_length, take-take, take_at}
-use Rattle.yaml_chars.proofs.Common.{[], ap, append-nil, append_assoc, arith, bare, Bool, cases_lt, common_steps, drop, drop-append-le, drop_all, elements, Err, false, Fills, get_or-append-add, get_or-drop, HasNoNul, inl, inr, length, length-append, length-drop, List, Ok, OnOk, Possible, Pulled, Pulls, Reads, refl, Result, Sees, slice_index, subst, suc, sym, take, take-append-drop, take-length, true, WindowView, zero, ℕ, ◌++◌, ◌+◌, ◌∙◌, ◌∷◌, ◌≡◌, ◌≢◌, ◌≤◌}
+use Rattle.yaml_chars.proofs.Common.{[], ap, append-nil, append_assoc, arith, bare, cases_lt, common_steps, drop, drop-append-le, drop_all, elements, Err, Fills, get_or-append-add, get_or-drop, HasNoNul, inl, inr, length, length-append, length-drop, List, Ok, OnOk, Possible, Pulled, Pulls, Reads, refl, Result, Sees, slice_index, subst, suc, sym, take, take-append-drop, take-length, WindowView, zero, ℕ, ◌++◌, ◌+◌, ◌∙◌, ◌∷◌, ◌≡◌, ◌≢◌, ◌≤◌}
 use Rattle.yaml_chars.specs.Words.{Gives}
 
 -- a text that begins with two lists begins with the first
@@ -15,11 +15,7 @@ no_nul_append (x ∷ xs) ys f g (suc k) l = no_nul_append xs ys (λ j m. f (suc 
 
 -- the window reaches the end of what was taken
 pub reaches : {T : Type 0} {s : Pulled T} {ring : List ℕ} {at line col : ℕ} → Fills s ring at line col → length s.taken ≤ at + length ring
-reaches {s = s} {ring = ring} {at = at} fills = by s.done fills.ended fills.going
-  where
-    by : (done : Bool) → (done ≡ true → length s.taken ≤ at + length ring) → (done ≡ false → at + length ring ≡ length s.taken)
-        → length s.taken ≤ at + length ring
-    by a ended going = grind arith
+reaches fills = grind (arith, fills.ended, fills.going)
 
 pub Reads-map : {T : Type 0} {P Q : List ℕ → List ℕ → Type 0} (old new : WindowView T) → Reads old new P
     → ((a b : List ℕ) → P a b → Q a b) → Reads old new Q
