@@ -1,9 +1,9 @@
 -- Lemmas about keys, values and other scalars of one line that are known to come.
 use Rattle.std.proofs.lemmas.List.{take_more}
-use Rattle.yaml_chars.proofs.Common.{[], ap, append_assoc, ap₂, AreSimpleUpTo, arith, bare, begin, Bool, chars, chars-IsAscii, drop, drop_more, Ends, EndsKey, EndsLine, false, Fills, get_or-append-add, get_or-drop, get_or-take, get_or_append_left, GivesPart, halts_simple, HasNoNul, indented, inl, inr, is_alphanumeric, is_simple, IsCharBoundary, IsCharBoundary-after_ascii, IsSimpleText, IsTextUpTo, IsUtf8, length, length-append, length-drop, length-take-le, List, nat_lt, nat_tests, opens_simple, Pulled, Reads, refl, slice_index, subst, suc, sym, take, TakesKey, TakesLine, true, zero, ℕ, ◌&&◌, ◌++◌, ◌+◌, ◌-◌, ◌<◌, ◌==◌, ◌||◌, ◌∙◌, ◌∷◌, ◌≡◌, ◌≢◌, ◌≤◌}
+use Rattle.yaml_chars.proofs.Common.{[], ap, append_assoc, ap₂, AreSimpleUpTo, arith, begin, Bool, chars, chars-IsAscii, drop, drop_more, Ends, EndsKey, EndsLine, false, Fills, get_or-append-add, get_or-drop, get_or-take, get_or_append_left, GivesPart, halts_simple, HasNoNul, indented, inl, inr, is_alphanumeric, is_simple, IsCharBoundary, IsCharBoundary-after_ascii, IsSimpleText, IsTextUpTo, IsUtf8, length, length-append, length-drop, length-take-le, List, nat_lt, nat_tests, opens_simple, Pulled, Reads, refl, slice_index, subst, suc, sym, take, TakesKey, TakesLine, true, zero, ℕ, ◌&&◌, ◌++◌, ◌+◌, ◌-◌, ◌<◌, ◌==◌, ◌||◌, ◌∙◌, ◌∷◌, ◌≡◌, ◌≢◌, ◌≤◌}
 use Rattle.yaml_chars.specs.declared.block_line.LineKind.{LineKind}
 use Rattle.yaml_chars.specs.declared.block_line.LineKind.TheVariants.{Key, Value, Node}
-use Rattle.yaml_chars.proofs.WindowViewLemmas.{Fills-given, Reads-given, Reads-map}
+use Rattle.yaml_chars.proofs.WindowViewLemmas.{Fills-given, Reads-given, Reads-map, view}
 use Rattle.yaml_chars.proofs.WordsLemmas.{ascii_of}
 
 -- ---- simple bytes
@@ -202,7 +202,7 @@ module _ {T : Type 0} {part : LineKind} {held : List ℕ} {s new : Pulled T} {n 
         (no_nul_front bytes) lines cols
 
     Reads-part : (to row place h k : ℕ) → to ≡ at + (length held + n + 1 + spaces)
-        → Reads (record (bare s at line col) { ahead = h }) (record (bare new to row place) { ahead = k }) (λ a b.
+        → Reads (view s at line col h) (view new to row place k) (λ a b.
         (a ≡ before ++ (text ++ mark ∷ indented spaces b)) × (slice_index b 0 ≡ slice_index given.known (n + 1 + spaces)))
     Reads-part to row place h k end = Reads-map _ _
         (Reads-given fills given.gives (fills.going given.going) gone (c ∷ []) split to row place h k (omega (arith, end, sizes))) (λ a b e.
@@ -216,8 +216,8 @@ module _ {T : Type 0} {part : LineKind} {held : List ℕ} {s new : Pulled T} {n 
     pub Fills-key : Fills new (c ∷ []) (at + (length held + n + 1)) line (col + (length held + n + 1))
     Fills-key = Fills-part [] stands bytes_key _ line _ (omega (arith, ends.1)) (omega (arith, fills.lines)) (omega (arith, fills.cols))
 
-    pub takes_key : (h k : ℕ) → TakesKey (record (bare s at line col) { ahead = h })
-        (record (bare new (at + (length held + n + 1)) line (col + (length held + n + 1))) { ahead = k }) text
+    pub takes_key : (h k : ℕ) → TakesKey (view s at line col h)
+        (view new (at + (length held + n + 1)) line (col + (length held + n + 1)) k) text
     takes_key h k =
         let key = ends.0 in
         let up_to = key.text in
@@ -248,8 +248,8 @@ module _ {T : Type 0} {part : LineKind} {held : List ℕ} {s new : Pulled T} {n 
     Fills-line = Fills-part before stands bytes_line _ (line + 1) spaces refl
         (omega (arith, fills.lines, lengths before stands bytes_line, simple_line.some)) (omega arith)
 
-    pub takes_line : (h k : ℕ) → TakesLine before limit (record (bare s at line col) { ahead = h })
-        (record (bare new (at + (length held + n + 1 + spaces)) (line + 1) spaces) { ahead = k }) text
+    pub takes_line : (h k : ℕ) → TakesLine before limit (view s at line col h)
+        (view new (at + (length held + n + 1 + spaces)) (line + 1) spaces k) text
     takes_line h k = record {
       spaces = spaces;
       low = ends.low;

@@ -1,8 +1,8 @@
 -- Lemmas about runs that are taken from a source.
 use Rattle.std.proofs.lemmas.List.{nil_from_length}
-use Rattle.yaml_chars.proofs.Common.{[], ap, arith, bare, Bool, false, Fills, GoesOn, GoesOver, is_blank, is_break, length, List, Position, Pulled, Pulls, ran, Reads, refl, Run, slice_index, stops, sym, true, ℕ, ◌++◌, ◌+◌, ◌∙◌, ◌∷◌, ◌≡◌, ◌≢◌}
+use Rattle.yaml_chars.proofs.Common.{[], ap, arith, Bool, false, Fills, GoesOn, GoesOver, is_blank, is_break, length, List, Position, Pulled, Pulls, ran, Reads, refl, Run, slice_index, stops, sym, true, ℕ, ◌++◌, ◌+◌, ◌∙◌, ◌∷◌, ◌≡◌, ◌≢◌}
 pub use Rattle.yaml_chars.proofs.WindowViewLemmas.{Reads-map}
-use Rattle.yaml_chars.proofs.WindowViewLemmas.{Fills-more, Fills-taken, Reads-ahead, Reads-more, Reads-taken, Reads-then}
+use Rattle.yaml_chars.proofs.WindowViewLemmas.{Fills-more, Fills-taken, Reads-ahead, Reads-more, Reads-taken, Reads-then, view}
 
 pub ran_on : (run : Run) (c : ℕ) (a b : List ℕ) (p : Position) (t : List ℕ) → a ≡ c ∷ b → stops run c ≡ false
     → ran run a p t ≡ ran run b (record { index = p.index + 1; line = p.line; col = p.col + 1 }) (t ++ c ∷ [])
@@ -65,13 +65,13 @@ module _ {T : Type 0} {run : Run} {s : Pulled T} {ring : List ℕ} {at line col 
   pub Fills-over : Fills new (ring ++ c ∷ []) (at + n) line (col + n)
   Fills-over = rw (nil_from_length ring none) (Fills-more last_fills over.later)
 
-  pub Reads-over : (h k : ℕ) → Reads (record (bare s at line col) { ahead = h }) (record (bare new (at + n) line (col + n)) { ahead = k }) (λ a b.
+  pub Reads-over : (h k : ℕ) → Reads (view s at line col h) (view new (at + n) line (col + n) k) (λ a b.
       (ran run a (record { index = at; line = line; col = col }) before ≡ ran run b (record { index = at + n; line = line; col = col + n }) after) × (slice_index b 0 ≡ c))
   Reads-over h k = Reads-then _ _ _ (Reads-ahead _ _ h (over.goes.reads at line col empty)) (Reads-more last_fills over.later 0 k)
       (λ a b d e f.
       (e ∙ ap (λ x. ran run x (record { index = at + n; line = line; col = col + n }) after) (sym f.0), f.1 refl))
 
   -- where memory was there, the run ended
-  pub Ran-over : (h k : ℕ) → refused ≡ false → Reads (record (bare s at line col) { ahead = h }) (record (bare new (at + n) line (col + n)) { ahead = k }) (λ a b.
+  pub Ran-over : (h k : ℕ) → refused ≡ false → Reads (view s at line col h) (view new (at + n) line (col + n) k) (λ a b.
       ran run a (record { index = at; line = line; col = col }) before ≡ record { rest = b; position = record { index = at + n; line = line; col = col + n }; text = after })
   Ran-over h k given = Reads-map _ _ (Reads-over h k) (λ a b e. e.0 ∙ ran_stops run b _ after (rw e.1 (over.stops given)))

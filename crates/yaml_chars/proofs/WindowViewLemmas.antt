@@ -38,6 +38,10 @@ Reads-ahead old new h r = record {
 
 -- ---- characters come
 
+-- a source as a window sees it, at a position, with so much in the window
+abbrev pub view : {T : Type 0} → Pulled T → (at line col ahead : ℕ) → WindowView T
+view s at line col ahead = record (bare s at line col) { ahead = ahead }
+
 -- characters came from a source, and of these and what the window held a part was read
 module _ {T : Type 0} {s new : Pulled T} {held part : List ℕ} {at line col : ℕ} (fills : Fills s held at line col)
     (gives : Gives s new part) (reach : at + length held ≡ length s.taken) (gone ring : List ℕ) (split : held ++ part ≡ gone ++ ring) where
@@ -72,8 +76,7 @@ module _ {T : Type 0} {s new : Pulled T} {held part : List ℕ} {at line col : �
 
   -- what was left is what was read and what is left, which begins with what the window holds
   pub Reads-given : (to row place h k : ℕ) → to ≡ at + length gone
-      → Reads (record (bare s at line col) { ahead = h }) (record (bare new to row place) { ahead = k })
-      (λ a b. (a ≡ gone ++ b) × (z : List ℕ) × (b ≡ ring ++ z))
+      → Reads (view s at line col h) (view new to row place k) (λ a b. (a ≡ gone ++ b) × (z : List ℕ) × (b ≡ ring ++ z))
   Reads-given to row place h k end = record {
     start = gives.start;
     at = omega arith;
@@ -129,7 +132,7 @@ module _ {T : Type 0} {s next : Pulled T} {ring : List ℕ} {at line col c : ℕ
   ]
 
   -- the text that is left stays, and begins with what came, where nothing was in the window
-  pub Reads-more : (h k : ℕ) → Reads (record (bare s at line col) { ahead = h }) (record (bare next at line col) { ahead = k })
+  pub Reads-more : (h k : ℕ) → Reads (view s at line col h) (view next at line col k)
       (λ a b. (b ≡ a) × (length ring ≡ 0 → slice_index b 0 ≡ c))
   Reads-more h k = elim (cases_lt 0 c) [
     | inl some ↦
@@ -163,8 +166,7 @@ module _ {T : Type 0} {s next : Pulled T} {ring : List ℕ} {at line col c : ℕ
         Fills-given fills (char_gives some) (char_reach some) (c ∷ []) [] taken_split (at + 1) line (col + 1) (omega arith)
         (char_some some) (omega (arith, fills.lines)) (omega (arith, fills.cols))
 
-    pub Reads-taken : (h k : ℕ) → Reads (record (bare s at line col) { ahead = h })
-        (record (bare next (at + 1) line (col + 1)) { ahead = k }) (λ a b. a ≡ c ∷ b)
+    pub Reads-taken : (h k : ℕ) → Reads (view s at line col h) (view next (at + 1) line (col + 1) k) (λ a b. a ≡ c ∷ b)
     Reads-taken h k = Reads-map _ _ (Reads-given fills (char_gives some) (char_reach some) (c ∷ []) [] taken_split (at + 1) line
         (col + 1) h k (omega arith)) (λ a b e. e.0)
 

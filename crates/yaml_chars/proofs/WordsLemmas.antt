@@ -4,10 +4,10 @@ use Rattle.std.specs.Iterator.{size}
 use Rattle.std.specs.Prelude.{if◌then◌else◌}
 use Rattle.yaml_chars.specs.Words.{Gives}
 use Rattle.std.proofs.lemmas.List.{get_or_past, length-take, nil_from_length}
-use Rattle.yaml_chars.proofs.WindowViewLemmas.{Fills-given, reaches, Reads-given, Reads-map}
+use Rattle.yaml_chars.proofs.WindowViewLemmas.{Fills-given, reaches, Reads-given, Reads-map, view}
 use Rattle.yaml_chars.specs.InMemory.{text_rest}
 use Rattle.yaml_chars.specs.declared.characters.TextInMemory.{TextInMemory}
-use Rattle.yaml_chars.proofs.Common.{[], and_parts, ap, append-nil, append_assoc, are_words, AreAscii, AreWordsBetween, AreWordsUpTo, arith, bare, begins_byte, begins_word, Bool, byte_from_char, cases_lt, char_from_byte, chars_past_char, chars_steps, Count, drop, encode_ascii, encodes-chars, EndsAtAscii, false, Fills, GivesWords, Goes, halts, halts_line, HasNoNul, inl, inr, is_blank, is_break, is_flow, is_in_words, is_word_byte, IsAscii, IsCharBoundary, IsCharBoundary-after_ascii, IsCharBoundary-before_ascii, IsCharBoundary-end, IsCharBoundary-start, IsFinite, IsUtf8, IsUtf8-past_char, IsUtf8-take, IsWordBetween, IterStands, LanesGo, len_utf8_bounds, length, length-append, length-encode, length-take-le, Line, List, nat_lt, nat_tests, Option, Plain, Position, Pulled, Quoted, Reads, refl, Run, slice_get, slice_index, slice_range, Some, stops, stops_beyond, stops_byte, subst, suc, sym, take, take-append-drop, TakesWords, true, Yields, zero, ℕ, ◌&&◌, ◌++◌, ◌+◌, ◌-◌, ◌<◌, ◌||◌, ◌∙◌, ◌∷◌, ◌≡◌, ◌≢◌, ◌≤◌, ◌⊎◌, get_or-append-add, get_or-take}
+use Rattle.yaml_chars.proofs.Common.{[], and_parts, ap, append-nil, append_assoc, are_words, AreAscii, AreWordsBetween, AreWordsUpTo, arith, begins_byte, begins_word, Bool, byte_from_char, cases_lt, char_from_byte, chars_past_char, chars_steps, Count, drop, encode_ascii, encodes-chars, EndsAtAscii, false, Fills, GivesWords, Goes, halts, halts_line, HasNoNul, inl, inr, is_blank, is_break, is_flow, is_in_words, is_word_byte, IsAscii, IsCharBoundary, IsCharBoundary-after_ascii, IsCharBoundary-before_ascii, IsCharBoundary-end, IsCharBoundary-start, IsFinite, IsUtf8, IsUtf8-past_char, IsUtf8-take, IsWordBetween, IterStands, LanesGo, len_utf8_bounds, length, length-append, length-encode, length-take-le, Line, List, nat_lt, nat_tests, Option, Plain, Position, Pulled, Quoted, Reads, refl, Run, slice_get, slice_index, slice_range, Some, stops, stops_beyond, stops_byte, subst, suc, sym, take, take-append-drop, TakesWords, true, Yields, zero, ℕ, ◌&&◌, ◌++◌, ◌+◌, ◌-◌, ◌<◌, ◌||◌, ◌∙◌, ◌∷◌, ◌≡◌, ◌≢◌, ◌≤◌, ◌⊎◌, get_or-append-add, get_or-take}
 use lib.Utf8.{encode, encodes}
 
 -- ---- bytes
@@ -338,7 +338,7 @@ module _ {T : Type 0} {run : Run} {s : Pulled T} {ring : List ℕ} {at line col 
       (omega (arith, given.count))
       (words_no_nul run given.part given.words) (omega (arith, fills.lines)) (omega (arith, fills.cols)))
 
-  pub Reads-gives : (h k : ℕ) → Reads (record (bare s at line col) { ahead = h }) (record (bare new (at + n) line (col + n)) { ahead = k }) (λ a b.
+  pub Reads-gives : (h k : ℕ) → Reads (view s at line col h) (view new (at + n) line (col + n) k) (λ a b.
       TakesWords run a b (record { index = at; line = line; col = col }) (record { index = at + n; line = line; col = col + n }) before after)
   Reads-gives h k = Reads-map _ _ (Reads-given fills given.gives reach given.part [] split (at + n) line (col + n) h k
       (omega (arith, given.count))) (λ a b e. record {
