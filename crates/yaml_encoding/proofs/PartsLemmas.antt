@@ -1,5 +1,5 @@
 -- Lemmas about the parts of an input.
-use Rattle.yaml_encoding.proofs.Common.{[], add-zero, ap, arith, big, Bool, cond, drop, Encoding, false, front, is_between, is_lead, is_trail, led, length, List, little, malformed, None, Option, pair_by, part_of, parts_from, pred, Range, reading, refl, Sequence, sequence_by, sequence_from, Some, Start, start_of, suc, true, utf_16_big, utf_16_little, utf_16_sequence, utf_8, zero, ℕ, ◌*◌, ◌+◌, ◌-◌, ◌<◌, ◌∙◌, ◌∷◌, ◌≡◌, ◌≤◌}
+use Rattle.yaml_encoding.proofs.Common.{[], add-zero, ap, arith, big, drop, Encoding, front, length, List, little, None, Option, part_of, parts_from, pred, Range, reading, refl, Sequence, sequence_by, sequence_from, Some, Start, start_of, suc, utf_16_big, utf_16_little, utf_16_sequence, utf_8, zero, ℕ, ◌*◌, ◌+◌, ◌-◌, ◌<◌, ◌∙◌, ◌∷◌, ◌≡◌, ◌≤◌}
 
 -- a sequence takes some bytes, and no more than there are
 abbrev Takes : Sequence → List ℕ → Type 0

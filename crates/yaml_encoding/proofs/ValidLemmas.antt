@@ -1,47 +1,29 @@
 -- Lemmas about UTF-8 that is read as it stands.
 use Rattle.std.specs.Str.{chars}
 use Rattle.std.specs.Str.Lossy.{utf8_valid_len}
-use Rattle.std.proofs.lemmas.Bool.{cases_lt, and_parts, cond_above, cond_below}
-use Rattle.yaml_encoding.proofs.Common.{[], add-zero, any_trail, ap, append-nil, append_assoc, arith, Bool, chars-encodes, drop, drop_past_char, encode_ascii, Encoding, false, front, get_or, if◌then◌else◌, inl, inr, is_utf8, is_utf8-from_IsUtf8, IsRead, IsUtf8, IsUtf8-from_ascii, len_utf8_bounds, length, length-append, length-drop, length-encode, List, means, nat_tests, Range, refl, Some, start_of, Steps, suc, sym, take, take-append-drop, true, utf_8, utf_8_sequence, valid_len_up_to, zero, ℕ, ◌%◌, ◌*◌, ◌++◌, ◌+◌, ◌-◌, ◌/◌, ◌<◌, ◌∙◌, ◌∷◌, ◌≡◌, ◌≤◌, ◌⊎◌}
-use mathlib.Core.Logic.{⊎_elim}
+use Rattle.std.proofs.lemmas.Bool.{cases_lt, and_parts}
+use Rattle.yaml_encoding.proofs.Common.{[], add-zero, ap, append-nil, append_assoc, arith, chars-encodes, drop, drop_past_char, Encoding, front, get_or, inl, inr, is_utf8, is_utf8-from_IsUtf8, IsRead, IsUtf8, IsUtf8-from_ascii, len_utf8_bounds, length, length-append, length-drop, length-encode, List, means, nat_tests, refl, start_of, Steps, suc, sym, take, take-append-drop, true, utf_8, utf_8_sequence, valid_len_up_to, zero, ℕ, ◌*◌, ◌++◌, ◌+◌, ◌-◌, ◌/◌, ◌<◌, ◌∙◌, ◌∷◌, ◌≡◌, ◌≤◌, ◌⊎◌}
 use lib.Utf8.{next, scalar, scalars, scalar_cases, encode, encodes}
-use Rattle.yaml_encoding.proofs.Utf8Lemmas.{inside, stays}
 use Rattle.yaml_encoding.proofs.ReadLemmas.{passes_character}
 
 -- ---- an encoded character is read as it
 
-front_1 : (c : ℕ) (r : List ℕ) → c < 128 → utf_8_sequence c r ≡ means 1 c
-unfolding start_of
-front_1 c r h = grind (arith, nat_tests)
-
-front_2 : (c b x : ℕ) (r : List ℕ) → 128 ≤ c → c < 2048 → b ≡ 192 + c / 64 → x ≡ 128 + c % 64 → utf_8_sequence b (x ∷ r) ≡ means 2 c
-unfolding start_of
-front_2 c b x r l h e f = let v : (b - 0xC0) * 64 + (x - 0x80) ≡ c = omega arith in grind (arith, nat_tests)
-
-front_3 : (c b x y : ℕ) (r : List ℕ) → 2048 ≤ c → c < 65536 → (c < 55296) ⊎ (57344 ≤ c) → b ≡ 224 + c / 4096 → x ≡ 128 + c / 64 % 64 → y ≡ 128 + c % 64
-    → utf_8_sequence b (x ∷ y ∷ r) ≡ means 3 c
-unfolding start_of
-front_3 c b x y r l h s e f g = let v : ((b - 0xE0) * 64 + (x - 0x80)) * 64 + (y - 0x80) ≡ c = omega arith in grind (arith, nat_tests)
-
-front_4 : (c b x y z : ℕ) (r : List ℕ) → 65536 ≤ c → c < 1114112 → b ≡ 240 + c / 262144 → x ≡ 128 + c / 4096 % 64 → y ≡ 128 + c / 64 % 64 → z ≡ 128 + c % 64
-    → utf_8_sequence b (x ∷ y ∷ z ∷ r) ≡ means 4 c
-unfolding start_of
-front_4 c b x y z r l h e f g i =
-    let v : (((b - 0xF0) * 64 + (x - 0x80)) * 64 + (y - 0x80)) * 64 + (z - 0x80) ≡ c = omega arith in grind (arith, nat_tests)
-
 encode_front : (c : ℕ) (r : List ℕ) → scalar c ≡ true → means (length (encode c)) c ≡ front utf_8_sequence (encode c ++ r)
-unfolding encode
+unfolding encode start_of
 encode_front c r s =
     let k = scalar_cases c s in
-    let top : c < 1114112 = elim k [ inl h ↦ omega arith | inr h ↦ h.1 ] in
+    let upper : c < 1114112 = elim k [ inl h ↦ omega arith | inr h ↦ h.1 ] in
     let apart : (c < 55296) ⊎ (57344 ≤ c) = elim k [ inl h ↦ inl h | inr h ↦ inr (h.0) ] in
     elim (cases_lt c 128) [
-      | inl h ↦ grind (arith, nat_tests, front_1 c r h)
+      | inl h ↦ grind (arith, nat_tests)
       | inr l ↦ elim (cases_lt c 2048) [
-        | inl h ↦ grind (arith, nat_tests, front_2 c (192 + c / 64) (next c) r l h refl refl)
+        | inl h ↦ let v : (192 + c / 64 - 0xC0) * 64 + (next c - 0x80) ≡ c = omega arith in grind (arith, nat_tests)
         | inr m ↦ elim (cases_lt c 65536) [
-          | inl h ↦ grind (arith, nat_tests, front_3 c (224 + c / 4096) (next (c / 64)) (next c) r m h apart refl refl refl)
-          | inr n ↦ grind (arith, nat_tests, front_4 c (240 + c / 262144) (next (c / 4096)) (next (c / 64)) (next c) r n top refl refl refl refl)
+          | inl h ↦
+              let v : ((224 + c / 4096 - 0xE0) * 64 + (next (c / 64) - 0x80)) * 64 + (next c - 0x80) ≡ c = omega arith in grind (arith, nat_tests)
+          | inr n ↦
+              let v : (((240 + c / 262144 - 0xF0) * 64 + (next (c / 4096) - 0x80)) * 64 + (next (c / 64) - 0x80)) * 64 + (next c - 0x80) ≡ c = omega arith in
+              grind (arith, nat_tests)
         ]
       ]
     ]

@@ -1,4 +1,3 @@
-use Rattle.yaml_encoding.proofs.Common.{curried, IsStep}
 use Rattle.yaml_encoding.proofs.TrapLemmas.{text_ignored, text_replaced, text_strict, text_called}
 use Rattle.yaml_encoding.proofs.text.text_of.Goals as goal
 
