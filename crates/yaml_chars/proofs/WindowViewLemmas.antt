@@ -1,6 +1,6 @@
 -- Lemmas about a window.
 use Rattle.std.proofs.lemmas.List.{drop-drop, drop_at, ext_get_or, nil_from_length, take-take, take_at}
-use Rattle.yaml_chars.proofs.Common.{[], ap, append-nil, append_assoc, arith, bare, cases_lt, common_steps, drop, drop-append-le, drop_all, elements, Err, Fills, get_or-append-add, get_or-drop, HasNoNul, inl, inr, length, length-append, length-drop, List, Ok, OnOk, Possible, Pulled, Pulls, Reads, refl, Result, Sees, slice_index, subst, suc, sym, take, take-append-drop, take-length, WindowView, zero, ℕ, ◌++◌, ◌+◌, ◌∙◌, ◌∷◌, ◌≡◌, ◌≢◌, ◌≤◌}
+use Rattle.yaml_chars.proofs.Common.{[], ap, append-nil, append_assoc, arith, bare, cases_lt, common_steps, drop, drop-append-le, drop_all, elements, Err, Fills, get_or-append-add, get_or-append_right, get_or-drop, get_or_append_left, HasNoNul, inl, inr, length, length-append, length-drop, List, Ok, OnOk, Possible, Pulled, Pulls, Reads, refl, Result, Sees, slice_index, subst, sym, take, take-append-drop, take-length, WindowView, ℕ, ◌++◌, ◌+◌, ◌-◌, ◌∙◌, ◌∷◌, ◌≡◌, ◌≢◌, ◌≤◌}
 use Rattle.yaml_chars.specs.Words.{Gives}
 
 -- a text that begins with two lists begins with the first
@@ -9,9 +9,9 @@ begins-back xs ys w h =
     sym (take-take (length xs) (length (xs ++ ys)) w (omega (arith, length-append xs ys))) ∙ ap (take (length xs)) h ∙ take_at xs ys _ refl
 
 no_nul_append : (xs ys : List ℕ) → HasNoNul xs → HasNoNul ys → HasNoNul (xs ++ ys)
-no_nul_append [] ys f g k l = g k l
-no_nul_append (x ∷ xs) ys f g zero l = f 0 (omega arith)
-no_nul_append (x ∷ xs) ys f g (suc k) l = no_nul_append xs ys (λ j m. f (suc j) (omega (arith, m))) g k (omega (arith, l))
+no_nul_append xs ys f g k l =
+    let right = get_or-append_right xs ys (length xs) k 0 refl in
+    grind (arith, length-append xs ys, get_or_append_left xs ys 0 k, right, f k, g (k - length xs))
 
 -- the window reaches the end of what was taken
 pub reaches : {T : Type 0} {s : Pulled T} {ring : List ℕ} {at line col : ℕ} → Fills s ring at line col → length s.taken ≤ at + length ring

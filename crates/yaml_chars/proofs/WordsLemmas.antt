@@ -115,17 +115,14 @@ word_byte_low run b d beyond h = grind arith
 -- where words end, the text may be cut
 pub boundary_of : (run : Run) (bs : List ℕ) (n : ℕ) → IsUtf8 bs → AreWordsUpTo run bs n → EndsAtAscii run bs n → IsCharBoundary bs n
 boundary_of run bs zero u words ends = IsCharBoundary-start bs u
-boundary_of run bs (suc m) u words ends = by (stops_beyond run) refl
-  where
-    by : (x : Bool) → stops_beyond run ≡ x → IsCharBoundary bs (suc m)
-    by true e =
-        let next : m + 1 ≡ suc m = omega arith in
-        let low = word_byte_low run (slice_index bs m) 0 e (goes_in_words run _ 0 (words.last m next)) in
-        subst (IsCharBoundary bs) next (IsCharBoundary-after_ascii bs m u (omega (arith, words.within)) low)
-    by false e = elim (cases_lt (suc m) (length bs)) [
-      | inl inside ↦ IsCharBoundary-before_ascii bs (suc m) inside (ends e inside)
-      | inr outside ↦ let same : length bs ≡ suc m = omega (arith, words.within) in subst (IsCharBoundary bs) same (IsCharBoundary-end bs)
-    ]
+boundary_of run bs (suc m) u words ends = elim (cases_lt (suc m) (length bs)) [
+  | inr outside ↦ let same : length bs ≡ suc m = omega (arith, words.within) in rw (← same) (IsCharBoundary-end bs)
+  | inl inside ↦
+      let next : m + 1 ≡ suc m = omega arith in
+      let low = goes_in_words run (slice_index bs m) 0 (words.last m next) in
+      let after = IsCharBoundary-after_ascii bs m u (omega arith) in
+      grind (arith, word_byte_low run (slice_index bs m) 0, low, rw next at after, IsCharBoundary-before_ascii bs (suc m) inside, ends)
+]
 
 -- ---- the characters of the bytes of words
 
@@ -150,11 +147,7 @@ words_after run xs ys words =
 
 -- a character outside ASCII begins with a byte outside it
 lead_high : (c : ℕ) (rest : List ℕ) → 128 ≤ c → 128 ≤ slice_index (encode c ++ rest) 0
-lead_high c rest high = elim (cases_lt (slice_index (encode c ++ rest) 0) 128) [
-  | inl low ↦
-      absurd (omega (arith, high, low, char_from_byte (encode c ++ rest) rest c refl low (encode_some c rest)))
-  | inr h ↦ h
-]
+lead_high c rest high = grind (arith, char_from_byte (encode c ++ rest) rest c refl, encode_some c rest)
 
 begins_of_high : (run : Run) (c : ℕ) → 128 ≤ c → stops_beyond run ≡ false → begins_word run c ≡ true
 unfolding begins_word stops is_break is_blank is_flow
@@ -237,14 +230,9 @@ lanes_words run bs at n to room few go end = record {
   after = omega arith;
   within = omega (arith, room, few, short);
   inner = λ j a b. in_words j a (omega (arith, b, short));
-  last = λ j a b. elim end [
-    | inl e ↦
-        let here : at + n - 1 ≡ j = omega (arith, e.0, b) in
-        let g = goes j a (omega (arith, e.0, b)) in g.word (rw here at (e.1 (omega (arith, e.0, a, b))))
-    | inr e ↦
-        let next : at + n - 1 ≡ j + 1 = omega (arith, e.0, b) in
-        before_blank run _ (rw (rw next at e.1) at (in_words j a (omega (arith, e.0, b))))
-  ];
+  last = λ j a b.
+      let g = goes j a (omega (arith, b, short)) in
+      grind (arith, end, g.word, in_words j a, before_blank run (slice_index bs j));
 }
   where
     short : to ≤ n

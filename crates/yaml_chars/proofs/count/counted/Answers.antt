@@ -4,7 +4,8 @@ use Rattle.yaml_chars.proofs.count.counted.Goals as goal
 
 pub overflow_add-count : goal.overflow_add-count
 overflow_add-count c =
-    let few = block_few c.as_bytes-bytes.result.now _ _ _ (omega (arith, c.blocks-2-test.true)) c.blocks-2.invariant.0 c.first_lanes-count.ensures in
+    let few = block_few c.as_bytes-bytes.result.now _ _ _ (omega (arith, c.blocks-2-test.true))
+    c.blocks-2.invariant.0 c.first_lanes-count.ensures in
     search rules
 
 pub blocks-2-preserved : goal.blocks-2-preserved
