@@ -8,7 +8,8 @@ Takes s r = (1 ≤ s.bytes) × (s.bytes ≤ suc (length r))
 trails_take : (n bits : ℕ) (ranges : List Range) (r : List ℕ) → 1 ≤ n → (1 ≤ (sequence_from n bits ranges r).bytes) × ((sequence_from n bits ranges r).bytes ≤ n + length r)
 trails_take n bits [] r some = (some, omega arith)
 trails_take n bits (range ∷ ranges) [] some = (some, omega arith)
-trails_take n bits (range ∷ ranges) (b ∷ r) some = let h = trails_take (suc n) (bits * 64 + (b - 0x80)) ranges r (omega arith) in (grind arith, grind arith)
+trails_take n bits (range ∷ ranges) (b ∷ r) some =
+    let h = trails_take (suc n) (bits * 64 + (b - 0x80)) ranges r (omega arith) in (grind arith, grind arith)
 
 utf_8_takes : (s : Option Start) (r : List ℕ) → Takes (sequence_by s r) r
 utf_8_takes None r = (omega arith, omega arith)

@@ -1,10 +1,6 @@
 -- Lemmas about an input that is read up to a position.
-use Rattle.yaml_encoding.proofs.Common.{[], ap, arith, chosen, drop, drop-drop, drop_all, Encoding, front, go_on, inl, inr, IsDecodedByCalls, IsRead, length, length-drop, List, Message, None, OutOfMemory, part_by, parts_from, reading, refl, Sequence, Some, Stepped, Steps, Stop, StopIs, stopped, take, take-length, text, ℕ, ◌++◌, ◌+◌, ◌-◌, ◌<◌, ◌∙◌, ◌∷◌, ◌≡◌, ◌≤◌}
+use Rattle.yaml_encoding.proofs.Common.{[], ap, arith, chosen, drop, drop-drop, drop_all, Encoding, front, go_on, inl, inr, IsDecodedByCalls, IsRead, length, length-drop, List, Message, None, OutOfMemory, part_by, parts_from, reading, refl, Sequence, Some, Stepped, Steps, Stop, StopIs, stopped, text, ℕ, ◌++◌, ◌+◌, ◌-◌, ◌<◌, ◌∙◌, ◌∷◌, ◌≡◌, ◌≤◌}
 use Rattle.yaml_encoding.proofs.PartsLemmas.{parts_from-front, front-bytes}
-
--- what a slice from a position on is
-pub rest_of : (input : List ℕ) (at : ℕ) → take (length input - at) (drop at input) ≡ drop at input
-rest_of input at = rw (← length-drop at input) (take-length (drop at input))
 
 -- after the mark
 pub read_start : (step : Steps) (e : Encoding) (input : List ℕ) (mark : ℕ) (so_far : List ℕ) → chosen input ≡ record { encoding = e; mark = mark } → so_far ≡ [] → IsRead step e input mark so_far
@@ -18,14 +14,15 @@ parts_at e input at s in_range f =
     ∙ ap (λ r. part_by at (drop at input) (s.bytes) (s.ahead) (s.character) ∷ parts_from (reading e) 0 (at + s.bytes) r) (drop-drop (s.bytes) at input)
 
 -- how many bytes a sequence takes
-pub takes : (e : Encoding) (input : List ℕ) (at : ℕ) (s : Sequence) (rest : List ℕ) → rest ≡ drop at input → at < length input → s ≡ front (reading e) rest
+pub takes : (e : Encoding) (input : List ℕ) (at : ℕ) (s : Sequence) (rest : List ℕ) → rest ≡ drop at input → at < length input
+    → s ≡ front (reading e) rest
     → (1 ≤ s.bytes) × (s.bytes ≤ length rest) × (at + s.bytes ≤ length input)
 takes e input at s rest is_rest in_range is_front =
     let l : length rest ≡ length input - at = ap (λ r. length r) is_rest ∙ length-drop at input in
     let t = front-bytes e rest s (omega arith) is_front in (t.0, t.1, omega arith)
 
-module _ (step : Steps) (e : Encoding) (input : List ℕ) (at : ℕ) (so_far : List ℕ) (s : Sequence) (rest : List ℕ) (is_rest : rest ≡ drop at input)
-    (in_range : at < length input) (is_front : s ≡ front (reading e) rest) where
+module _ (step : Steps) (e : Encoding) (input : List ℕ) (at : ℕ) (so_far : List ℕ) (s : Sequence) (rest : List ℕ)
+    (is_rest : rest ≡ drop at input) (in_range : at < length input) (is_front : s ≡ front (reading e) rest) where
   here : s ≡ front (reading e) (drop at input)
   here = rw (← is_rest) is_front
 

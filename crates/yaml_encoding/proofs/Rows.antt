@@ -56,7 +56,8 @@ record Rows : Type 0 where
   -- an odd byte at the end
   odd_byte : strict (parts (0xFF ∷ 0xFE ∷ 0x61 ∷ 0x00 ∷ 0x62 ∷ [])) ≡ stopped (codes "Invalid character sequence at 4: [98]")
   -- a lead surrogate and an odd byte at the end are one
-  lead_and_odd_byte : strict (parts (0xFF ∷ 0xFE ∷ 0x00 ∷ 0xD8 ∷ 0x61 ∷ [])) ≡ stopped (codes "Invalid character sequence at 2: [0, 216, 97]")
+  lead_and_odd_byte : strict (parts (0xFF ∷ 0xFE ∷ 0x00 ∷ 0xD8 ∷ 0x61 ∷ []))
+      ≡ stopped (codes "Invalid character sequence at 2: [0, 216, 97]")
   -- a lead surrogate at the end
   lead_at_end : strict (parts (0xFF ∷ 0xFE ∷ 0x61 ∷ 0x00 ∷ 0x00 ∷ 0xD8 ∷ [])) ≡ stopped (codes "Invalid character sequence at 4: [0, 216]")
   -- a lead surrogate before a pair
@@ -66,7 +67,8 @@ record Rows : Type 0 where
   -- a mark of UTF-16BE
   marked_big : replaced (parts (0xFE ∷ 0xFF ∷ 0x00 ∷ 0x61 ∷ [])) ≡ 97 ∷ []
   -- a lead surrogate before a whole unit: two bytes of length, two looked at
-  looked_ahead : parts (0xFF ∷ 0xFE ∷ 0x00 ∷ 0xD8 ∷ 0x61 ∷ 0x00 ∷ []) ≡ malformation 2 2 2 (0x00 ∷ 0xD8 ∷ 0x61 ∷ 0x00 ∷ []) ∷ character 97 ∷ []
+  looked_ahead : parts (0xFF ∷ 0xFE ∷ 0x00 ∷ 0xD8 ∷ 0x61 ∷ 0x00 ∷ [])
+      ≡ malformation 2 2 2 (0x00 ∷ 0xD8 ∷ 0x61 ∷ 0x00 ∷ []) ∷ character 97 ∷ []
   -- without a malformation the function is not called
   not_called : IsDecodedByCalls Stops (0x61 ∷ []) (text (codes "a"))
 

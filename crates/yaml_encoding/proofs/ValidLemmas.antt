@@ -20,9 +20,11 @@ encode_front c r s =
         | inl h ↦ let v : (192 + c / 64 - 0xC0) * 64 + (next c - 0x80) ≡ c = omega arith in grind (arith, nat_tests)
         | inr m ↦ elim (cases_lt c 65536) [
           | inl h ↦
-              let v : ((224 + c / 4096 - 0xE0) * 64 + (next (c / 64) - 0x80)) * 64 + (next c - 0x80) ≡ c = omega arith in grind (arith, nat_tests)
+              let v : ((224 + c / 4096 - 0xE0) * 64 + (next (c / 64) - 0x80)) * 64 + (next c - 0x80) ≡ c = omega arith in
+              grind (arith, nat_tests)
           | inr n ↦
-              let v : (((240 + c / 262144 - 0xF0) * 64 + (next (c / 4096) - 0x80)) * 64 + (next (c / 64) - 0x80)) * 64 + (next c - 0x80) ≡ c = omega arith in
+              let v : (((240 + c / 262144 - 0xF0) * 64 + (next (c / 4096) - 0x80)) * 64 + (next (c / 64) - 0x80)) * 64 + (next c - 0x80) ≡ c =
+              omega arith in
               grind (arith, nat_tests)
         ]
       ]
