@@ -14,5 +14,5 @@ blocks-2-preserved c =
 
 pub returns : goal.returns
 returns c =
-    count_whole c.as_bytes-bytes.result.now _ _ _ c.as_bytes-bytes.ensures.utf8 c.blocks-2.invariant.0 c.counted_singly.ensures
+    count_whole _ _ _ _ c.as_bytes-bytes.ensures.utf8 c.blocks-2.invariant.0 c.counted_singly.ensures
     ∙ ap (λ b. length (chars b)) c.as_bytes-bytes.ensures.value

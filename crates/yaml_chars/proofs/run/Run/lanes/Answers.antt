@@ -5,11 +5,11 @@ use Rattle.yaml_chars.proofs.run.Run.lanes.Goals as goal
 
 pub returns-then-bytes-at-eq32-clause-words : goal.returns-then-bytes-at-eq32-clause-words
 returns-then-bytes-at-eq32-clause-words c =
-    lanes_words _ _ c.args.at _ _ c.requires c.lanes_on-count.ensures.within c.lanes_on-count.ensures.goes
+    lanes_words _ _ _ _ _ c.requires c.lanes_on-count.ensures.within c.lanes_on-count.ensures.goes
     (inr (omega (arith, c.if-count-gt0.true), c.if-bytes-at-eq32.true))
 
 pub returns-clause-words : goal.returns-clause-words
-returns-clause-words c = lanes_words _ _ c.args.at _ _ c.requires c.lanes_on-count.ensures.within c.lanes_on-count.ensures.goes (inl (
+returns-clause-words c = lanes_words _ _ _ _ _ c.requires c.lanes_on-count.ensures.within c.lanes_on-count.ensures.goes (inl (
   refl,
   elim c.else-count-gt0.branch [
     | else-count-gt0-via-then-count-gt0+else-bytes-at-eq32 w ↦ λ some. w.if-bytes-at-eq32.false
