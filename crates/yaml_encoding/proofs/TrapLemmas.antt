@@ -54,8 +54,8 @@ module _ {F : _} {m : _} (stored : YAMLDecodingTrapFn F m → Steps) (trap : YAM
 
   pub text_replaced : trap ≡ Replace → OutcomeIs r (λ o. o ≡ text (replaced (parts input)))
   text_replaced e =
-      weaker _ _ (called (steps_by stored Replace) (λ s. go_on (s ++ 0xFFFD ∷ [])) (λ n a i s x taken. taken) (λ ps. text (replaced ps)) refl
-      (λ c ps. refl) (λ s position n a i ps. ap text (append_assoc s (0xFFFD ∷ []) (replaced ps))) (parts input) []) r (rw e at is)
+      weaker _ _ (called (steps_by stored Replace) (λ s. go_on (s ++ 0xFFFD ∷ [])) (λ n a i s x taken. taken) (λ ps. text (replaced ps))
+      refl (λ c ps. refl) (λ s position n a i ps. ap text (append_assoc s (0xFFFD ∷ []) (replaced ps))) (parts input) []) r (rw e at is)
 
   pub text_strict : trap ≡ Strict → OutcomeIs r (λ o. o ≡ strict (parts input))
   text_strict e = weaker _ _ (λ o h. called (steps_by stored Strict) (λ s. break []) (λ n a i s x taken. taken) strict refl (λ c ps. refl)

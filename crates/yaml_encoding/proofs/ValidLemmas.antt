@@ -23,9 +23,8 @@ encode_front c r s =
               let v : ((224 + c / 4096 - 0xE0) * 64 + (next (c / 64) - 0x80)) * 64 + (next c - 0x80) ≡ c = omega arith in
               grind (arith, nat_tests)
           | inr n ↦
-              let v : (((240 + c / 262144 - 0xF0) * 64 + (next (c / 4096) - 0x80)) * 64 + (next (c / 64) - 0x80)) * 64 + (next c - 0x80) ≡ c =
-              omega arith in
-              grind (arith, nat_tests)
+              let high = ((240 + c / 262144 - 0xF0) * 64 + (next (c / 4096) - 0x80)) * 64 in
+              let v : (high + (next (c / 64) - 0x80)) * 64 + (next c - 0x80) ≡ c = omega arith in grind (arith, nat_tests)
         ]
       ]
     ]

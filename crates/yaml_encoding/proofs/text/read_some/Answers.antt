@@ -14,7 +14,8 @@ returns-in-Ok g c =
 
 pub returns-in-Err : goal.returns-in-Err
 returns-in-Err g c =
-    passes_stop _ _ _ _ _ _ _ (take_rest c.args.input.now c.args.position) c.requires c.sequence-sequence.ensures _ (search rules) c.in-Err.ensures
+    passes_stop _ _ _ _ _ _ _ (take_rest c.args.input.now c.args.position) c.requires c.sequence-sequence.ensures _
+    (search rules) c.in-Err.ensures
 
 pub returns : goal.returns
 returns g c =
