@@ -1,6 +1,7 @@
 -- A mask that a vector's tests give, held to a test of each byte, for the crates that look at blocks of bytes.
 use Rattle.std.proofs.lemmas.List.Folds.{prefix_len-append}
-use Rattle.yaml_chars.proofs.Common.{[], ap, ap₂, arith, Bool, cases_order, chunk-drop, cond, drop, eq-eqb, eqb, false, Fits, inl, inr, leading_from_mask_l, length, length-chunk, length-map, List, list_any, ltb, map, mask_l-mod, nat_tests, ne_eqb, not, not-suc-le-zero, prefix_len, prefix_len-le-length, refl, replicate, subst, suc, sym, T, trailing_mask_l, true, w8, zero, ℕ, ◌%◌, ◌&&◌, ◌*◌, ◌+◌, ◌<◌, ◌^◌, ◌||◌, ◌∙◌, ◌∷◌, ◌≡◌, ◌≤◌, ◌⊎◌}
+use Rattle.std.proofs.lemmas.Simd.{zip2_of_maps, zip2_splat_left}
+use Rattle.yaml_chars.proofs.Common.{[], ap, ap₂, arith, Bool, cases_order, chunk-drop, cond, drop, eq-eqb, eqb, false, Fits, leading_from_mask_l, length, length-chunk, length-map, List, list_any, ltb, map, mask_l-mod, ne_eqb, not, not-suc-le-zero, prefix_len, prefix_len-le-length, refl, replicate, suc, sym, T, trailing_mask_l, true, w8, zero, ℕ, ◌%◌, ◌&&◌, ◌+◌, ◌<◌, ◌^◌, ◌∙◌, ◌∷◌, ◌≡◌, ◌≤◌}
 use lib.Bits.{bit_or, bit_and}
 use lib.Count.{count_trailing_zeros}
 use lib.Lanes.{zip2, mask_l, top, chunk, Each1}
@@ -15,27 +16,15 @@ below a b = cond (ltb a b) 255 0
 abbrev pub other : ℕ → ℕ → ℕ
 other a b = cond (not (eqb a b)) 255 0
 
-zip2_maps : (f g : ℕ → ℕ) (xs : List ℕ) → zip2 bit_or (map f xs) (map g xs) ≡ map (λ x. bit_or (f x) (g x)) xs
-zip2_maps f g [] = refl
-zip2_maps f g (x ∷ xs) = ap (λ r. bit_or (f x) (g x) ∷ r) (zip2_maps f g xs)
-
 pub either : (f g : ℕ → ℕ) (v : List ℕ) {a b : List ℕ} → a ≡ map f v → b ≡ map g v → zip2 bit_or a b ≡ map (λ x. bit_or (f x) (g x)) v
-either f g v p q = ap₂ (zip2 bit_or) p q ∙ zip2_maps f g v
-
-maps_and : (f g : ℕ → ℕ) (xs : List ℕ) → zip2 bit_and (map f xs) (map g xs) ≡ map (λ x. bit_and (f x) (g x)) xs
-maps_and f g [] = refl
-maps_and f g (x ∷ xs) = ap (λ r. bit_and (f x) (g x) ∷ r) (maps_and f g xs)
+either f g v p q = zip2_of_maps bit_or f g v p q
 
 pub both_of : (f g : ℕ → ℕ) (v : List ℕ) {a b : List ℕ} → a ≡ map f v → b ≡ map g v → zip2 bit_and a b ≡ map (λ x. bit_and (f x) (g x)) v
-both_of f g v p q = ap₂ (zip2 bit_and) p q ∙ maps_and f g v
+both_of f g v p q = zip2_of_maps bit_and f g v p q
 
 -- a comparison with the same byte in each lane, on the left
 pub splat_first : (h : ℕ → ℕ → ℕ) (v : List ℕ) (n y : ℕ) → length v ≡ n → zip2 h (replicate n y) v ≡ map (λ x. h y x) v
-splat_first h v n y e = ap (λ k. zip2 h (replicate k y) v) (sym e) ∙ by v
-  where
-    by : (v : List ℕ) → zip2 h (replicate (length v) y) v ≡ map (λ x. h y x) v
-    by [] = refl
-    by (x ∷ v) = ap (λ r. h y x ∷ r) (by v)
+splat_first h v n y e = zip2_splat_left h y n v e
 
 -- ---- a fact of each number below n, by computation
 
@@ -50,15 +39,9 @@ abbrev pub all_upto : (ℕ → Bool) → ℕ → Bool
 all_upto p zero = true
 all_upto p (suc n) = p n && all_upto p n
 
-both : (a b : Bool) → T (a && b) → T a × T b
-both d b h = grind arith
-
 pub each_upto : (p : ℕ → Bool) (n : ℕ) → T (all_upto p n) → (i : ℕ) → i < n → T (p i)
 each_upto p zero h i lt = absurd (not-suc-le-zero lt)
-each_upto p (suc n) h i lt = go (each_upto p n (both (p n) (all_upto p n) h).1 i) (cases_order i n)
-  where
-    go : (i < n → T (p i)) → (i ≡ n) ⊎ ((i < n) ⊎ (n < i)) → T (p i)
-    go before a = grind arith
+each_upto p (suc n) h i lt = grind (arith, each_upto p n, cases_order i n)
 
 each_byte : (f : ℕ → ℕ) (p : ℕ → Bool) → T (all_upto (λ x. same (top 7 (f x)) (p x)) 256) → (v : List ℕ) → Each1 (Fits w8) v → map (top 7) (map f v) ≡ map p v
 each_byte f p all [] fits = refl
@@ -72,16 +55,13 @@ masked f p v z short fits e all =
 
 -- ---- a run of bytes that fail the test, a block at a time
 
-none_fails : (b : Bool) (n l m : ℕ) → n ≤ l → cond (not b) (1 + n) 0 ≡ 1 + l → (n ≡ l → m ≡ 0) → cond b 1 0 + 2 * m ≡ 0
-none_fails a n l m le e ih = grind (arith, no)
-
 module _ (p : ℕ → Bool) where
   abbrev passes : ℕ → Bool
   passes x = not (p x)
 
   all_pass : (xs : List ℕ) → prefix_len passes xs ≡ length xs → mask_l (map p xs) ≡ 0
   all_pass [] e = refl
-  all_pass (x ∷ xs) e = none_fails (p x) _ (length xs) _ (prefix_len-le-length passes xs) (omega arith) (all_pass xs)
+  all_pass (x ∷ xs) e = grind (arith, all_pass xs, prefix_len-le-length passes xs)
 
   split : (d : List ℕ) (i n : ℕ) → prefix_len passes (drop i d) ≡ cond (eqb (prefix_len passes (chunk i n d)) (length (chunk i n d))) (length (chunk i n d) + prefix_len passes (drop (i + n) d)) (prefix_len passes (chunk i n d))
   split d i n = ap (prefix_len passes) (chunk-drop i n d) ∙ prefix_len-append passes (chunk i n d) (drop (i + n) d)

@@ -1,6 +1,6 @@
 -- Lemmas about the part of the buffer that contains the queue.
 use Rattle.std.proofs.Common.{length-take-le}
-use Rattle.yaml_chars.proofs.Common.{[], ap, ap₂, arith, cases_lt, common_steps, drop_more, get_or, get_or-append_right, get_or-drop, get_or-take, get_or_append_left, inl, inr, length, length-append, length-drop, length-set, List, mod-eq_of_lt, same_lists, set, ℕ, ◌%◌, ◌++◌, ◌+◌, ◌-◌, ◌<◌, ◌∙◌, ◌∷◌, ◌≡◌, ◌≤◌, ◌⊎◌}
+use Rattle.yaml_chars.proofs.Common.{[], ap₂, arith, cases_lt, common_steps, drop, drop_more, get_or, get_or-append_right, get_or-drop, get_or-take, get_or_append_left, inl, inr, length, length-append, length-drop, length-set, List, mod-eq_of_lt, same_lists, set, take, ℕ, ◌%◌, ◌++◌, ◌+◌, ◌-◌, ◌<◌, ◌∙◌, ◌∷◌, ◌≡◌, ◌≤◌, ◌⊎◌}
 use native.Mathlib.Nat.{mod-eq-sub-mod, mod-add-mod}
 use Rattle.yaml_chars.specs.Queue.{queue}
 
@@ -20,10 +20,15 @@ module _ (N k n : ℕ) (xs : List ℕ) (start_in_range : k < N) (len_fits : n �
   pub get_or-queue : (i d : ℕ) → i < n → get_or (queue k n xs) i d ≡ get_or xs ((k + i) % N) d
   get_or-queue i d in_range =
       let length_tail = length-drop k xs in
-      get_or-take n _ i d in_range ∙ elim (mod_wraps_once N (k + i) (omega arith)) [
-        | inl unwrapped ↦ get_or_append_left _ _ d i (omega arith) ∙ get_or-drop k xs i d ∙ ap (λ j. get_or xs j d) (omega arith)
-        | inr wrapped ↦ get_or-append_right _ _ (N - k) i d (omega arith) (omega arith) ∙ get_or-take k xs _ d (omega arith) ∙ ap (λ j. get_or xs j d) (omega arith)
-      ]
+      get_or-take n _ i d in_range
+      ∙ grind (
+        arith,
+        mod_wraps_once N (k + i),
+        get_or_append_left (drop k xs) (take k xs) d i,
+        get_or-drop k xs i d,
+        get_or-append_right (drop k xs) (take k xs) (N - k) i d,
+        get_or-take k xs (i - (N - k)) d,
+      )
 
 -- A second block, since these use the lemmas above at other windows.
 module _ (N k n : ℕ) (xs : List ℕ) (start_in_range : k < N) (len_fits : n ≤ N) (length_xs : length xs ≡ N) where

@@ -1,41 +1,25 @@
 -- Lemmas about the parts of an input.
-use Rattle.yaml_encoding.proofs.Common.{[], add-zero, ap, arith, big, Bool, cond, drop, Encoding, false, front, is_between, is_lead, is_trail, led, length, List, little, malformed, None, Option, pair_by, part_of, parts_from, pred, Range, reading, refl, Sequence, sequence_by, sequence_from, Some, Start, start_of, suc, true, utf_16_big, utf_16_little, utf_16_sequence, utf_8, zero, ℕ, ◌*◌, ◌+◌, ◌-◌, ◌<◌, ◌∙◌, ◌∷◌, ◌≡◌, ◌≤◌}
+use Rattle.yaml_encoding.proofs.Common.{[], add-zero, ap, arith, big, drop, Encoding, front, length, List, little, None, Option, part_of, parts_from, pred, Range, reading, refl, Sequence, sequence_by, sequence_from, Some, Start, start_of, suc, utf_16_big, utf_16_little, utf_16_sequence, utf_8, zero, ℕ, ◌*◌, ◌+◌, ◌-◌, ◌<◌, ◌∙◌, ◌∷◌, ◌≡◌, ◌≤◌}
 
 -- a sequence takes some bytes, and no more than there are
 abbrev Takes : Sequence → List ℕ → Type 0
 Takes s r = (1 ≤ s.bytes) × (s.bytes ≤ suc (length r))
 
-by_test : (t : Bool) (x y : Sequence) (r : List ℕ) → Takes x r → Takes y r → Takes (cond t x y) r
-by_test true x y r f g = f
-by_test false x y r f g = g
-
 trails_take : (n bits : ℕ) (ranges : List Range) (r : List ℕ) → 1 ≤ n → (1 ≤ (sequence_from n bits ranges r).bytes) × ((sequence_from n bits ranges r).bytes ≤ n + length r)
 trails_take n bits [] r some = (some, omega arith)
 trails_take n bits (range ∷ ranges) [] some = (some, omega arith)
-trails_take n bits (range ∷ ranges) (b ∷ r) some = by_between (is_between (range.low) (range.high) b) (trails_take (suc n) (bits * 64 + (b - 0x80)) ranges r (omega arith))
-  where
-    by_between : (t : Bool) → (1 ≤ (sequence_from (suc n) (bits * 64 + (b - 0x80)) ranges r).bytes) × ((sequence_from (suc n) (bits * 64 + (b - 0x80)) ranges r).bytes ≤ suc n + length r)
-        → (1 ≤ (cond t (sequence_from (suc n) (bits * 64 + (b - 0x80)) ranges r) (malformed n 0)).bytes) × ((cond t (sequence_from (suc n) (bits * 64 + (b - 0x80)) ranges r) (malformed n 0)).bytes ≤ n + suc (length r))
-    by_between true h = (h.0, omega arith)
-    by_between false h = (some, omega arith)
+trails_take n bits (range ∷ ranges) (b ∷ r) some =
+    let h = trails_take (suc n) (bits * 64 + (b - 0x80)) ranges r (omega arith) in (grind arith, grind arith)
 
 utf_8_takes : (s : Option Start) (r : List ℕ) → Takes (sequence_by s r) r
 utf_8_takes None r = (omega arith, omega arith)
 utf_8_takes (Some s) r = let h = trails_take 1 (s.bits) (s.after) r (omega arith) in (h.0, omega arith)
 
-pair_takes : (t : Bool) (u v a b c : ℕ) (r : List ℕ) → Takes (pair_by t u v) (a ∷ b ∷ c ∷ r)
-pair_takes true u v a b c r = (omega arith, omega arith)
-pair_takes false u v a b c r = (omega arith, omega arith)
-
-led_takes : (unit : ℕ → ℕ → ℕ) (u b : ℕ) (r : List ℕ) → Takes (led unit u r) (b ∷ r)
-led_takes unit u b [] = (omega arith, omega arith)
-led_takes unit u b (c ∷ []) = (omega arith, omega arith)
-led_takes unit u b (c ∷ d ∷ r) = pair_takes (is_trail (unit c d)) u (unit c d) b c d r
-
 utf_16_takes : (unit : ℕ → ℕ → ℕ) (a : ℕ) (r : List ℕ) → Takes (utf_16_sequence unit a r) r
 utf_16_takes unit a [] = (omega arith, omega arith)
-utf_16_takes unit a (b ∷ r) =
-    by_test (is_lead (unit a b)) _ _ (b ∷ r) (led_takes unit (unit a b) b r) (by_test (is_trail (unit a b)) _ _ (b ∷ r) (omega arith, omega arith) (omega arith, omega arith))
+utf_16_takes unit a (b ∷ []) = (grind arith, grind arith)
+utf_16_takes unit a (b ∷ c ∷ []) = (grind arith, grind arith)
+utf_16_takes unit a (b ∷ c ∷ d ∷ r) = (grind arith, grind arith)
 
 reading_takes : (e : Encoding) (b : ℕ) (r : List ℕ) → Takes (reading e b r) r
 reading_takes utf_8 b r = utf_8_takes (start_of b) r

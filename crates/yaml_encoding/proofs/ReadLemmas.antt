@@ -1,10 +1,6 @@
 -- Lemmas about an input that is read up to a position.
-use Rattle.yaml_encoding.proofs.Common.{[], ap, arith, chosen, drop, drop-drop, drop_all, Encoding, front, go_on, inl, inr, IsDecodedByCalls, IsRead, length, length-drop, List, Message, None, OutOfMemory, part_by, parts_from, reading, refl, Sequence, Some, Stepped, Steps, Stop, StopIs, stopped, take, take-length, text, ℕ, ◌++◌, ◌+◌, ◌-◌, ◌<◌, ◌∙◌, ◌∷◌, ◌≡◌, ◌≤◌}
+use Rattle.yaml_encoding.proofs.Common.{[], ap, arith, chosen, drop, drop-drop, drop_all, Encoding, front, go_on, inl, inr, IsDecodedByCalls, IsRead, length, length-drop, List, Message, None, OutOfMemory, part_by, parts_from, reading, refl, Sequence, Some, Stepped, Steps, Stop, StopIs, stopped, text, ℕ, ◌++◌, ◌+◌, ◌-◌, ◌<◌, ◌∙◌, ◌∷◌, ◌≡◌, ◌≤◌}
 use Rattle.yaml_encoding.proofs.PartsLemmas.{parts_from-front, front-bytes}
-
--- what a slice from a position on is
-pub rest_of : (input : List ℕ) (at : ℕ) → take (length input - at) (drop at input) ≡ drop at input
-rest_of input at = rw (← length-drop at input) (take-length (drop at input))
 
 -- after the mark
 pub read_start : (step : Steps) (e : Encoding) (input : List ℕ) (mark : ℕ) (so_far : List ℕ) → chosen input ≡ record { encoding = e; mark = mark } → so_far ≡ [] → IsRead step e input mark so_far
@@ -17,28 +13,31 @@ parts_at e input at s in_range f =
     parts_from-front e at (drop at input) s (omega (arith, length-drop at input)) f
     ∙ ap (λ r. part_by at (drop at input) (s.bytes) (s.ahead) (s.character) ∷ parts_from (reading e) 0 (at + s.bytes) r) (drop-drop (s.bytes) at input)
 
-module _ (step : Steps) (e : Encoding) (input : List ℕ) (at : ℕ) (so_far : List ℕ) (s : Sequence) (rest : List ℕ) (is_rest : rest ≡ drop at input) (in_range : at < length input) (is_front : s ≡ front (reading e) rest) where
+-- how many bytes a sequence takes
+pub takes : (e : Encoding) (input : List ℕ) (at : ℕ) (s : Sequence) (rest : List ℕ) → rest ≡ drop at input → at < length input
+    → s ≡ front (reading e) rest
+    → (1 ≤ s.bytes) × (s.bytes ≤ length rest) × (at + s.bytes ≤ length input)
+takes e input at s rest is_rest in_range is_front =
+    let l : length rest ≡ length input - at = ap (λ r. length r) is_rest ∙ length-drop at input in
+    let t = front-bytes e rest s (omega arith) is_front in (t.0, t.1, omega arith)
+
+module _ (step : Steps) (e : Encoding) (input : List ℕ) (at : ℕ) (so_far : List ℕ) (s : Sequence) (rest : List ℕ)
+    (is_rest : rest ≡ drop at input) (in_range : at < length input) (is_front : s ≡ front (reading e) rest) where
   here : s ≡ front (reading e) (drop at input)
   here = rw (← is_rest) is_front
-
-  -- how many bytes a sequence takes
-  pub takes : (1 ≤ s.bytes) × (s.bytes ≤ length rest) × (at + s.bytes ≤ length input)
-  takes =
-      let l : length rest ≡ length input - at = ap (λ r. length r) is_rest ∙ length-drop at input in
-      let t = front-bytes e rest s (omega arith) is_front in (t.0, t.1, omega arith)
 
   -- over a character
   pub passes_character : (next : List ℕ) (c after : ℕ) → s.character ≡ Some c → next ≡ so_far ++ c ∷ [] → after ≡ at + s.bytes
       → (at < after) × (after ≤ length input) × (IsRead step e input at so_far → IsRead step e input after next)
   passes_character next c after g n b =
-      let t = takes in
+      let t = takes e input at s rest is_rest in_range is_front in
       (omega arith, omega arith, λ r. record { goes = λ o h. r.goes o (rw (parts_at e input at s in_range here) (rw g (rw (n, b) at h))) })
 
   -- over a malformation
   pub passes_malformation : (next : List ℕ) (after : ℕ) → s.character ≡ None → step (s.bytes) (s.ahead) rest so_far (go_on next) → after ≡ at + s.bytes
       → (at < after) × (after ≤ length input) × (IsRead step e input at so_far → IsRead step e input after next)
   passes_malformation next after g taken b =
-      let t = takes in
+      let t = takes e input at s rest is_rest in_range is_front in
       let taken_here = rw is_rest at taken in
       (omega arith, omega arith, λ r. record { goes = λ o h. r.goes o (rw (parts_at e input at s in_range here) (rw g (inl (next, taken_here, rw b at h)))) })
 

@@ -1,6 +1,6 @@
 -- Lemmas about sequences of UTF-8.
 use Rattle.std.specs.Char.{IsScalar}
-use Rattle.yaml_encoding.proofs.Common.{[], any_trail, arith, Bool, bounds, cond, drop, drop-cons, drop_all, false, front, get_or, is_between, Leads, length, List, malformed, nat_tests, None, Option, Range, refl, sequence_from, Some, Start, start_of, subst, suc, sym, Trails, true, utf_8_sequence, zero, ℕ, ◌*◌, ◌+◌, ◌-◌, ◌<◌, ◌∙◌, ◌∷◌, ◌≡◌, ◌≤◌, ◌⊎◌}
+use Rattle.yaml_encoding.proofs.Common.{[], any_trail, arith, Bool, bounds, cond, drop-cons, drop_all, false, front, get_or, is_between, Leads, length, List, malformed, nat_tests, None, Option, refl, Some, Start, start_of, subst, suc, Trails, true, utf_8_sequence, zero, ℕ, ◌*◌, ◌+◌, ◌-◌, ◌<◌, ◌∷◌, ◌≡◌, ◌≤◌, ◌⊎◌}
 
 below : (c : ℕ) → c < 0xD800 → IsScalar c
 below c h = grind (arith, nat_tests)
@@ -71,38 +71,21 @@ Trails-start (b ∷ r) bits low high after some e few above = record {
   above = above;
 }
 
--- a byte in its range
-pub stays : (n bits : ℕ) (range : Range) (ranges : List Range) (b : ℕ) (r : List ℕ) → is_between (range.low) (range.high) b ≡ true
-    → sequence_from n bits (range ∷ ranges) (b ∷ r) ≡ sequence_from (suc n) (bits * 64 + (b - 0x80)) ranges r
-stays n bits range ranges b r e = rw e refl
-
-leaves : (n bits : ℕ) (range : Range) (ranges : List Range) (b : ℕ) (r : List ℕ) → is_between (range.low) (range.high) b ≡ false
-    → sequence_from n bits (range ∷ ranges) (b ∷ r) ≡ malformed n 0
-leaves n bits range ranges b r e = rw e refl
-
-pub inside : (low high b : ℕ) → low ≤ b → b ≤ high → is_between low high b ≡ true
-inside low high b l h = grind (arith, nat_tests)
-
-outside : (low high b : ℕ) → (b < low) ⊎ (high < b) → is_between low high b ≡ false
-outside low high b e = grind (arith, nat_tests)
-
--- the input from a byte on
-at_byte : (input : List ℕ) (bytes : ℕ) → bytes < length input → drop bytes input ≡ get_or input bytes 0 ∷ drop (suc bytes) input
-at_byte input bytes in_range = drop-cons input bytes 0 in_range
-
 -- a trail
 pub Trails-next : (input : List ℕ) (bytes bits low high after more : ℕ) → Trails input bytes bits low high after → 0 < after → bytes < length input
     → more + 0x80 ≡ get_or input bytes 0 → low ≤ get_or input bytes 0 → get_or input bytes 0 ≤ high → Trails input (bytes + 1) (bits * 64 + more) 0x80 0xBF (after - 1)
 Trails-next input bytes bits low high zero more t some in_range e l h = absurd (omega arith)
 Trails-next input bytes bits low high (suc after) more t some in_range e l h =
-    let is = inside low high _ l h in
+    let is : is_between low high (get_or input bytes 0) ≡ true = grind (arith, nat_tests) in
     let m : get_or input bytes 0 - 0x80 ≡ more = omega arith in
     let k : suc after - 1 ≡ after = omega arith in
     let n : bytes + 1 ≡ suc bytes = omega arith in
-    let goes = rw (at_byte input bytes in_range, stays bytes bits (record { low = low; high = high }) (bounds 0x80 0xBF after) (get_or input bytes 0) (drop (suc bytes) input) is, m) at t.goes in
-    let P : ℕ → Type 0 = λ x. Leads (bits * 64 + x) (bounds 0x80 0xBF after) in
-    let leads = subst P m (t.leads.1 (get_or input bytes 0) is) in
-    rw (k, n) (record { goes = goes; leads = leads; few = omega arith; above = omega arith })
+    rw (k, n) (record {
+      goes = rw (drop-cons input bytes 0 in_range, is, m) at t.goes;
+      leads = rw m at (t.leads.1 (get_or input bytes 0) is);
+      few = omega arith;
+      above = omega arith;
+    })
 
 -- the input's end where a trail should be
 pub Trails-end : (input : List ℕ) (bytes bits low high after : ℕ) → Trails input bytes bits low high after → 0 < after → length input ≤ bytes → malformed bytes 0 ≡ front utf_8_sequence input
@@ -114,4 +97,4 @@ pub Trails-leave : (input : List ℕ) (bytes bits low high after : ℕ) → Trai
     → malformed bytes 0 ≡ front utf_8_sequence input
 Trails-leave input bytes bits low high zero t some in_range o = absurd (omega arith)
 Trails-leave input bytes bits low high (suc after) t some in_range o =
-    sym (leaves bytes bits (record { low = low; high = high }) (bounds 0x80 0xBF after) (get_or input bytes 0) (drop (suc bytes) input) (outside low high _ o)) ∙ rw (at_byte input bytes in_range) at t.goes
+    let goes = rw (drop-cons input bytes 0 in_range) at t.goes in grind (arith, nat_tests, goes)

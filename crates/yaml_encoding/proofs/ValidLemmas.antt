@@ -1,145 +1,49 @@
 -- Lemmas about UTF-8 that is read as it stands.
 use Rattle.std.specs.Str.{chars}
 use Rattle.std.specs.Str.Lossy.{utf8_valid_len}
-use Rattle.std.proofs.lemmas.Bool.{cases_lt, and_parts, cond_above, cond_below}
-use Rattle.yaml_encoding.proofs.Common.{[], add-zero, any_trail, ap, append-nil, append_assoc, arith, Bool, chars-encodes, drop, drop_past_char, encode_ascii, Encoding, false, front, get_or, if◌then◌else◌, inl, inr, is_utf8, is_utf8-from_IsUtf8, IsRead, IsUtf8, IsUtf8-from_ascii, len_utf8_bounds, length, length-append, length-drop, length-encode, List, means, nat_tests, Range, refl, Some, start_of, Steps, suc, sym, take, take-append-drop, true, utf_8, utf_8_sequence, valid_len_up_to, zero, ℕ, ◌%◌, ◌*◌, ◌++◌, ◌+◌, ◌-◌, ◌/◌, ◌<◌, ◌∙◌, ◌∷◌, ◌≡◌, ◌≤◌, ◌⊎◌}
-use mathlib.Core.Logic.{⊎_elim}
+use Rattle.std.proofs.lemmas.Bool.{cases_lt, and_parts}
+use Rattle.yaml_encoding.proofs.Common.{[], add-zero, ap, append-nil, append_assoc, arith, chars-encodes, drop, drop_past_char, Encoding, front, get_or, inl, inr, is_utf8, is_utf8-from_IsUtf8, IsRead, IsUtf8, IsUtf8-from_ascii, len_utf8_bounds, length, length-append, length-drop, length-encode, List, means, nat_tests, refl, start_of, Steps, suc, sym, take, take-append-drop, true, utf_8, utf_8_sequence, valid_len_up_to, zero, ℕ, ◌*◌, ◌++◌, ◌+◌, ◌-◌, ◌/◌, ◌<◌, ◌∙◌, ◌∷◌, ◌≡◌, ◌≤◌, ◌⊎◌}
 use lib.Utf8.{next, scalar, scalars, scalar_cases, encode, encodes}
-use Rattle.yaml_encoding.proofs.Utf8Lemmas.{inside, stays}
 use Rattle.yaml_encoding.proofs.ReadLemmas.{passes_character}
-
--- ---- what each first byte begins
-
-start_1 : (b : ℕ) → b < 128 → start_of b ≡ Some (record { bits = b; after = [] })
-unfolding start_of
-start_1 b h = grind (arith, nat_tests)
-
-at_ED : (b : ℕ) → (b ≡ 0xED) ⊎ ((b < 0xED) ⊎ (0xED < b))
-at_ED b = ⊎_elim (λ h. inr (inl h)) (λ h. ⊎_elim (λ k. inl (omega arith)) (λ k. inr (inr (omega arith))) (cases_lt b 0xEE)) (cases_lt b 0xED)
-
-start_2 : (b : ℕ) → 0xC2 ≤ b → b ≤ 0xDF → start_of b ≡ Some (record { bits = b - 0xC0; after = any_trail ∷ [] })
-unfolding start_of
-start_2 b l h = grind (arith, nat_tests)
-
-start_E0 : (b : ℕ) → b ≡ 0xE0 → start_of b ≡ Some (record { bits = b - 0xE0; after = record { low = 0xA0; high = 0xBF } ∷ any_trail ∷ [] })
-unfolding start_of
-start_E0 b e = rw e refl
-
-start_ED : (b : ℕ) → b ≡ 0xED → start_of b ≡ Some (record { bits = b - 0xE0; after = record { low = 0x80; high = 0x9F } ∷ any_trail ∷ [] })
-unfolding start_of
-start_ED b e = rw e refl
-
-start_3 : (b : ℕ) → 0xE1 ≤ b → b ≤ 0xEF → (b < 0xED) ⊎ (0xED < b) → start_of b ≡ Some (record { bits = b - 0xE0; after = any_trail ∷ any_trail ∷ [] })
-unfolding start_of
-start_3 b l h o = grind (arith, nat_tests)
-
-start_F0 : (b : ℕ) → b ≡ 0xF0 → start_of b ≡ Some (record { bits = b - 0xF0; after = record { low = 0x90; high = 0xBF } ∷ any_trail ∷ any_trail ∷ [] })
-unfolding start_of
-start_F0 b e = rw e refl
-
-start_F4 : (b : ℕ) → b ≡ 0xF4 → start_of b ≡ Some (record { bits = b - 0xF0; after = record { low = 0x80; high = 0x8F } ∷ any_trail ∷ any_trail ∷ [] })
-unfolding start_of
-start_F4 b e = rw e refl
-
-start_4 : (b : ℕ) → 0xF1 ≤ b → b ≤ 0xF3 → start_of b ≡ Some (record { bits = b - 0xF0; after = any_trail ∷ any_trail ∷ any_trail ∷ [] })
-unfolding start_of
-start_4 b l h = grind (arith, nat_tests)
-
--- ---- sequences whose bytes are in their ranges
-
-one : (b bits : ℕ) (r : List ℕ) → start_of b ≡ Some (record { bits = bits; after = [] }) → utf_8_sequence b r ≡ means 1 bits
-one b bits r e = rw e refl
-
-two : (b bits x : ℕ) (a : Range) (r : List ℕ) → start_of b ≡ Some (record { bits = bits; after = a ∷ [] }) → a.low ≤ x → x ≤ a.high
-    → utf_8_sequence b (x ∷ r) ≡ means 2 (bits * 64 + (x - 0x80))
-two b bits x a r e l h = rw e (stays 1 bits a [] x r (inside (a.low) (a.high) x l h))
-
-three : (b bits x y : ℕ) (a : Range) (r : List ℕ) → start_of b ≡ Some (record { bits = bits; after = a ∷ any_trail ∷ [] }) → a.low ≤ x → x ≤ a.high → 0x80 ≤ y → y ≤ 0xBF
-    → utf_8_sequence b (x ∷ y ∷ r) ≡ means 3 ((bits * 64 + (x - 0x80)) * 64 + (y - 0x80))
-three b bits x y a r e l h m i =
-    rw e (stays 1 bits a (any_trail ∷ []) x (y ∷ r) (inside (a.low) (a.high) x l h) ∙ stays 2 (bits * 64 + (x - 0x80)) any_trail [] y r (inside 0x80 0xBF y m i))
-
-four : (b bits x y z : ℕ) (a : Range) (r : List ℕ) → start_of b ≡ Some (record { bits = bits; after = a ∷ any_trail ∷ any_trail ∷ [] }) → a.low ≤ x → x ≤ a.high → 0x80 ≤ y → y ≤ 0xBF → 0x80 ≤ z → z ≤ 0xBF
-    → utf_8_sequence b (x ∷ y ∷ z ∷ r) ≡ means 4 (((bits * 64 + (x - 0x80)) * 64 + (y - 0x80)) * 64 + (z - 0x80))
-four b bits x y z a r e l h m i n j =
-    rw e (stays 1 bits a (any_trail ∷ any_trail ∷ []) x (y ∷ z ∷ r) (inside (a.low) (a.high) x l h) ∙ stays 2 (bits * 64 + (x - 0x80)) any_trail (any_trail ∷ []) y (z ∷ r) (inside 0x80 0xBF y m i) ∙ stays 3 ((bits * 64 + (x - 0x80)) * 64 + (y - 0x80)) any_trail [] z r (inside 0x80 0xBF z n j))
 
 -- ---- an encoded character is read as it
 
-front_2 : (c b x : ℕ) (r : List ℕ) → 128 ≤ c → c < 2048 → b ≡ 192 + c / 64 → x ≡ 128 + c % 64 → utf_8_sequence b (x ∷ r) ≡ means 2 c
-front_2 c b x r l h e f =
-    let v : (b - 0xC0) * 64 + (x - 0x80) ≡ c = omega arith in
-    two b (b - 0xC0) x any_trail r (start_2 b (omega arith) (omega arith)) (omega arith) (omega arith) ∙ ap (λ n. means 2 n) v
-
-front_3 : (c b x y : ℕ) (r : List ℕ) → 2048 ≤ c → c < 65536 → (c < 55296) ⊎ (57344 ≤ c) → b ≡ 224 + c / 4096 → x ≡ 128 + c / 64 % 64 → y ≡ 128 + c % 64
-    → utf_8_sequence b (x ∷ y ∷ r) ≡ means 3 c
-front_3 c b x y r l h s e f g =
-    let v : ((b - 0xE0) * 64 + (x - 0x80)) * 64 + (y - 0x80) ≡ c = omega arith in
-    ⊎_elim (λ k. three b (b - 0xE0) x y (record { low = 0xA0; high = 0xBF }) r (start_E0 b (omega arith)) (omega arith) (omega arith) (omega arith) (omega arith))
-    (λ k. ⊎_elim (λ i. three b (b - 0xE0) x y (record { low = 0x80; high = 0x9F }) r (start_ED b (omega arith)) (omega arith) (omega arith) (omega arith) (omega arith))
-    (λ i. three b (b - 0xE0) x y any_trail r (start_3 b (omega arith) (omega arith) i) (omega arith) (omega arith) (omega arith) (omega arith)) (at_ED b))
-    (cases_lt c 4096)
-    ∙ ap (λ n. means 3 n) v
-
-front_4 : (c b x y z : ℕ) (r : List ℕ) → 65536 ≤ c → c < 1114112 → b ≡ 240 + c / 262144 → x ≡ 128 + c / 4096 % 64 → y ≡ 128 + c / 64 % 64 → z ≡ 128 + c % 64
-    → utf_8_sequence b (x ∷ y ∷ z ∷ r) ≡ means 4 c
-front_4 c b x y z r l h e f g i =
-    let v : (((b - 0xF0) * 64 + (x - 0x80)) * 64 + (y - 0x80)) * 64 + (z - 0x80) ≡ c = omega arith in
-    ⊎_elim (λ k. four b (b - 0xF0) x y z (record { low = 0x90; high = 0xBF }) r (start_F0 b (omega arith)) (omega arith) (omega arith) (omega arith) (omega arith) (omega arith) (omega arith))
-    (λ k. ⊎_elim (λ j. four b (b - 0xF0) x y z any_trail r (start_4 b (omega arith) (omega arith)) (omega arith) (omega arith) (omega arith) (omega arith) (omega arith) (omega arith))
-    (λ j. four b (b - 0xF0) x y z (record { low = 0x80; high = 0x8F }) r (start_F4 b (omega arith)) (omega arith) (omega arith) (omega arith) (omega arith) (omega arith) (omega arith)) (cases_lt c 0x100000))
-    (cases_lt c 0x40000)
-    ∙ ap (λ n. means 4 n) v
-
-encoded_2 : (c : ℕ) → 128 ≤ c → c < 2048 → (192 + c / 64) ∷ next c ∷ [] ≡ encode c
-unfolding encode
-encoded_2 c l h = cond_above c 128 _ _ _ l (cond_below c 2048 _ _ h)
-
-encoded_3 : (c : ℕ) → 2048 ≤ c → c < 65536 → (224 + c / 4096) ∷ next (c / 64) ∷ next c ∷ [] ≡ encode c
-unfolding encode
-encoded_3 c l h = cond_above c 128 _ _ _ (omega arith) (cond_above c 2048 _ _ _ l (cond_below c 65536 _ _ h))
-
-encoded_4 : (c : ℕ) → 65536 ≤ c → (240 + c / 262144) ∷ next (c / 4096) ∷ next (c / 64) ∷ next c ∷ [] ≡ encode c
-unfolding encode
-encoded_4 c l = cond_above c 128 _ _ _ (omega arith) (cond_above c 2048 _ _ _ (omega arith) (cond_above c 65536 _ _ _ l refl))
-
 encode_front : (c : ℕ) (r : List ℕ) → scalar c ≡ true → means (length (encode c)) c ≡ front utf_8_sequence (encode c ++ r)
+unfolding encode start_of
 encode_front c r s =
     let k = scalar_cases c s in
-    let top : c < 1114112 = elim k [ inl h ↦ omega arith | inr h ↦ h.1 ] in
+    let upper : c < 1114112 = elim k [ inl h ↦ omega arith | inr h ↦ h.1 ] in
     let apart : (c < 55296) ⊎ (57344 ≤ c) = elim k [ inl h ↦ inl h | inr h ↦ inr (h.0) ] in
     elim (cases_lt c 128) [
-      | inl h ↦ rw (encode_ascii c h) (sym (one c c r (start_1 c h)))
+      | inl h ↦ grind (arith, nat_tests)
       | inr l ↦ elim (cases_lt c 2048) [
-        | inl h ↦ rw (← encoded_2 c l h) (sym (front_2 c (192 + c / 64) (next c) r l h refl refl))
+        | inl h ↦ let v : (192 + c / 64 - 0xC0) * 64 + (next c - 0x80) ≡ c = omega arith in grind (arith, nat_tests)
         | inr m ↦ elim (cases_lt c 65536) [
-          | inl h ↦ rw (← encoded_3 c m h) (sym (front_3 c (224 + c / 4096) (next (c / 64)) (next c) r m h apart refl refl refl))
-          | inr n ↦ rw (← encoded_4 c n) (sym (front_4 c (240 + c / 262144) (next (c / 4096)) (next (c / 64)) (next c) r n top refl refl refl refl))
+          | inl h ↦
+              let v : ((224 + c / 4096 - 0xE0) * 64 + (next (c / 64) - 0x80)) * 64 + (next c - 0x80) ≡ c = omega arith in
+              grind (arith, nat_tests)
+          | inr n ↦
+              let high = ((240 + c / 262144 - 0xF0) * 64 + (next (c / 4096) - 0x80)) * 64 in
+              let v : (high + (next (c / 64) - 0x80)) * 64 + (next c - 0x80) ≡ c = omega arith in grind (arith, nat_tests)
         ]
       ]
     ]
 
 -- ---- text with which an input begins
 
-ascii_of : (input : List ℕ) (n : ℕ) → ((k : ℕ) → k < n → get_or input k 0 < 128) → (i : ℕ) → get_or (take n input) i 0 < 128
-ascii_of input zero below i = omega arith
-ascii_of [] (suc n) below i = omega arith
-ascii_of (b ∷ r) (suc n) below zero = below 0 (omega arith)
-ascii_of (b ∷ r) (suc n) below (suc i) = ascii_of r n (λ k h. below (suc k) (omega arith)) i
-
-either_some : (t : Bool) (n m : ℕ) → 0 < m → 0 < (if t then suc n else m)
-either_some true n m h = omega arith
-either_some false n m h = h
-
 up_to_some : (bs : List ℕ) (n : ℕ) → is_utf8 (take 1 bs) ≡ true → 0 < valid_len_up_to bs (suc n)
 up_to_some bs zero e = rw e (omega arith)
-up_to_some bs (suc n) e = either_some (is_utf8 (take (suc (suc n)) bs)) (suc n) _ (up_to_some bs n e)
+up_to_some bs (suc n) e = grind (arith, up_to_some bs n e)
 
 -- text that begins with an ASCII byte is not empty
 pub valid_some : (bs : List ℕ) → 0 < length bs → get_or bs 0 0 < 128 → 0 < utf8_valid_len bs
 unfolding utf8_valid_len
 valid_some [] some low = absurd (omega arith)
-valid_some (b ∷ r) some low = up_to_some (b ∷ r) (length r) (is_utf8-from_IsUtf8 _ (IsUtf8-from_ascii (b ∷ []) (ascii_of (b ∷ []) 1 (λ k h. let e : k ≡ 0 = omega arith in rw e low))))
+valid_some (b ∷ r) some low = up_to_some (b ∷ r) (length r) (is_utf8-from_IsUtf8 _ (IsUtf8-from_ascii (b ∷ []) first))
+  where
+    first : (i : ℕ) → get_or (b ∷ []) i 0 < 128
+    first zero = low
+    first (suc i) = omega arith
 
 -- ---- an input is read over the characters that are encoded next
 

@@ -1,9 +1,6 @@
-use Rattle.yaml_chars.proofs.Common.{arith, is_beyond, ltb}
-use Rattle.yaml_chars.proofs.LaneLemmas.{against_first, masked, itself}
+use Rattle.yaml_chars.proofs.Common.{arith, is_beyond}
+use Rattle.yaml_chars.proofs.MaskLemmas.{below, masked, splat_first}
 use Rattle.yaml_chars.proofs.lanes.beyond_ascii.Goals as goal
 
 pub returns : goal.returns
-returns c =
-    let v = c.args.block in
-    let long = c.fits-block.0 in
-    masked is_beyond v _ (omega (arith, long)) (against_first ltb (λ x. x) v 16 127 long (itself v))
+returns c = let long = c.fits-block.0 in masked _ is_beyond c.args.block _ (omega arith) c.fits-block.1 (splat_first below _ 16 127 long) tt

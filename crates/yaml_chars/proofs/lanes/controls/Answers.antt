@@ -1,9 +1,10 @@
-use Rattle.yaml_chars.proofs.Common.{arith, eqb, halts_line, ltb}
-use Rattle.yaml_chars.proofs.LaneLemmas.{either, against, masked, itself}
+use Rattle.std.proofs.lemmas.Simd.{zip2_splat}
+use Rattle.yaml_chars.proofs.Common.{arith, halts_line}
+use Rattle.yaml_chars.proofs.MaskLemmas.{below, either, hit, masked}
 use Rattle.yaml_chars.proofs.lanes.controls.Goals as goal
 
 pub returns : goal.returns
 returns c =
     let v = c.args.block in
     let long = c.fits-block.0 in
-    masked halts_line v _ (omega (arith, long)) (either _ _ v (against ltb (λ x. x) v 16 32 long (itself v)) (against eqb (λ x. x) v 16 127 long (itself v)))
+    masked _ halts_line v _ (omega arith) c.fits-block.1 (either _ _ v (zip2_splat below v 16 32 long) (zip2_splat hit v 16 127 long)) tt

@@ -1,12 +1,11 @@
-use Rattle.yaml_chars.proofs.Common.{halts_line}
-use Rattle.yaml_chars.proofs.LaneLemmas.{line_goes_all, line_count_of, line_goes_before}
+use Rattle.yaml_chars.proofs.LaneLemmas.{bytes_at, goes_all, count_of, goes_before}
 use Rattle.yaml_chars.proofs.lanes.line_lanes.Goals as goal
 
 pub returns-then-found-eq0-clause-goes : goal.returns-then-found-eq0-clause-goes
-returns-then-found-eq0-clause-goes c = line_goes_all c.args.bytes.now c.args.at c.requires halts_line _ c.controls-found.ensures c.if-found-eq0.true
+returns-then-found-eq0-clause-goes c = goes_all (bytes_at _ _ c.requires) _ _ c.controls-found.ensures c.if-found-eq0.true
 
 pub returns-clause-within : goal.returns-clause-within
-returns-clause-within c = line_count_of c.args.bytes.now c.args.at c.requires halts_line _ c.controls-found.ensures c.if-found-eq0.false
+returns-clause-within c = count_of (bytes_at _ _ c.requires) _ _ c.controls-found.ensures c.if-found-eq0.false
 
 pub returns-clause-goes : goal.returns-clause-goes
-returns-clause-goes c = line_goes_before c.args.bytes.now c.args.at c.requires halts_line _ c.controls-found.ensures c.if-found-eq0.false
+returns-clause-goes c = goes_before (bytes_at _ _ c.requires) _ _ c.controls-found.ensures c.if-found-eq0.false

@@ -1,12 +1,11 @@
-use Rattle.yaml_chars.proofs.Common.{halts}
-use Rattle.yaml_chars.proofs.LaneLemmas.{goes_all, count_of, goes_before}
+use Rattle.yaml_chars.proofs.LaneLemmas.{pairs_at, goes_all, count_of, goes_before}
 use Rattle.yaml_chars.proofs.lanes.word_lanes.Goals as goal
 
 pub returns-then-found-eq0-clause-goes : goal.returns-then-found-eq0-clause-goes
-returns-then-found-eq0-clause-goes c = goes_all c.args.bytes.now c.args.at c.requires (halts c.args.first c.args.second) _ c.halting-found.ensures c.if-found-eq0.true
+returns-then-found-eq0-clause-goes c = goes_all (pairs_at _ _ c.requires) _ _ c.halting-found.ensures c.if-found-eq0.true
 
 pub returns-clause-within : goal.returns-clause-within
-returns-clause-within c = count_of c.args.bytes.now c.args.at c.requires (halts c.args.first c.args.second) _ c.halting-found.ensures c.if-found-eq0.false
+returns-clause-within c = count_of (pairs_at _ _ c.requires) _ _ c.halting-found.ensures c.if-found-eq0.false
 
 pub returns-clause-goes : goal.returns-clause-goes
-returns-clause-goes c = goes_before c.args.bytes.now c.args.at c.requires (halts c.args.first c.args.second) _ c.halting-found.ensures c.if-found-eq0.false
+returns-clause-goes c = goes_before (pairs_at _ _ c.requires) _ _ c.halting-found.ensures c.if-found-eq0.false

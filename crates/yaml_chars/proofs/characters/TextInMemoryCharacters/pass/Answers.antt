@@ -1,13 +1,12 @@
 use Rattle.std.proofs.lemmas.List.{length-drop}
 use Rattle.yaml_chars.proofs.Common.{ap, arith, chars_rest, drop, IsUtf8, length, refl, subst, ◌∙◌}
 use Rattle.yaml_chars.proofs.CountLemmas.{chars_few, chars_of_zero}
-use Rattle.yaml_chars.specs.declared.characters.TextInMemory.{TextInMemory}
-use Rattle.yaml_chars.proofs.WordsLemmas.{gives_front, some_of}
+use Rattle.yaml_chars.proofs.WordsLemmas.{gives_front}
 use Rattle.yaml_chars.proofs.characters.TextInMemoryCharacters.pass.Goals as goal
 
 pub returns-clause-gives : goal.returns-clause-gives
 returns-clause-gives c =
-    gives_front (λ (s : TextInMemory). s.chars) (λ s it. record { chars = it }) (λ s it. refl) c.args.self.now (record { chars = c.chars-self.result }) c.args.count (some_of c.args.count c.if-count-eq0.false) c.requires.within
+    gives_front c.args.self.now (record { chars = c.chars-self.result }) c.args.count c.if-count-eq0.false c.requires.within
     (subst IsUtf8 c.as_str.ensures c.as_str.utf8) c.requires.cut
     (c.chars-self.ensures.rest ∙ c.range_from-rest.ensures.value ∙ ap (drop c.args.count) c.as_str.ensures)
 

@@ -6,8 +6,8 @@ use Rattle.yaml_chars.proofs.ring.Ring.drop_first.Goals as goal
 pub returns : goal.returns
 returns c =
     let q = c.self.inside in
-    let length_old = length-queue 16 _ _ q.slots c.self.invariant.0 c.self.invariant.1 c.self.invariant.2 in
+    let length_old = length-queue 16 _ _ _ c.self.invariant.0 c.self.invariant.1 c.self.invariant.2 in
     let same_length = ap length c.self.view_is in
     let some : 0 < q.len = omega arith in
-    let split = queue_before_pop 16 _ _ q.slots c.self.invariant.0 c.self.invariant.1 c.self.invariant.2 some in
+    let split = queue_before_pop 16 _ _ _ c.self.invariant.0 c.self.invariant.1 c.self.invariant.2 some in
     ap (drop 1) (sym split ∙ c.self.view_is)

@@ -6,8 +6,8 @@ use Rattle.yaml_chars.proofs.ring.Ring.push.Goals as goal
 pub returns : goal.returns
 returns c =
     let q = c.self.inside in
-    let length_old = length-queue 16 _ _ q.slots c.self.invariant.0 c.self.invariant.1 c.self.invariant.2 in
+    let length_old = length-queue 16 _ _ _ c.self.invariant.0 c.self.invariant.1 c.self.invariant.2 in
     let same_length = ap length c.self.view_is in
     let has_room : q.len < 16 = omega arith in
-    queue_after_push 16 _ _ q.slots c.self.invariant.0 c.self.invariant.1 c.self.invariant.2 c.args.c has_room
+    queue_after_push 16 _ _ _ c.self.invariant.0 c.self.invariant.1 c.self.invariant.2 c.args.c has_room
     ∙ ap (λ (xs : List ℕ). xs ++ c.args.c ∷ []) c.self.view_is

@@ -1,14 +1,8 @@
-use Rattle.yaml_chars.proofs.WordsLemmas.{words_none, words_further, ascii_none, blocks_ascii}
+use Rattle.yaml_chars.proofs.WordsLemmas.{words_further, blocks_ascii}
 use Rattle.yaml_chars.proofs.run.Run.blocks.Goals as goal
-
-pub blocks-2-init : goal.blocks-2-init
-blocks-2-init c = (words_none _ _, λ e. ascii_none _ 0)
 
 pub blocks-2-preserved : goal.blocks-2-preserved
 blocks-2-preserved c = (words_further _ _ _ _ c.blocks-2.invariant.0 c.lanes-count.ensures.words, blocks_ascii _ _ _ _ _ c.blocks-2.invariant.1 c.has_beyond-beyond.ensures c.lanes-count.ensures.within)
-
-pub returns-then-count-lt-LANES-clause-words : goal.returns-then-count-lt-LANES-clause-words
-returns-then-count-lt-LANES-clause-words c = words_further _ _ _ _ c.blocks-2.invariant.0 c.lanes-count.ensures.words
 
 pub returns-then-count-lt-LANES-clause-ascii : goal.returns-then-count-lt-LANES-clause-ascii
 returns-then-count-lt-LANES-clause-ascii c = blocks_ascii _ _ _ _ _ c.blocks-2.invariant.1 c.has_beyond-beyond.ensures c.lanes-count.ensures.within

@@ -1,9 +1,6 @@
 use Rattle.yaml_chars.proofs.Common.{arith, nat_tests, slice_index, ◌+◌, ◌<◌}
-use Rattle.yaml_chars.proofs.WordsLemmas.{words_none, word_further, words_more, ascii_none, ascii_further, ascii_word, or_parts}
+use Rattle.yaml_chars.proofs.WordsLemmas.{words_more, ascii_word, or_parts}
 use Rattle.yaml_chars.proofs.run.Run.words.Goals as goal
-
-pub words-init : goal.words-init
-words-init c = grind arith
 
 pub words-preserved : goal.words-preserved
 words-preserved c = (
@@ -15,9 +12,3 @@ words-preserved c = (
       ascii_word _ _ _ (c.words.invariant.1 more.0) c.if-bytes-end-eq32.true low (c.word_end-word.ensures.ascii parts.1),
   c.word_end-word.ensures.ends,
 )
-
-pub returns-then-not-may_begin-clause-words : goal.returns-then-not-may_begin-clause-words
-returns-then-not-may_begin-clause-words c = words_none _ _
-
-pub returns-then-not-may_begin-clause-ascii : goal.returns-then-not-may_begin-clause-ascii
-returns-then-not-may_begin-clause-ascii c = λ e. ascii_none _ 0

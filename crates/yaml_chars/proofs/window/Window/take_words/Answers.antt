@@ -1,5 +1,4 @@
-use Rattle.yaml_chars.proofs.Common.{Bool, Err, Ok, OnOk, position_of, Reads, Result, TakesWords}
-use Rattle.yaml_chars.proofs.WindowViewLemmas.{Reads-then}
+use Rattle.yaml_chars.proofs.WindowViewLemmas.{OnOk-map, Reads-then}
 use Rattle.yaml_chars.proofs.WordsLemmas.{takes_then, takes_one}
 use Rattle.yaml_chars.proofs.window.Window.take_words.Goals as goal
 
@@ -11,9 +10,5 @@ held-preserved g c =
     takes_then _ a b d _ _ _ _ _ _ x (takes_one _ c.in-Some.c b d _ _ _ _ taken.0 e on.at on.line on.col c.in_ok-push.ensures.ok))
 
 pub returns-clause-ok : goal.returns-clause-ok
-returns-clause-ok g c = by c.words_from_source.result c.words_from_source.ensures.ok
-  where
-    by : {E : Type 0} (r : Result Bool E) → OnOk r (Reads c.held.self c.words_from_source.new.self (λ a b. TakesWords c.args.run a b (position_of c.held.self) (position_of c.words_from_source.new.self) c.held.text c.words_from_source.new.text))
-        → OnOk r (Reads c.args.self.now c.words_from_source.new.self (λ a b. TakesWords c.args.run a b (position_of c.args.self.now) (position_of c.words_from_source.new.self) c.args.text.now c.words_from_source.new.text))
-    by (Ok u) reads = Reads-then _ _ _ c.held.invariant reads (λ a b d x y. takes_then _ a b d _ _ _ _ _ _ x y)
-    by (Err e) reads = tt
+returns-clause-ok g c = OnOk-map c.words_from_source.result c.words_from_source.ensures.ok (λ reads.
+    Reads-then _ _ _ c.held.invariant reads (λ a b d x y. takes_then _ a b d _ _ _ _ _ _ x y))
