@@ -1,6 +1,23 @@
 -- Tests of bytes and of characters, and sets of bytes.
-use Rattle.yaml_emitter.proofs.Common.{[], All-from_get_or, and_from, ap, append-nil, arith, Bool, cases_order, chars, cond, each_upto, encode_ascii, encode_utf8, encode_utf8_all, encodes-chars, false, get_or, has_bit, inl, inr, inside_one, is_ascii_lowercase, is_escaped, is_unfit_for_plain, IsCharBoundary, IsCharBoundary-before_ascii, IsCharBoundary-end, IsUtf8, length, List, list_all, list_any, list_any-append, list_any_none, nat_lt, nat_tests, not, or-false, prefix_len, prefix_len-le-length, prefix_len_stops, refl, same, same_is, subst, sym, take, take_while-cons, true, ℕ, ◌&&◌, ◌<◌, ◌||◌, ◌∙◌, ◌∷◌, ◌≡◌, ◌≤◌}
+use Rattle.yaml_emitter.proofs.Common.{[], All-from_get_or, and_from, and_parts, ap, append-nil, arith, Bool, cases_order, chars, chars-IsAscii, cond, each_upto, encode_ascii, encode_utf8, encode_utf8_all, encodes-chars, false, get_or, has_bit, inl, inr, inside_one, is_ascii_lowercase, is_escaped, is_low, is_unfit_for_plain, IsAscii, IsCharBoundary, IsCharBoundary-before_ascii, IsCharBoundary-end, IsUtf8, length, List, list_all, list_any, list_any-append, list_any_none, lt-ltb, nat_lt, nat_tests, not, or-false, prefix_len, prefix_len-le-length, prefix_len_stops, refl, same, same_is, slice_index, subst, suc, sym, take, take_while-cons, true, zero, ℕ, ◌&&◌, ◌<◌, ◌||◌, ◌∙◌, ◌∷◌, ◌≡◌, ◌≤◌}
 use Rattle.yaml_emitter.specs.declared.runs.Bits.{Bits}
+
+-- ---- texts of ASCII
+
+pub low_at : (t : List ℕ) → is_low t ≡ true → (i : ℕ) → slice_index t i < 128
+low_at [] h i = omega arith
+low_at (c ∷ cs) h zero = let parts = and_parts (nat_lt c 128) (is_low cs) h in grind (arith, nat_tests)
+low_at (c ∷ cs) h (suc i) = let parts = and_parts (nat_lt c 128) (is_low cs) h in low_at cs parts.1 i
+
+-- bytes that are all ASCII are the characters that they spell
+pub low_chars : (t : List ℕ) → is_low t ≡ true → chars t ≡ t
+low_chars t h = chars-IsAscii t (low_at t h)
+
+pub ascii_low : (t : List ℕ) → IsAscii t → is_low t ≡ true
+ascii_low [] h = refl
+ascii_low (c ∷ cs) h = and_from (nat_lt c 128) (is_low cs) (lt-ltb c 128 (h 0)) (ascii_low cs (λ i. h (suc i)))
+
+-- ---- a test of each byte
 
 -- tests that only ASCII characters pass
 module _ (p : ℕ → Bool) (low : (c : ℕ) → 128 ≤ c → p c ≡ false) where
@@ -28,10 +45,7 @@ module _ (p : ℕ → Bool) (low : (c : ℕ) → 128 ≤ c → p c ≡ false) wh
 
 any_is : (q : ℕ → Bool) (xs : List ℕ) → list_any (λ c. not (q c)) xs ≡ not (list_all q xs)
 any_is q [] = refl
-any_is q (x ∷ xs) = ap (λ b. not (q x) || b) (any_is q xs) ∙ either (q x) (list_all q xs)
-  where
-    either : (a b : Bool) → (not a || not b) ≡ not (a && b)
-    either a b = grind arith
+any_is q (x ∷ xs) = grind (arith, any_is q xs)
 
 -- a test that all other characters pass
 pub all_tested : (q : ℕ → Bool) → ((c : ℕ) → 128 ≤ c → q c ≡ true) → (bs : List ℕ) → IsUtf8 bs

@@ -40,7 +40,7 @@ pub use Rattle.yaml_emitter.specs.Entries.{after_mark, before_block, before_entr
 pub use Rattle.yaml_emitter.specs.Runs.{has_bit, is_break, is_escaped, is_unprintable, IsRun, IsRunCut, stands}
 pub use Rattle.yaml_emitter.specs.ValidTree.{ArePairsValid, AreValid, IsValid}
 pub use Rattle.yaml_emitter.specs.Words.{begins_plainly, float_names, is_name, is_plain_letter, is_plain_small, is_unfit, is_word}
-pub use Rattle.yaml_emitter.proofs.WritingLemmas.{left_after, left_all, left_as, left_none, left_stopped, left_then, left_writes, not_both, stopped_as, stopped_early, stopped_for, stopped_late, stopped_one, writes_as, writes_err, writes_for, writes_late, writes_ok, wrote_none, wrote_one, wrote_then}
+pub use Rattle.yaml_emitter.proofs.WritingLemmas.{left_after, left_all, left_as, left_none, left_stopped, left_then, left_writes, not_both, stopped_as, stopped_at, stopped_early, stopped_first, stopped_for, stopped_late, stopped_one, writes_as, writes_err, writes_for, writes_late, writes_ok, wrote_none, wrote_one, wrote_then}
 pub use Rattle.yaml_emitter.specs.Writing.{IsLeft, IsRefused, Stopped, WritesUnless, Wrote}
 pub use Rattle.yaml_tree.specs.Depth.{depth, items_depth, pairs_depth}
 pub use Rattle.yaml_tree.specs.View.{hash_tree, items_view, pairs_view, view}

@@ -1,40 +1,21 @@
 -- What is left to write, part by part.
 use Rattle.std.specs.declared.fmt.Error.{Error}
-use Rattle.yaml_emitter.proofs.Common.{[], ap, append_assoc, AreRestsValid, arith, before_entry, Bool, entries_text, false, GoesOn, inr, IsErr, IsLeft, IsOk, item_boxes, items_of, left_after, left_all, left_as, left_stopped, left_then, List, not, not_both, pair_boxes, pair_text, pairs_of, refl, rests_text, rests_weight, Result, Stopped, stopped_early, stopped_for, subst, suc, sym, Tree, value_text, WritesUnless, ℕ, ◌++◌, ◌+◌, ◌<◌, ◌∙◌, ◌∷◌, ◌≡◌, ◌≤◌}
+use Rattle.yaml_emitter.proofs.Common.{[], ap, append_assoc, AreRestsValid, arith, Bool, false, GoesOn, IsErr, IsLeft, IsOk, left_after, left_all, left_as, left_stopped, left_then, List, not_both, rests_text, rests_weight, Result, Stopped, stopped_early, stopped_for, subst, suc, sym, WritesUnless, ℕ, ◌++◌, ◌+◌, ◌<◌, ◌∙◌, ◌∷◌, ◌≡◌, ◌≤◌}
 use Rattle.yaml_emitter.specs.declared.deep.Rest.{Rest}
-use Rattle.yaml_emitter.specs.declared.node.Mark.TheVariants.{Dash}
-use Rattle.yaml_emitter.proofs.EntryLemmas.{next_item, next_pair}
 use Rattle.yaml_emitter.proofs.ListLemmas.{Entries}
 
 -- ---- texts, the first part apart
 
-apart : (a b c more : List ℕ) → (a ++ (b ++ c)) ++ more ≡ a ++ (b ++ (c ++ more))
-apart a b c more = simp append_assoc
-
 pub parts_then : {c : List ℕ} (a b more : List ℕ) → a ++ b ≡ c → c ++ more ≡ a ++ (b ++ more)
-parts_then a b more e = ap (λ x. x ++ more) (sym e) ∙ append_assoc a b more
+parts_then a b more e = rw (← e) (append_assoc a b more)
 
-module _ {W : Type 0} {gives : W → List ℕ → W → Type 0} {w : W} (c m first : Bool) (level : ℕ) where
-  -- of items, and of pairs
-  pub item_left : {us ts : List Tree} {t : Tree} (more : List ℕ) → us ≡ t ∷ ts
-      → IsLeft gives w (entries_text first level (item_boxes c m (items_of us)) ++ more) w
-      (before_entry first level ++ (value_text c m level Dash (not c) t ++ (entries_text false level (item_boxes c m (items_of ts)) ++ more)))
-  item_left {ts = ts} {t} more e =
-      left_as (ap (λ us. entries_text first level (item_boxes c m (items_of us)) ++ more) e ∙ ap (λ x. x ++ more) (next_item c m first level t (items_of ts)) ∙ apart (before_entry first level) (value_text c m level Dash (not c) t) (entries_text false level (item_boxes c m (items_of ts))) more)
-      left_all
-
-  pub pair_left : {qs ps : List (Tree × Tree)} {k v : Tree} (more : List ℕ) → qs ≡ (k, v) ∷ ps
-      → IsLeft gives w (entries_text first level (pair_boxes c m (pairs_of qs)) ++ more) w
-      (before_entry first level ++ (pair_text c m level k v ++ (entries_text false level (pair_boxes c m (pairs_of ps)) ++ more)))
-  pair_left {ps = ps} {k} {v} more e =
-      left_as (ap (λ qs. entries_text first level (pair_boxes c m (pairs_of qs)) ++ more) e ∙ ap (λ x. x ++ more) (next_pair c m first level k v (pairs_of ps)) ∙ apart (before_entry first level) (pair_text c m level k v) (entries_text false level (pair_boxes c m (pairs_of ps))) more)
-      left_all
+-- of entries: what stands before the first, and that one
+pub entry_left : {X W : Type 0} (s : Entries X) {gives : W → List ℕ → W → Type 0} {w : W} {us xs : List X} {x : X} (first : Bool) (more : List ℕ) → us ≡ x ∷ xs
+    → IsLeft gives w (s.text first us ++ more) w (s.before first ++ (s.part x ++ (s.text false xs ++ more)))
+entry_left s {xs = xs} {x} first more e =
+    left_as (ap (λ us. s.text first us ++ more) e ∙ ap (λ t. t ++ more) (s.more_text first x xs) ∙ simp append_assoc) left_all
 
 -- ---- how a function goes on
-
--- a stop by itself
-pub stopped_there : {W : Type 0} {gives leaves : W → List ℕ → W → Type 0} {w v : W} {text b : List ℕ} → IsLeft gives w text v b → Stopped gives leaves (Unit {0}) w text v
-stopped_there {v = v} {b = b} l = record { written = l.written; rest = b; at = v; wrote = l.wrote; whole = l.whole; end = inr (tt, refl) }
 
 module _ {W : Type 0} {c m : Bool} {gives leaves : W → List ℕ → W → Type 0} {w v : W} {text : List ℕ} {weight : ℕ} {fit : Type 0} {rests : List Rest} {r : Result (Unit {0}) Error} where
   -- it has written a part

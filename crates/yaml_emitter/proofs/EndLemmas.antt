@@ -1,9 +1,9 @@
 -- How a text begins and ends, by its bytes and by its characters.
 use Rattle.std.specs.Str.Pattern.{HasPrefixMatch, FindsTextPrefix, HasSuffixMatch, FindsTextSuffix}
 use Rattle.std.specs.Bool.{MatchBool}
-use Rattle.std.proofs.Math.ListN.{drop_of_length-le}
-use Rattle.yaml_emitter.proofs.Common.{[], ap, arith, begins_with, Bool, bytes_eq-Decides, chars, chars-append, chars-nil, drop, drop-append_seam, drop-cons, encode_utf8_all, encodes-append, encodes-chars, encodes-IsAscii, ends_with, false, get_or, is_low, IsCharBoundary-before_ascii, IsUtf8, IsUtf8-from_ascii, IsUtf8-take, length, length-append, List, nat_eq, nat_tests, None, refl, suc, sym, take, take-append-drop, take-append_seam, true, ℕ, ◌++◌, ◌-◌, ◌<◌, ◌==◌, ◌∙◌, ◌∷◌, ◌≡◌, ◌≢◌, ◌≤◌}
-use Rattle.yaml_emitter.proofs.TextLemmas.{low_at, low_chars}
+use Rattle.std.proofs.lemmas.List.{take_more}
+use Rattle.yaml_emitter.proofs.Common.{[], ap, arith, begins_with, Bool, bytes_eq-Decides, chars, chars-append, chars-nil, drop, drop-append_seam, encode_utf8_all, encodes-append, encodes-chars, encodes-IsAscii, ends_with, false, get_or, is_low, IsCharBoundary-before_ascii, IsUtf8, IsUtf8-from_ascii, IsUtf8-take, length, length-append, List, nat_eq, nat_tests, None, refl, sym, take, take-append-drop, take-append_seam, take-length, true, ℕ, ◌++◌, ◌+◌, ◌-◌, ◌<◌, ◌==◌, ◌∙◌, ◌∷◌, ◌≡◌, ◌≢◌, ◌≤◌}
+use Rattle.yaml_emitter.proofs.ByteLemmas.{low_at, low_chars}
 
 false_if : (b : Bool) → (b ≡ true → ⊥) → false ≡ b
 false_if a n = grind arith
@@ -16,10 +16,12 @@ drop_front x w =
 low_encoded : (w : List ℕ) → is_low w ≡ true → encode_utf8_all w ≡ w
 low_encoded w h = encodes-IsAscii w (low_at w h)
 
+-- characters of ASCII at the front of a text
+pub low_front : (w s rest : List ℕ) → is_low w ≡ true → s ≡ w ++ rest → chars s ≡ w ++ chars rest
+low_front w s rest h e = ap chars e ∙ chars-append w rest (IsUtf8-from_ascii w (low_at w h)) ∙ ap (λ x. x ++ chars rest) (low_chars w h)
+
 pub begins_so : (w s rest : List ℕ) → is_low w ≡ true → s ≡ w ++ rest → true ≡ begins_with w (chars s)
-begins_so w s rest h e =
-    let f : chars s ≡ w ++ chars rest = ap chars e ∙ chars-append w rest (IsUtf8-from_ascii w (low_at w h)) ∙ ap (λ x. x ++ chars rest) (low_chars w h) in
-    sym ((bytes_eq-Decides w (take (length w) (chars s))).1 (sym (ap (take (length w)) f ∙ take-append_seam w (chars rest))))
+begins_so w s rest h e = rw (low_front w s rest h e, take-append_seam, (bytes_eq-Decides w w).1 refl) refl
 
 pub begins_otherwise : (w s : List ℕ) → is_low w ≡ true → IsUtf8 s → ((rest : List ℕ) → s ≢ w ++ rest) → false ≡ begins_with w (chars s)
 begins_otherwise w s h u lacks = false_if (begins_with w (chars s)) (λ e.
@@ -32,7 +34,7 @@ begins_otherwise w s h u lacks = false_if (begins_with w (chars s)) (λ e.
 pub ends_so : (w s front : List ℕ) → is_low w ≡ true → IsUtf8 front → s ≡ front ++ w → true ≡ ends_with nat_eq (chars s) w
 ends_so w s front h u e =
     let f : chars s ≡ chars front ++ w = ap chars e ∙ chars-append front w u ∙ ap (λ x. chars front ++ x) (low_chars w h) in
-    sym ((bytes_eq-Decides w (drop (length (chars s) - length w) (chars s))).1 (sym (ap (λ x. drop (length x - length w) x) f ∙ drop_front (chars front) w)))
+    rw (f, drop_front (chars front) w, (bytes_eq-Decides w w).1 refl) refl
 
 pub ends_otherwise : (w s : List ℕ) → is_low w ≡ true → IsUtf8 s → ((front : List ℕ) → s ≢ front ++ w) → false ≡ ends_with nat_eq (chars s) w
 ends_otherwise w s h u lacks = false_if (ends_with nat_eq (chars s) w) (λ e.
@@ -63,9 +65,8 @@ no_end bs front c e =
 
 last_apart : (bs : List ℕ) → 1 ≤ length bs → bs ≡ take (length bs - 1) bs ++ get_or bs (length bs - 1) 0 ∷ []
 last_apart bs some =
-    let n = length bs - 1 in
-    let end : length bs ≤ suc n = omega arith in
-    sym (take-append-drop n bs) ∙ ap (λ x. take n bs ++ x) (drop-cons bs n 0 (omega arith) ∙ ap (λ x. get_or bs n 0 ∷ x) (drop_of_length-le bs end))
+    let up : length bs ≡ length bs - 1 + 1 = omega arith in
+    sym (take-length bs) ∙ ap (λ k. take k bs) up ∙ take_more bs (length bs - 1) 0 (omega arith)
 
 pub last_is : (bs : List ℕ) (c : ℕ) → c < 128 → IsUtf8 bs → 1 ≤ length bs → (get_or bs (length bs - 1) 0 == c) ≡ ends_with nat_eq (chars bs) (c ∷ [])
 last_is bs c lt u some = by (get_or bs (length bs - 1) 0 == c) refl

@@ -1,8 +1,6 @@
-pub mod EscapeLemmas
 pub mod FmtLemmas
 pub mod RunLemmas
 pub mod PrintableLemmas
-pub mod TextLemmas
 pub mod WritingLemmas
 pub mod LineLemmas
 pub mod NumberLemmas
@@ -16,3 +14,4 @@ pub mod ListLemmas
 pub mod NodeLemmas
 pub mod DeepLemmas
 mod Common
+mod Answering

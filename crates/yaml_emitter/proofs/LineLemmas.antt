@@ -1,6 +1,6 @@
 -- Lines and the spaces with which they begin.
 use Rattle.yaml_emitter.proofs.Common.{ap, arith, is_low, IsCharBoundary, IsCharBoundary-from_ascii, length, List, refl, replicate, replicate-append-replicate, spaces, subst, suc, sym, take, take-replicate, true, zero, ℕ, ◌*◌, ◌++◌, ◌+◌, ◌-◌, ◌<◌, ◌∙◌, ◌∷◌, ◌≡◌, ◌≤◌}
-use Rattle.yaml_emitter.proofs.TextLemmas.{low_at}
+use Rattle.yaml_emitter.proofs.ByteLemmas.{low_at}
 
 -- so many spaces
 abbrev pub blanks : ℕ → List ℕ

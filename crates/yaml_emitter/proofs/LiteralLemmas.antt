@@ -1,9 +1,8 @@
 -- The tests of literal blocks.
-use Rattle.yaml_emitter.proofs.Common.{[], and_parts, ap, append-nil, append_assoc, arith, begins_as_marker, begins_blank, begins_well, begins_with, begins_with_mark, below, Bool, bytes_eq, bytes_eq-Decides, chars, chars-append, chars_past_char, codes, drop, drop-append_seam, drop-cons, encode_ascii, encode_utf8, ends_with, eq-eqb, false, first_full_line_is_indented, get_or, has_clear_lines, if◌then◌else◌, is_break, is_empty, is_line_feed, is_literal_character, is_literal_text, is_low, is_root_literal, IsCharBoundary, IsCharBoundary-after_ascii, IsCharBoundary-before_ascii, IsFirstCut, IsUnbroken, IsUtf8, IsUtf8-drop, IsUtf8-from_ascii, IsUtf8-past_char, IsUtf8-take, last_line, length, length-drop, lines_of, List, list_all, list_any, nat_eq, nat_tests, ne_eqb, new_line, NonePass, not, onto_first_line, or-false, prefix_len, prefix_len_stops, refl, subst, suc, sym, take, take-append-drop, take-append_seam, take-length, true, ℕ, ◌&&◌, ◌++◌, ◌<◌, ◌==◌, ◌||◌, ◌∙◌, ◌∷◌, ◌≡◌, ◌≢◌, ◌≤◌}
+use Rattle.yaml_emitter.proofs.Common.{[], and_parts, ap, append-nil, append_assoc, arith, begins_as_marker, begins_blank, begins_well, begins_with, begins_with_mark, below, Bool, bytes_eq-Decides, chars, chars-append, chars_past_char, codes, drop, drop-append_seam, drop-cons, encode_ascii, encode_utf8, ends_with, eq-eqb, false, first_full_line_is_indented, get_or, has_clear_lines, if◌then◌else◌, is_break, is_empty, is_line_feed, is_literal_character, is_literal_text, is_low, is_root_literal, IsCharBoundary, IsCharBoundary-after_ascii, IsCharBoundary-before_ascii, IsFirstCut, IsUnbroken, IsUtf8, IsUtf8-drop, IsUtf8-past_char, IsUtf8-take, last_line, length, length-drop, lines_of, List, list_all, list_any, nat_eq, nat_tests, ne_eqb, new_line, NonePass, not, onto_first_line, or-false, prefix_len, prefix_len_stops, refl, subst, suc, sym, take, take-append-drop, take-append_seam, take-length, true, ℕ, ◌&&◌, ◌++◌, ◌<◌, ◌==◌, ◌||◌, ◌∙◌, ◌∷◌, ◌≡◌, ◌≢◌, ◌≤◌}
 use Rattle.yaml_chars.specs.Class as class
 use Rattle.yaml_emitter.proofs.ByteLemmas.{all_pass, all_tested}
-use Rattle.yaml_emitter.proofs.EndLemmas.{begins_otherwise}
-use Rattle.yaml_emitter.proofs.TextLemmas.{low_at, low_chars}
+use Rattle.yaml_emitter.proofs.EndLemmas.{begins_otherwise, low_front}
 use Rattle.yaml_emitter.proofs.WordLemmas.{empty_text}
 
 onto_first : (c : ℕ) (ls : List (List ℕ)) → first_full_line_is_indented (onto_first_line c ls) ≡ (c == 32)
@@ -13,63 +12,47 @@ well : (t : List ℕ) → begins_well t ≡ (not (list_all is_line_feed t) && no
 well [] = refl
 well (c ∷ cs) = grind (arith, onto_first, well cs)
 
-regroup : (a b c d e : Bool) → (a && b && c && d && e) ≡ ((a && (b && (c && e))) && d)
-regroup g b c d e = grind arith
-
 pub literal : (t : List ℕ) → is_literal_text t ≡ (has_clear_lines t && not (ends_with nat_eq t (codes "\n\n")))
 unfolding is_literal_text
-literal t = grind (arith, regroup, codes, well)
-
-grouped : (a b c : Bool) → (a && b && c) ≡ (a && (b && c))
-grouped d b c = grind arith
+literal t = grind (arith, codes, well)
 
 pub root_literal : (t : List ℕ) → is_root_literal t ≡ (is_literal_text t && (not (begins_with (codes "\t") t) && not (list_any begins_as_marker (lines_of t))))
 unfolding is_root_literal
-root_literal t = grouped (is_literal_text t) _ _
+root_literal t = grind arith
 
 pub well_first : (bs rest : List ℕ) (c : ℕ) → IsUtf8 bs → bs ≡ encode_utf8 c ++ rest → c ≢ 10 → begins_well (chars bs) ≡ not (c == 32)
-well_first bs rest c u e n = ap begins_well (chars_past_char bs rest c u e) ∙ ap (λ b. if b then begins_well (chars rest) else not (c == 32)) (ne_eqb c 10 n)
+well_first bs rest c u e n = rw (chars_past_char bs rest c u e, ne_eqb c 10 n) refl
 
 pub well_break : (bs rest : List ℕ) (c : ℕ) → IsUtf8 bs → bs ≡ encode_utf8 c ++ rest → c ≡ 10 → begins_well (chars bs) ≡ begins_well (chars rest)
-well_break bs rest c u e n = ap begins_well (chars_past_char bs rest c u e) ∙ ap (λ b. if b then begins_well (chars rest) else not (c == 32)) (eq-eqb c 10 n)
+well_break bs rest c u e n = rw (chars_past_char bs rest c u e, eq-eqb c 10 n) refl
 
 pub last_line_is : (level : ℕ) (bs : List ℕ) (r : Bool) → IsUtf8 bs → (length bs == 0) ≡ r
     → (if r then [] else new_line level ++ chars bs) ≡ last_line level (chars bs)
-last_line_is level bs r u e = ap (λ b. if b then [] else new_line level ++ chars bs) (sym e ∙ empty_text bs u) ∙ by (chars bs)
+last_line_is level bs r u e = rw (sym e ∙ empty_text bs u) (by (chars bs))
   where
     by : (t : List ℕ) → (if is_empty t then [] else new_line level ++ t) ≡ last_line level t
-    by [] = refl
-    by (c ∷ t) = refl
+    by a = grind arith
 
 -- ---- marks
 
 pub after_mark : (w line rest : List ℕ) → is_low w ≡ true → length w ≡ 3 → IsUtf8 rest → line ≡ w ++ rest → begins_blank (chars rest) ≡ begins_with_mark w (chars line)
-after_mark w line rest h n u e =
-    let f : chars line ≡ w ++ chars rest = ap chars e ∙ chars-append w rest (IsUtf8-from_ascii w (low_at w h)) ∙ ap (λ x. x ++ chars rest) (low_chars w h) in
-    let front : take 3 (w ++ chars rest) ≡ w = ap (λ k. take k (w ++ chars rest)) (sym n) ∙ take-append_seam w (chars rest) in
-    let back : drop 3 (w ++ chars rest) ≡ chars rest = ap (λ k. drop k (w ++ chars rest)) (sym n) ∙ drop-append_seam w (chars rest) in
-    sym (ap (begins_with_mark w) f ∙ (λ i. bytes_eq w (front i) && begins_blank (back i))
-    ∙ ap (λ b. b && begins_blank (chars rest)) ((bytes_eq-Decides w w).1 refl))
+after_mark w line rest h n u e = rw (low_front w line rest h e, ← n, take-append_seam, drop-append_seam, (bytes_eq-Decides w w).1 refl) refl
 
 pub no_mark : (w line : List ℕ) → is_low w ≡ true → length w ≡ 3 → IsUtf8 line → ((rest : List ℕ) → line ≢ w ++ rest) → false ≡ begins_with_mark w (chars line)
-no_mark w line h n u lacks =
-    ap (λ b. b && begins_blank (drop 3 (chars line))) (begins_otherwise w line h u lacks ∙ ap (λ k. bytes_eq w (take k (chars line))) n)
+no_mark w line h n u lacks = rw (← n, ← begins_otherwise w line h u lacks) refl
 
 pub marks : (line : List ℕ) → begins_as_marker line ≡ (begins_with_mark (codes "---") line || begins_with_mark (codes "...") line)
-marks line = by (bytes_eq (codes "---") (take 3 line)) (bytes_eq (codes "...") (take 3 line)) (begins_blank (drop 3 line))
-  where
-    by : (a b c : Bool) → ((a || (b || false)) && c) ≡ ((a && c) || (b && c))
-    by a b c = grind arith
+marks line = grind arith
 
 -- ---- lines
 
 pub line_first : (l r : List ℕ) → IsUnbroken l → lines_of (l ++ 10 ∷ r) ≡ l ∷ lines_of r
 line_first [] r n = refl
-line_first (c ∷ l) r n = ap (λ b. if b then [] ∷ lines_of (l ++ 10 ∷ r) else onto_first_line c (lines_of (l ++ 10 ∷ r))) n.0 ∙ ap (onto_first_line c) (line_first l r n.1)
+line_first (c ∷ l) r n = grind (arith, n.0, line_first l r n.1)
 
 pub one_line : (c : ℕ) (l : List ℕ) → IsUnbroken (c ∷ l) → lines_of (c ∷ l) ≡ (c ∷ l) ∷ []
-one_line c [] n = ap (λ b. if b then [] ∷ lines_of [] else onto_first_line c (lines_of [])) n.0
-one_line c (d ∷ l) n = ap (λ b. if b then [] ∷ lines_of (d ∷ l) else onto_first_line c (lines_of (d ∷ l))) n.0 ∙ ap (onto_first_line c) (one_line d l n.1)
+one_line c [] n = rw n.0 refl
+one_line c (d ∷ l) n = rw (n.0, one_line d l n.1) refl
 
 pub line_last : (level : ℕ) (l : List ℕ) → IsUnbroken l → below level (lines_of l) ≡ last_line level l
 line_last level [] n = refl
@@ -77,10 +60,7 @@ line_last level (c ∷ l) n = ap (below level) (one_line c l n) ∙ ap (λ x. ne
 
 none_pass : (p : ℕ → Bool) (xs : List ℕ) → list_all (λ b. not (p b)) xs ≡ true → NonePass p xs
 none_pass p [] h = tt
-none_pass p (x ∷ xs) h = let parts = and_parts (not (p x)) _ h in (by (p x) parts.0, none_pass p xs parts.1)
-  where
-    by : (b : Bool) → not b ≡ true → b ≡ false
-    by b e = grind arith
+none_pass p (x ∷ xs) h = let parts = and_parts (not (p x)) _ h in (grind arith, none_pass p xs parts.1)
 
 abbrev pub runs_on : ℕ → Bool
 runs_on b = not (is_break b)
@@ -132,8 +112,9 @@ module _ (s : List ℕ) (u : IsUtf8 s) (n : ℕ) (run : n ≡ prefix_len runs_on
       }
 
 -- what holds of the lines of a text, the first one apart
-pub first_line : (p : List ℕ → Bool) (s front back : List ℕ) → IsFirstCut s front back → list_any p (lines_of (chars s)) ≡ (p (chars front) || list_any p (lines_of (chars back)))
-first_line p s front back m = ap (λ t. list_any p (lines_of t)) m.whole ∙ ap (list_any p) (line_first (chars front) (chars back) m.none_before)
+pub first_line : (p : List ℕ → Bool) {s front back : List ℕ} → IsFirstCut s front back
+    → list_any p (lines_of (chars s)) ≡ (p (chars front) || list_any p (lines_of (chars back)))
+first_line p {front = front} {back} m = rw (m.whole, line_first (chars front) (chars back) m.none_before) refl
 
 pub only_line : (s : List ℕ) → IsUnbroken (chars s) → list_any begins_as_marker (lines_of (chars s)) ≡ begins_as_marker (chars s)
 only_line s n = by (chars s) n
@@ -143,11 +124,10 @@ only_line s n = by (chars s) n
     by (c ∷ t) n = ap (list_any begins_as_marker) (one_line c t n) ∙ or-false (begins_as_marker (c ∷ t))
 
 -- the lines below a level, the first one apart
-pub first_below : (level : ℕ) (s front back : List ℕ) → IsFirstCut s front back
+pub first_below : (level : ℕ) {s front back : List ℕ} → IsFirstCut s front back
     → below level (lines_of (chars s)) ≡ (new_line level ++ chars front) ++ below level (lines_of (chars back))
-first_below level s front back m =
-    ap (λ t. below level (lines_of t)) m.whole ∙ ap (below level) (line_first (chars front) (chars back) m.none_before)
-    ∙ sym (append_assoc (new_line level) (chars front) (below level (lines_of (chars back))))
+first_below level {front = front} {back} m =
+    rw (m.whole, line_first (chars front) (chars back) m.none_before) (sym (append_assoc (new_line level) (chars front) _))
 
 pub literal_character : (c : ℕ) → class.is_literal_character c ≡ is_literal_character c
 unfolding class.is_literal_character is_literal_character

@@ -1,8 +1,7 @@
 -- The printable characters of ASCII that a text begins with.
 use Rattle.std.specs.Borrow.{Bor}
-use Rattle.yaml_emitter.proofs.Common.{[], ap, arith, Bool, chars, chars-append, drop, false, is_line_feed, is_literal_character, is_low, is_some, is_unprintable, IsCharBoundary, IsCharBoundary-from_take, IsFirstCut, IsUnbroken, IsUtf8, IsUtf8-from_ascii, List, list_all, list_all-append, list_all-more, list_any, MatchOption, nat_lt, nat_tests, not, Option, prefix_len, prefix_len-le-length, refl, sym, take, take-append-drop, true, ℕ, ◌&&◌, ◌++◌, ◌||◌, ◌∙◌, ◌∷◌, ◌≡◌}
-use Rattle.yaml_emitter.proofs.ByteLemmas.{all_pass}
-use Rattle.yaml_emitter.proofs.TextLemmas.{low_at, low_chars}
+use Rattle.yaml_emitter.proofs.Common.{[], ap, arith, Bool, chars, chars-append, drop, false, is_line_feed, is_literal_character, is_low, is_some, is_unprintable, IsCharBoundary, IsCharBoundary-from_take, IsFirstCut, IsUnbroken, IsUtf8, IsUtf8-from_ascii, List, list_all, list_all-append, list_all-more, list_any, MatchOption, nat_lt, nat_tests, not, Option, prefix_len, prefix_len-le-length, refl, sym, take, take-append-drop, true, ℕ, ◌++◌, ◌||◌, ◌∙◌, ◌∷◌, ◌≡◌}
+use Rattle.yaml_emitter.proofs.ByteLemmas.{all_pass, low_at, low_chars}
 
 abbrev printable : ℕ → Bool
 printable c = not (is_unprintable c)
@@ -30,7 +29,7 @@ rest_printable bs =
     let front = take n bs in
     let split : chars bs ≡ chars front ++ chars (drop n bs) = ap chars (sym (take-append-drop n bs)) ∙ chars-append front (drop n bs) (front_utf8 bs) in
     let passes : list_all is_literal_character (chars front) ≡ true = ap (list_all is_literal_character) (low_chars front (front_low bs)) ∙ list_all-more printable is_literal_character printable_fits front (all_pass printable bs) in
-    sym (ap (list_all is_literal_character) split ∙ list_all-append is_literal_character (chars front) (chars (drop n bs)) ∙ ap (λ b. b && list_all is_literal_character (chars (drop n bs))) passes)
+    rw (split, list_all-append is_literal_character (chars front) (chars (drop n bs)), passes) refl
 
 -- ---- a line feed
 

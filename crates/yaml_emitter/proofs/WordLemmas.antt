@@ -1,12 +1,12 @@
 -- The words that are quoted.
-use Rattle.yaml_emitter.proofs.Common.{[], all_upto, ap, arith, begins_plainly, begins_with, bit_or, Bool, bytes_eq-Decides, chars, chars-nil, chars_past_char, codes, each_upto, encode_ascii, encode_utf8_all, encodes-chars, ends_with, false, float_names, has_indicator_first, has_outer_space, if◌then◌else◌, is_empty, is_float_word, is_in, is_name, is_plain_letter, is_plain_small, is_quoted, is_sign, is_string, is_unfit, is_unfit_for_plain, is_word, IsUtf8, length, List, list_any, map, nat_eq, nat_lt, nat_tests, not, refl, reserved_words, same, same_is, subst, suc, sym, T, to_ascii_lowercase, true, true≢false, typing, ℕ, ◌&&◌, ◌++◌, ◌<◌, ◌==◌, ◌||◌, ◌∙◌, ◌∷◌, ◌≡◌, ◌≤◌}
+use Rattle.yaml_emitter.proofs.Common.{[], all_upto, ap, arith, begins_plainly, begins_with, bit_or, Bool, bytes_eq-Decides, chars, chars-nil, chars_past_char, codes, each_upto, encode_ascii, encodes-chars, ends_with, false, float_names, has_indicator_first, has_outer_space, if◌then◌else◌, is_empty, is_float_word, is_in, is_name, is_plain_letter, is_plain_small, is_quoted, is_sign, is_string, is_unfit, is_unfit_for_plain, is_word, IsUtf8, length, List, list_any, map, nat_eq, nat_lt, nat_tests, not, refl, reserved_words, same, same_is, subst, sym, T, to_ascii_lowercase, true, true≢false, typing, ℕ, ◌&&◌, ◌++◌, ◌<◌, ◌==◌, ◌||◌, ◌∙◌, ◌∷◌, ◌≡◌, ◌≤◌}
 use Rattle.defs_tree.specs.Grammar.{is_among, followed_by}
 use Rattle.defs_tree.proofs.GrammarLaws.{after_one, Rejects, optional_one-after, followed_by-empty}
 use Rattle.yaml_tree.proofs.FirstByte.{typing_itself}
 use Rattle.yaml_tree.specs.Values.{begins_value}
 use Rattle.yaml_tree.proofs.TypingLemmas.{not_among}
 use Rattle.yaml_tree.proofs.WideTexts.{low, low_bytes}
-use Rattle.yaml_emitter.proofs.TextLemmas.{ascii_low, low_chars}
+use Rattle.yaml_emitter.proofs.ByteLemmas.{ascii_low, low_chars}
 
 -- ---- names of numbers
 
@@ -70,11 +70,7 @@ quoted t = sym (regroup (is_empty t) (has_outer_space t) (has_indicator_first t)
 
 pub empty_text : (bs : List ℕ) → IsUtf8 bs → (length bs == 0) ≡ is_empty (chars bs)
 empty_text [] u = ap is_empty (sym chars-nil)
-empty_text (b ∷ bs) u = by (chars (b ∷ bs)) refl
-  where
-    by : (cs : List ℕ) → chars (b ∷ bs) ≡ cs → (suc (length bs) == 0) ≡ is_empty cs
-    by [] e = let f : b ∷ bs ≡ [] = sym (encodes-chars (b ∷ bs) u) ∙ ap encode_utf8_all e in cc
-    by (c ∷ cs) e = grind (arith, nat_tests)
+empty_text (b ∷ bs) u = grind (arith, nat_tests, encodes-chars (b ∷ bs) u)
 
 pub wide_fits : (c : ℕ) → 128 ≤ c → is_unfit_for_plain c ≡ false
 unfolding is_unfit_for_plain
@@ -98,12 +94,7 @@ letter_small c e = grind (arith, nat_tests)
 
 -- a test that no plain letter passes
 letter_fails : (q : ℕ → Bool) → T (all_upto (λ x. not (is_plain_letter x && q x)) 123) → (c : ℕ) → is_plain_letter c ≡ true → q c ≡ false
-letter_fails q all c e = by (is_plain_letter c) (q c) e (each_upto (λ x. not (is_plain_letter x && q x)) 123 all c (letter_small c e))
-  where
-    by : (a b : Bool) → a ≡ true → T (not (a && b)) → b ≡ false
-    by true true e t = absurd t
-    by true false e t = refl
-    by false b e t = cc
+letter_fails q all c e = let t = each_upto (λ x. not (is_plain_letter x && q x)) 123 all c (letter_small c e) in grind arith
 
 no_front : (d c : ℕ) (ds cs : List ℕ) → is_in (d ∷ []) c ≡ false → begins_with (d ∷ ds) (c ∷ cs) ≡ false
 no_front d c ds cs f = grind (arith, not_true, same, bytes_eq-Decides)

@@ -1,5 +1,5 @@
 -- The words of other crates and of specs/ that the proofs here use, passed on from one place. Declares nothing.
-pub use Rattle.std.proofs.Common.{[], ap, append-nil, append_assoc, arith, Bool, drop, eq-zero-or-pos, eqb, eqb→eq, false, FitsSigned, get_or, Global, inl, inr, length, length-append, length-set, List, negsuc, not, pos, refl, set, subst, suc, sym, T, take, to_z-of_z, true, true≢false, w64, zero, ℕ, ℤ, ◌%◌, ◌&&◌, ◌*◌, ◌++◌, ◌+◌, ◌-◌, ◌/◌, ◌<◌, ◌^◌, ◌∙◌, ◌∷◌, ◌≡◌, ◌≢◌, ◌≤◌}
+pub use Rattle.std.proofs.Common.{[], add-one, ap, append-nil, append_assoc, arith, Bool, drop, eq-zero-or-pos, eqb, eqb→eq, false, FitsSigned, get_or, Global, inl, inr, length, length-append, length-set, List, negsuc, not, pos, refl, set, subst, suc, sym, T, take, to_z-of_z, true, true≢false, w64, zero, ℕ, ℤ, ◌%◌, ◌&&◌, ◌*◌, ◌++◌, ◌+◌, ◌-◌, ◌/◌, ◌<◌, ◌^◌, ◌∙◌, ◌∷◌, ◌≡◌, ◌≢◌, ◌≤◌}
 pub use Rattle.std.proofs.Math.ListN.{drop_of_length-le, get_or-eq_default, get_or-map}
 pub use Rattle.std.proofs.Math.Nat.{mul-le-mul_left}
 pub use Rattle.std.proofs.lemmas.Bool.{and_from, and_parts, lt-ltb}
@@ -24,7 +24,7 @@ pub use Rattle.defs_tree.specs.Path.{index, key, Step}
 pub use Rattle.defs_tree.specs.Tree.{alias, array, bad_value, boolean, hash, integer, item, Items, items_of, no_items, no_pairs, null, pair, pair_list_of, Pairs, pairs_of, real, string, Tree}
 pub use Rattle.defs_tree.specs.Typing.{is_exponent, is_exponent_mark, is_minus, is_sign, is_string}
 pub use Rattle.yaml_emitter.proofs.ListLemmas.{all_left, AreLeft, Entries, entry_stopped, first_within, none_decide, none_left, own_no_higher, rest_left}
-pub use Rattle.yaml_emitter.proofs.WritingLemmas.{left_after, left_all, left_as, left_none, left_stopped, left_then, left_writes, stopped_as, stopped_early, stopped_for, stopped_here, stopped_late, writes_as, writes_err, writes_for, writes_late, writes_ok, wrote_then}
+pub use Rattle.yaml_emitter.proofs.WritingLemmas.{left_after, left_all, left_as, left_none, left_stopped, left_then, left_writes, stopped_as, stopped_at, stopped_early, stopped_first, stopped_for, stopped_late, writes_as, writes_err, writes_for, writes_late, writes_ok, wrote_then}
 pub use Rattle.yaml_emitter.specs.At.{is_low}
 pub use Rattle.yaml_emitter.specs.Writing.{IsLeft, Stopped, WritesUnless, Wrote}
 pub use Rattle.yaml_json.specs.Found.{reason_view, step_view}

@@ -27,11 +27,7 @@ flat_given (hash (pair k v ps)) b g = absurd (true≢false b)
 flat_given t b g = g
 
 pub flat_text_is : (t : Tree) (i : Option ℕ) (m : ℕ) → is_block t ≡ false → flat_text t ≡ json_text i m t
-flat_text_is (array no_items) i m b = refl
-flat_text_is (array (item t ts)) i m b = absurd (true≢false b)
-flat_text_is (hash no_pairs) i m b = refl
-flat_text_is (hash (pair k v ps)) i m b = absurd (true≢false b)
-flat_text_is t i m b = refl
+flat_text_is a i m b = grind arith
 
 pub given_hash : (ps : List (Tree × Tree)) → AreDistinct ps → ArePairsGiven (pairs_of ps) → IsGiven (hash_tree ps)
 given_hash ps d v = (distinct_pairs ps d, v)
@@ -42,8 +38,7 @@ none_first : (s : Step) (o q : Option Fault) → first_of (below s o) q ≡ None
 none_first s a q e = grind arith
 
 key_has : (k : Tree) → is_string k ≡ true → IsKeyGiven k → IsKey k
-key_has (string s) e g = g
-key_has k e g = cc
+key_has a e g = grind arith
 
 real_has : (b : Bool) → (if b then None else here is_no_number) ≡ None → b ≡ true
 real_has a e = grind arith

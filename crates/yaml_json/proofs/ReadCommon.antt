@@ -19,7 +19,7 @@ unfoldable pub use Rattle.defs_text.specs.Text.{string_chars}
 pub use Rattle.defs_tree.proofs.GrammarLaws.{list_all-more}
 pub use Rattle.defs_tree.specs.Tree.{item, items_of, Tree}
 pub use Rattle.yaml_chars.proofs.MaskLemmas.{below, either, hit, masked, run_stops, run_through}
-pub use Rattle.yaml_json.proofs.Calls.{not_taken, ok_of, taken, was_ok}
+pub use Rattle.yaml_json.proofs.Calls.{ok_of, was_ok}
 pub use Rattle.yaml_json.specs.Numbers.{IsDigits, IsExponentPart, IsFractionPart, IsMinus, IsNumberPart, IsSign, IsWhole}
 pub use Rattle.yaml_json.specs.Opened.{Adds, AreOpen, HasValue, IsIn, IsInArray, IsInMember, IsInObject, Puts, PutsItem, PutsLast, PutsMember, tree_in}
 pub use Rattle.yaml_json.specs.Reads.{AreItems, ArePairs, IsAsciiFirst, IsCode, IsEscape, IsFirst, IsGap, IsInside, IsKey, IsNumber, IsPart, IsRun, IsShort, IsStringEnd, IsValue, IsWholeValue, Skips, Takes, TakesDigit, TakesWord}

@@ -87,7 +87,7 @@ one_less : (b : Bool) (m n : ℕ) → n ≢ 0 → (b && nat_le (suc m) n) ≡ (b
 one_less b m n h = grind (arith, nat_tests)
 
 pub items_within : (n : ℕ) (ts : Items) → n ≢ 0 → is_shallow n (array ts) ≡ are_items_shallow (n - 1) ts
-items_within n ts h = one_less (are_items_whole ts) (item_nesting ts) n h
+items_within n ts h = grind (arith, nat_tests)
 
 pub only_within : (n : ℕ) (t s : Tree) → IsOnlyItem t s → n ≢ 0 → is_shallow n s ≡ is_shallow (n - 1) t
 only_within n t s o h =

@@ -1,12 +1,8 @@
-use Rattle.yaml_emitter.proofs.Common.{ap, arith, before_block, codes, left_after, left_all, left_as, mark_text, refl, rests_text, sym, view, ◌++◌}
-use Rattle.yaml_emitter.proofs.DeepLemmas.{goes_ok, goes_written, goes_err, goes_refused, parts_then, stopped_there}
-use Rattle.yaml_emitter.proofs.EntryLemmas.{at_least_one}
-use Rattle.yaml_emitter.proofs.NodeLemmas.{block_after, flat_after}
-use Rattle.yaml_emitter.proofs.ValidLemmas.{flat_valid}
+use Rattle.yaml_emitter.proofs.Answering.{ap, arith, at_least_one, before_block, block_after, codes, flat_after, flat_valid, goes_err, goes_ok, goes_refused, goes_written, left_after, left_all, left_as, mark_text, parts_then, refl, rests_text, stopped_at, sym, view, ◌++◌}
 use Rattle.yaml_emitter.proofs.deep.begin_value.Goals as goal
 
 pub returns-then-level-ge-DEEPEST : goal.returns-then-level-ge-DEEPEST
-returns-then-level-ge-DEEPEST g c = goes_err refl (stopped_there left_all)
+returns-then-level-ge-DEEPEST g c = goes_err refl (stopped_at tt left_all)
 
 pub returns-in_err-begin_block : goal.returns-in_err-begin_block
 returns-in_err-begin_block g c =
@@ -19,7 +15,7 @@ returns-in_err-begin_block g c =
 pub returns-in_err-push : goal.returns-in_err-push
 returns-in_err-push g c =
     goes_err c.from_residual-in_err-push.ensures.0
-    (stopped_there
+    (stopped_at tt
     (left_after (left_as (parts_then (mark_text c.args.mark ++ before_block c.args.blocks_lower c.args.level) _ _
     (block_after _ _ c.args.blocks_lower c.args.level (mark_text c.args.mark) (view c.args.node.now)
     (sym (c.if-has_parts.ensures {u = tt})))) left_all)
@@ -53,5 +49,5 @@ returns g c =
     (flat_after _ _ c.args.blocks_lower c.args.level (mark_text c.args.mark) _ flat)) left_all)
     (c.in_ok-put_spaced.ensures.ok refl))
     c.write_scalar.ensures.text
-    (omega (arith, (at_least_one (view c.args.node.now)).1))
+    (omega (arith, at_least_one (view c.args.node.now)))
     (λ v. (flat_valid (view c.args.node.now) flat c.write_scalar.ensures.valid, v))

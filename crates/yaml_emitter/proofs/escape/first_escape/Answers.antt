@@ -1,6 +1,5 @@
 use Rattle.std.specs.Prelude.{chars}
-use Rattle.yaml_emitter.proofs.Common.{ap, drop, encode_utf8, IsCharBoundary, IsRun, IsRunCut, length, MatchOption, prefix_len, stands, subst, sym, take, ◌++◌, ◌∙◌}
-use Rattle.yaml_emitter.proofs.RunLemmas.{only_run, run_cut, stands_boundary}
+use Rattle.yaml_emitter.proofs.Answering.{ap, drop, encode_utf8, IsCharBoundary, IsRun, IsRunCut, length, MatchOption, only_run, prefix_len, run_cut, stands, stands_boundary, subst, sym, take, ◌++◌, ◌∙◌}
 use Rattle.yaml_emitter.proofs.escape.first_escape.Goals as goal
 
 pub split_at-requires : goal.split_at-requires

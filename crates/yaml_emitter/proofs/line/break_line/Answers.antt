@@ -1,5 +1,4 @@
-use Rattle.yaml_emitter.proofs.Common.{ap, is_low, refl, stopped_as, stopped_early, writes_as, writes_err, writes_late, ◌*◌, ◌∙◌, ◌∷◌}
-use Rattle.yaml_emitter.proofs.LineLemmas.{low_blanks, twice, of_level}
+use Rattle.yaml_emitter.proofs.Answering.{ap, is_low, low_blanks, of_level, refl, stopped_as, stopped_early, twice, writes_as, writes_err, writes_late, ◌*◌, ◌∙◌, ◌∷◌}
 use Rattle.yaml_emitter.proofs.line.break_line.Goals as goal
 
 pub put_ascii-requires : goal.put_ascii-requires

@@ -1,5 +1,4 @@
-use Rattle.yaml_emitter.proofs.Common.{ap, begins_well, chars, chars-nil, chars_rest, IsUtf8, IsUtf8-past_char, nil_from_length, subst, sym, ◌∙◌}
-use Rattle.yaml_emitter.proofs.LiteralLemmas.{well_first, well_break}
+use Rattle.yaml_emitter.proofs.Answering.{ap, begins_well, chars, chars-nil, chars_rest, IsUtf8, IsUtf8-past_char, nil_from_length, subst, sym, well_break, well_first, ◌∙◌}
 use Rattle.yaml_emitter.proofs.literal.begins_well.Goals as goal
 
 pub characters-init : goal.characters-init

@@ -1,5 +1,4 @@
-use Rattle.yaml_emitter.proofs.Common.{ap, drop, IsUtf8, IsUtf8-drop, length, subst, sym, ◌++◌, ◌∙◌}
-use Rattle.yaml_emitter.proofs.LiteralLemmas.{after_mark, no_mark}
+use Rattle.yaml_emitter.proofs.Answering.{after_mark, ap, drop, IsUtf8, IsUtf8-drop, length, no_mark, subst, sym, ◌++◌, ◌∙◌}
 use Rattle.yaml_emitter.proofs.literal.begins_with_mark.Goals as goal
 
 pub returns-in-Some : goal.returns-in-Some

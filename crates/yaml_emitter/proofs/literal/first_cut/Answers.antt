@@ -1,5 +1,4 @@
-use Rattle.yaml_emitter.proofs.Common.{ap, arith, drop, IsCharBoundary, IsFirstCut, prefix_len, prefix_len-le-length, subst, sym, take, ◌∙◌}
-use Rattle.yaml_emitter.proofs.LiteralLemmas.{runs_on, unbroken, break_boundary, break_passed, first_cut}
+use Rattle.yaml_emitter.proofs.Answering.{ap, arith, break_boundary, break_passed, drop, first_cut, IsCharBoundary, IsFirstCut, prefix_len, prefix_len-le-length, runs_on, subst, sym, take, unbroken, ◌∙◌}
 use Rattle.yaml_emitter.proofs.literal.first_cut.Goals as goal
 
 pub returns-then-end-text : goal.returns-then-end-text

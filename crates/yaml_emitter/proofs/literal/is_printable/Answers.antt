@@ -1,5 +1,4 @@
-use Rattle.yaml_emitter.proofs.Common.{ap, chars, drop, is_literal_character, is_unprintable, IsCharBoundary, list_all, not, prefix_len, subst, sym, ◌∙◌}
-use Rattle.yaml_emitter.proofs.PrintableLemmas.{printable_boundary, rest_printable}
+use Rattle.yaml_emitter.proofs.Answering.{ap, chars, drop, is_literal_character, is_unprintable, IsCharBoundary, list_all, not, prefix_len, printable_boundary, rest_printable, subst, sym, ◌∙◌}
 use Rattle.yaml_emitter.proofs.literal.is_printable.Goals as goal
 
 pub split_at-requires : goal.split_at-requires

@@ -1,5 +1,4 @@
-use Rattle.yaml_emitter.proofs.Common.{ap, arith, get_or, length, ◌-◌, ◌==◌, ◌∙◌}
-use Rattle.yaml_emitter.proofs.EndLemmas.{last_is, none_last}
+use Rattle.yaml_emitter.proofs.Answering.{ap, arith, get_or, last_is, length, none_last, ◌-◌, ◌==◌, ◌∙◌}
 use Rattle.yaml_emitter.proofs.quoting.ends_with_space.Goals as goal
 
 pub returns-in-len1-up : goal.returns-in-len1-up

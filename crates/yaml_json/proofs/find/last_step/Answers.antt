@@ -1,6 +1,5 @@
 use Rattle.std.specs.Str.{chars}
-use Rattle.yaml_json.proofs.Common.{ap, key, step_in, string_chars, sym, ◌∙◌}
-use Rattle.yaml_json.proofs.FindLemmas.{no_step}
+use Rattle.yaml_json.proofs.Answering.{ap, key, no_step, step_in, string_chars, sym, ◌∙◌}
 use Rattle.yaml_json.proofs.find.last_step.Goals as goal
 
 pub returns-in-None : goal.returns-in-None

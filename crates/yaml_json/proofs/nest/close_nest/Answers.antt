@@ -1,5 +1,4 @@
-use Rattle.yaml_json.proofs.Common.{ap, arith, left_after, left_as, left_none, left_stopped, nest_end, refl, stopped_early, writes_err, writes_ok, ◌≡◌}
-use Rattle.yaml_json.proofs.NestLemmas.{next_end}
+use Rattle.yaml_json.proofs.Answering.{ap, arith, left_after, left_as, left_none, left_stopped, nest_end, next_end, refl, stopped_early, writes_err, writes_ok, ◌≡◌}
 use Rattle.yaml_json.proofs.nest.close_nest.Goals as goal
 
 pub left-preserved : goal.left-preserved

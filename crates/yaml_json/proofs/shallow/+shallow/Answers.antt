@@ -1,6 +1,5 @@
 use Rattle.std.specs.Str.{chars}
-use Rattle.yaml_json.proofs.Common.{ap, are_items_shallow, arith, depth, is_json_real, is_shallow, items_depth, items_of, nat_lt, pairs_of, string_chars, sym, view, ◌&&◌, ◌∙◌, ◌≡◌}
-use Rattle.yaml_json.proofs.ShallowLemmas.{next_item, no_items_within, no_pairs_within, nothing_within, only_within, scalar_within}
+use Rattle.yaml_json.proofs.Answering.{ap, are_items_shallow, arith, depth, is_json_real, is_shallow, items_depth, items_of, nat_lt, next_item, no_items_within, no_pairs_within, nothing_within, only_within, pairs_of, scalar_within, string_chars, sym, view, ◌&&◌, ◌∙◌, ◌≡◌}
 use Rattle.yaml_json.proofs.shallow.+shallow.Goals as goal
 
 -- ---- a nest

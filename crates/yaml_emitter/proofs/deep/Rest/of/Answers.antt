@@ -1,7 +1,5 @@
-use Rattle.yaml_emitter.proofs.Common.{ap, ArePairsValid, AreValid, arith, box, entries_text, false, is_block, IsValid, item_boxes, items_nodes, items_of, items_view, pair_boxes, pairs_nodes, pairs_of, stacked, subst, sym, true, view, ◌∙◌}
+use Rattle.yaml_emitter.proofs.Answering.{ap, ArePairsValid, AreValid, arith, box, entries_text, false, is_block, IsValid, item_boxes, items_nodes, items_of, items_text, items_view, pair_boxes, pairs_nodes, pairs_of, pairs_text, stacked, subst, sym, true, valid_hash, view, ◌∙◌}
 use Rattle.yaml_tree.specs.Weight.{nodes}
-use Rattle.yaml_emitter.proofs.EntryLemmas.{items_text, pairs_text}
-use Rattle.yaml_emitter.proofs.ValidLemmas.{valid_hash}
 use Rattle.yaml_emitter.proofs.deep.Rest.of.Goals as goal
 
 pub returns-in-Array : goal.returns-in-Array

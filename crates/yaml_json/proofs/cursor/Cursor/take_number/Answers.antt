@@ -1,5 +1,4 @@
-use Rattle.yaml_json.proofs.ReadCommon.{ap, chars, IsNumber, IsNumberPart, length, subst, ◌-◌}
-use Rattle.yaml_json.proofs.ReadNumberLemmas.{number_cut}
+use Rattle.yaml_json.proofs.Answering.{ap, chars, IsNumber, IsNumberPart, length, number_cut, subst, ◌-◌}
 use Rattle.yaml_json.proofs.cursor.Cursor.take_number.Goals as goal
 
 pub split_at-requires : goal.split_at-requires

@@ -1,5 +1,4 @@
-use Rattle.yaml_json.proofs.ReadCommon.{ap, chars, IsRun, prefix_len, stands, subst, ◌∙◌}
-use Rattle.yaml_json.proofs.TextLemmas.{cut_run, run_is}
+use Rattle.yaml_json.proofs.Answering.{ap, chars, cut_run, IsRun, prefix_len, run_is, stands, subst, ◌∙◌}
 use Rattle.yaml_json.proofs.cursor.Cursor.take_run.Goals as goal
 
 pub split_at-requires : goal.split_at-requires

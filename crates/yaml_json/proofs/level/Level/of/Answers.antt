@@ -1,5 +1,4 @@
-use Rattle.yaml_json.proofs.Common.{ArePartsGiven, IsGiven, subst, sym, view}
-use Rattle.yaml_json.proofs.GivenLemmas.{given_hash}
+use Rattle.yaml_json.proofs.Answering.{ArePartsGiven, given_hash, IsGiven, subst, sym, view}
 use Rattle.yaml_json.proofs.level.Level.of.Goals as goal
 
 pub returns-in-Hash-clause-given : goal.returns-in-Hash-clause-given
