@@ -7,7 +7,7 @@ pub use Rattle.yaml_emitter.proofs.EndLemmas.{last_is, none_last}
 pub use Rattle.yaml_emitter.proofs.EntryLemmas.{at_least_one, by_empty, items_text, pairs_text, two_levels}
 pub use Rattle.yaml_emitter.proofs.LineLemmas.{blanks, deep_blanks, deep_line, line_boundary, line_of, low_blanks, of_level, twice}
 pub use Rattle.yaml_emitter.proofs.ListLemmas.{all_left, AreLeft, Decide, entry_stopped, first_within, fit_from, none_decide, none_left, own_no_higher, rest_decides, rest_left}
-pub use Rattle.yaml_emitter.proofs.LiteralLemmas.{after_mark, break_boundary, break_passed, first_below, first_cut, first_line, last_line_is, line_last, no_mark, only_line, runs_on, unbroken, well_break, well_first}
+pub use Rattle.yaml_emitter.proofs.LiteralLemmas.{after_mark, break_boundary, break_passed, first_below, first_cut, first_line, last_line_is, line_last, no_mark, only_line, runs_on, unbroken}
 pub use Rattle.yaml_emitter.proofs.NodeLemmas.{block_after, block_writes, document_text, flat_after, flat_box, item_entries, pair_entries, pair_form, root_block}
 pub use Rattle.yaml_emitter.proofs.NumberLemmas.{last_digit, negative, nonnegative}
 pub use Rattle.yaml_emitter.proofs.PrintableLemmas.{feed_by, printable_boundary, rest_printable}

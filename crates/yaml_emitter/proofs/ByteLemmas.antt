@@ -1,5 +1,5 @@
 -- Tests of bytes and of characters, and sets of bytes.
-use Rattle.yaml_emitter.proofs.Common.{[], All-from_get_or, and_from, and_parts, ap, append-nil, arith, Bool, cases_order, chars, chars-IsAscii, cond, each_upto, encode_ascii, encode_utf8, encode_utf8_all, encodes-chars, false, get_or, has_bit, inl, inr, inside_one, is_ascii_lowercase, is_escaped, is_low, is_unfit_for_plain, IsAscii, IsCharBoundary, IsCharBoundary-before_ascii, IsCharBoundary-end, IsUtf8, length, List, list_all, list_any, list_any-append, list_any_none, lt-ltb, nat_lt, nat_tests, not, or-false, prefix_len, prefix_len-le-length, prefix_len_stops, refl, same, same_is, slice_index, subst, suc, sym, take, take_while-cons, true, zero, ℕ, ◌&&◌, ◌<◌, ◌||◌, ◌∙◌, ◌∷◌, ◌≡◌, ◌≤◌}
+use Rattle.yaml_emitter.proofs.Common.{[], All-from_get_or, and_from, and_parts, ap, append-nil, arith, Bool, cases_order, chars, chars-IsAscii, each_upto, encode_ascii, encode_utf8, encode_utf8_all, encodes-chars, false, get_or, has_bit, inl, inr, inside_one, is_ascii_lowercase, is_escaped, is_low, is_unfit_for_plain, IsAscii, IsCharBoundary, IsCharBoundary-before_ascii, IsCharBoundary-end, IsUtf8, length, List, list_all, list_any, list_any-append, list_any_none, lt-ltb, nat_lt, nat_tests, not, or-false, prefix_len, prefix_len-le-length, prefix_len_stops, refl, same, same_is, slice_index, subst, suc, sym, take, take_while-cons, true, zero, ℕ, ◌&&◌, ◌<◌, ◌||◌, ◌∙◌, ◌∷◌, ◌≡◌, ◌≤◌}
 use Rattle.yaml_emitter.specs.declared.runs.Bits.{Bits}
 
 -- ---- texts of ASCII
@@ -22,10 +22,9 @@ ascii_low (c ∷ cs) h = and_from (nat_lt c 128) (is_low cs) (lt-ltb c 128 (h 0)
 -- tests that only ASCII characters pass
 module _ (p : ℕ → Bool) (low : (c : ℕ) → 128 ≤ c → p c ≡ false) where
   byte_fails : (c : ℕ) → 128 ≤ c → (k : ℕ) → k < length (encode_utf8 c) → p (get_or (encode_utf8 c) k 0) ≡ false
-  byte_fails c h k lt = by (get_or (encode_utf8 c) k 0) (λ l. inside_one c [] (encode_utf8 c) k (sym (append-nil (encode_utf8 c))) lt l)
-    where
-      by : (b : ℕ) → (b < 128 → c ≡ b) → p b ≡ false
-      by b f = low b (grind arith)
+  byte_fails c h k lt =
+      let itself = inside_one c [] (encode_utf8 c) k (sym (append-nil (encode_utf8 c))) lt in
+      low (get_or (encode_utf8 c) k 0) (grind (arith, itself))
 
   one_tested : (c : ℕ) → list_any p (encode_utf8 c) ≡ p c
   one_tested c = by (nat_lt c 128) refl
@@ -51,21 +50,14 @@ any_is q (x ∷ xs) = grind (arith, any_is q xs)
 pub all_tested : (q : ℕ → Bool) → ((c : ℕ) → 128 ≤ c → q c ≡ true) → (bs : List ℕ) → IsUtf8 bs
     → list_all q bs ≡ true → list_all q (chars bs) ≡ true
 all_tested q wide bs u h =
-    by _ (sym (any_is q (chars bs)) ∙ sym (bytes_tested (λ c. not (q c)) (λ c l. ap not (wide c l)) bs u) ∙ any_is q bs ∙ ap not h)
-  where
-    by : (b : Bool) → not b ≡ false → b ≡ true
-    by b e = grind arith
+    let same = sym (any_is q (chars bs)) ∙ sym (bytes_tested (λ c. not (q c)) (λ c l. ap not (wide c l)) bs u) ∙ any_is q bs in
+    grind (arith, same)
 
 -- ---- the elements before the first that fails a test
 
 pub all_pass : (p : ℕ → Bool) (bs : List ℕ) → list_all p (take (prefix_len p bs) bs) ≡ true
 all_pass p [] = refl
-all_pass p (b ∷ bs) = ap (list_all p) (take_while-cons p b bs) ∙ by (p b) refl (all_pass p bs)
-  where
-    by : (x : Bool) → p b ≡ x → list_all p (take (prefix_len p bs) bs) ≡ true
-        → list_all p (cond x (b ∷ take (prefix_len p bs) bs) []) ≡ true
-    by true e h = and_from (p b) _ e h
-    by false e h = refl
+all_pass p (b ∷ bs) = grind (arith, take_while-cons p b bs, all_pass p bs)
 
 -- a text may be cut there, if only characters of ASCII fail
 pub run_boundary : (p : ℕ → Bool) → ((c : ℕ) → p c ≡ false → c < 128) → (bs : List ℕ) → IsCharBoundary bs (prefix_len p bs)

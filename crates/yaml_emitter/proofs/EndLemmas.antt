@@ -1,17 +1,11 @@
 -- How a text begins and ends, by its bytes and by its characters.
 use Rattle.std.specs.Str.Pattern.{HasPrefixMatch, FindsTextPrefix, HasSuffixMatch, FindsTextSuffix}
 use Rattle.std.specs.Bool.{MatchBool}
-use Rattle.std.proofs.lemmas.List.{take_more}
-use Rattle.yaml_emitter.proofs.Common.{[], ap, arith, begins_with, Bool, bytes_eq-Decides, chars, chars-append, chars-nil, drop, drop-append_seam, encode_utf8_all, encodes-append, encodes-chars, encodes-IsAscii, ends_with, false, get_or, is_low, IsCharBoundary-before_ascii, IsUtf8, IsUtf8-from_ascii, IsUtf8-take, length, length-append, List, nat_eq, nat_tests, None, refl, sym, take, take-append-drop, take-append_seam, take-length, true, ℕ, ◌++◌, ◌+◌, ◌-◌, ◌<◌, ◌==◌, ◌∙◌, ◌∷◌, ◌≡◌, ◌≢◌, ◌≤◌}
+use Rattle.yaml_emitter.proofs.Common.{[], ap, arith, begins_with, Bool, bytes_eq-Decides, chars, chars-append, chars-nil, drop, drop-append_seam, encode_utf8_all, encodes-append, encodes-chars, encodes-IsAscii, ends_with, false, get_or, get_or-append_seam, is_low, IsCharBoundary-before_ascii, IsUtf8, IsUtf8-from_ascii, IsUtf8-take, length, length-append, List, nat_eq, nat_tests, None, refl, sym, take, take-append-drop, take-append_seam, take-length, take_more, true, ℕ, ◌++◌, ◌+◌, ◌-◌, ◌<◌, ◌==◌, ◌∙◌, ◌∷◌, ◌≡◌, ◌≢◌, ◌≤◌}
 use Rattle.yaml_emitter.proofs.ByteLemmas.{low_at, low_chars}
 
 false_if : (b : Bool) → (b ≡ true → ⊥) → false ≡ b
 false_if a n = grind arith
-
-drop_front : (x w : List ℕ) → drop (length (x ++ w) - length w) (x ++ w) ≡ w
-drop_front x w =
-    let e : length (x ++ w) - length w ≡ length x = omega (arith, length-append x w) in
-    ap (λ k. drop k (x ++ w)) e ∙ drop-append_seam x w
 
 low_encoded : (w : List ℕ) → is_low w ≡ true → encode_utf8_all w ≡ w
 low_encoded w h = encodes-IsAscii w (low_at w h)
@@ -34,7 +28,8 @@ begins_otherwise w s h u lacks = false_if (begins_with w (chars s)) (λ e.
 pub ends_so : (w s front : List ℕ) → is_low w ≡ true → IsUtf8 front → s ≡ front ++ w → true ≡ ends_with nat_eq (chars s) w
 ends_so w s front h u e =
     let f : chars s ≡ chars front ++ w = ap chars e ∙ chars-append front w u ∙ ap (λ x. chars front ++ x) (low_chars w h) in
-    rw (f, drop_front (chars front) w, (bytes_eq-Decides w w).1 refl) refl
+    let n : length (chars front ++ w) - length w ≡ length (chars front) = omega (arith, length-append (chars front) w) in
+    rw (f, n, drop-append_seam, (bytes_eq-Decides w w).1 refl) refl
 
 pub ends_otherwise : (w s : List ℕ) → is_low w ≡ true → IsUtf8 s → ((front : List ℕ) → s ≢ front ++ w) → false ≡ ends_with nat_eq (chars s) w
 ends_otherwise w s h u lacks = false_if (ends_with nat_eq (chars s) w) (λ e.
@@ -57,11 +52,8 @@ ends_by w s false h u m = ends_otherwise w s h u m
 
 no_end : (bs front : List ℕ) (c : ℕ) → bs ≡ front ++ c ∷ [] → get_or bs (length bs - 1) 0 ≡ c
 no_end bs front c e =
-    ap (λ x. get_or x (length x - 1) 0) e ∙ ap (λ k. get_or (front ++ c ∷ []) k 0) (omega (arith, length-append front (c ∷ []))) ∙ by front
-  where
-    by : (x : List ℕ) → get_or (x ++ c ∷ []) (length x) 0 ≡ c
-    by [] = refl
-    by (d ∷ x) = by x
+    let n : length (front ++ c ∷ []) - 1 ≡ length front = omega (arith, length-append front (c ∷ [])) in
+    rw (e, n, get_or-append_seam)
 
 last_apart : (bs : List ℕ) → 1 ≤ length bs → bs ≡ take (length bs - 1) bs ++ get_or bs (length bs - 1) 0 ∷ []
 last_apart bs some =

@@ -1,5 +1,5 @@
 -- The tests of literal blocks.
-use Rattle.yaml_emitter.proofs.Common.{[], and_parts, ap, append-nil, append_assoc, arith, begins_as_marker, begins_blank, begins_well, begins_with, begins_with_mark, below, Bool, bytes_eq-Decides, chars, chars-append, chars_past_char, codes, drop, drop-append_seam, drop-cons, encode_ascii, encode_utf8, ends_with, eq-eqb, false, first_full_line_is_indented, get_or, has_clear_lines, if◌then◌else◌, is_break, is_empty, is_line_feed, is_literal_character, is_literal_text, is_low, is_root_literal, IsCharBoundary, IsCharBoundary-after_ascii, IsCharBoundary-before_ascii, IsFirstCut, IsUnbroken, IsUtf8, IsUtf8-drop, IsUtf8-past_char, IsUtf8-take, last_line, length, length-drop, lines_of, List, list_all, list_any, nat_eq, nat_tests, ne_eqb, new_line, NonePass, not, onto_first_line, or-false, prefix_len, prefix_len_stops, refl, subst, suc, sym, take, take-append-drop, take-append_seam, take-length, true, ℕ, ◌&&◌, ◌++◌, ◌<◌, ◌==◌, ◌||◌, ◌∙◌, ◌∷◌, ◌≡◌, ◌≢◌, ◌≤◌}
+use Rattle.yaml_emitter.proofs.Common.{[], and_parts, ap, append-nil, append_assoc, arith, begins_as_marker, begins_blank, begins_well, begins_with, begins_with_mark, below, Bool, bytes_eq-Decides, chars, chars-append, chars_past_char, codes, drop, drop-append_seam, drop-cons, encode_ascii, encode_utf8, ends_with, false, first_full_line_is_indented, get_or, has_clear_lines, if◌then◌else◌, is_break, is_line_feed, is_literal_character, is_literal_text, is_low, is_root_literal, IsCharBoundary, IsCharBoundary-after_ascii, IsCharBoundary-before_ascii, IsFirstCut, IsUnbroken, IsUtf8, IsUtf8-drop, IsUtf8-past_char, IsUtf8-take, last_line, length, length-drop, lines_of, List, list_all, list_any, nat_eq, nat_tests, new_line, NonePass, not, onto_first_line, or-false, prefix_len, prefix_len_stops, refl, subst, suc, sym, take, take-append-drop, take-append_seam, take-length, true, ℕ, ◌&&◌, ◌++◌, ◌<◌, ◌==◌, ◌||◌, ◌∙◌, ◌∷◌, ◌≡◌, ◌≢◌}
 use Rattle.yaml_chars.specs.Class as class
 use Rattle.yaml_emitter.proofs.ByteLemmas.{all_pass, all_tested}
 use Rattle.yaml_emitter.proofs.EndLemmas.{begins_otherwise, low_front}
@@ -20,18 +20,9 @@ pub root_literal : (t : List ℕ) → is_root_literal t ≡ (is_literal_text t &
 unfolding is_root_literal
 root_literal t = grind arith
 
-pub well_first : (bs rest : List ℕ) (c : ℕ) → IsUtf8 bs → bs ≡ encode_utf8 c ++ rest → c ≢ 10 → begins_well (chars bs) ≡ not (c == 32)
-well_first bs rest c u e n = rw (chars_past_char bs rest c u e, ne_eqb c 10 n) refl
-
-pub well_break : (bs rest : List ℕ) (c : ℕ) → IsUtf8 bs → bs ≡ encode_utf8 c ++ rest → c ≡ 10 → begins_well (chars bs) ≡ begins_well (chars rest)
-well_break bs rest c u e n = rw (chars_past_char bs rest c u e, eq-eqb c 10 n) refl
-
 pub last_line_is : (level : ℕ) (bs : List ℕ) (r : Bool) → IsUtf8 bs → (length bs == 0) ≡ r
     → (if r then [] else new_line level ++ chars bs) ≡ last_line level (chars bs)
-last_line_is level bs r u e = rw (sym e ∙ empty_text bs u) (by (chars bs))
-  where
-    by : (t : List ℕ) → (if is_empty t then [] else new_line level ++ t) ≡ last_line level t
-    by a = grind arith
+last_line_is level bs r u e = rw (sym e ∙ empty_text bs u) (grind arith)
 
 -- ---- marks
 
@@ -65,12 +56,9 @@ none_pass p (x ∷ xs) h = let parts = and_parts (not (p x)) _ h in (grind arith
 abbrev pub runs_on : ℕ → Bool
 runs_on b = not (is_break b)
 
-wide_runs : (c : ℕ) → 128 ≤ c → runs_on c ≡ true
-wide_runs c h = grind (arith, nat_tests)
-
 -- the run before the first line feed
 unbroken_front : (s : List ℕ) → IsUtf8 (take (prefix_len runs_on s) s) → IsUnbroken (chars (take (prefix_len runs_on s) s))
-unbroken_front s u = none_pass is_break _ (all_tested runs_on wide_runs _ u (all_pass runs_on s))
+unbroken_front s u = none_pass is_break _ (all_tested runs_on (λ c h. grind (arith, nat_tests)) _ u (all_pass runs_on s))
 
 pub unbroken : (s : List ℕ) → IsUtf8 s → prefix_len runs_on s ≡ length s → IsUnbroken (chars s)
 unbroken s u e =
@@ -80,11 +68,8 @@ unbroken s u e =
 module _ (s : List ℕ) (u : IsUtf8 s) (n : ℕ) (run : n ≡ prefix_len runs_on s) (within : n < length s) where
   at_break : get_or s n 0 ≡ 10
   at_break =
-      let stops : runs_on (get_or s (prefix_len runs_on s) 0) ≡ false = prefix_len_stops runs_on s 0 (omega (arith, run)) in
-      ap (λ k. get_or s k 0) run ∙ is _ stops
-    where
-      is : (a : ℕ) → runs_on a ≡ false → a ≡ 10
-      is a e = grind (arith, nat_tests)
+      let stops : runs_on (get_or s n 0) ≡ false = rw run (prefix_len_stops runs_on s 0 (omega (arith, run))) in
+      grind (arith, nat_tests)
 
   pub break_boundary : IsCharBoundary s n
   break_boundary = IsCharBoundary-before_ascii s n within (omega (arith, at_break))

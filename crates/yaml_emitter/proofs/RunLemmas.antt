@@ -1,16 +1,10 @@
 -- Runs of bytes as texts.
 use Rattle.std.proofs.lemmas.List.Concat.{flat_map-append}
-use Rattle.yaml_emitter.proofs.Common.{[], and_parts, ap, append-nil, arith, chars, chars-append, chars_past_char, drop, encode_utf8, false, IsCharBoundary, IsRun, IsRunCut, IsUtf8, IsUtf8-drop, IsUtf8-past_char, IsUtf8-take, len_utf8_bounds, length, length-append, length-encode, List, list_all, nat_tests, ne_eqb, nil_from_length, prefix_len, refl, Result, stands, subst, sym, take, take-append-drop, true, writes_as, WritesUnless, written_character, written_escapes, ℕ, ◌++◌, ◌<◌, ◌∙◌, ◌∷◌, ◌≡◌, ◌≢◌, ◌≤◌}
+use Rattle.yaml_emitter.proofs.Common.{[], and_parts, ap, append-nil, arith, chars, chars-append, chars_past_char, drop, encode_utf8, IsCharBoundary, IsRun, IsRunCut, IsUtf8, IsUtf8-drop, IsUtf8-past_char, IsUtf8-take, len_utf8_bounds, length, length-append, length-encode, List, list_all, nat_tests, ne_eqb, nil_from_length, prefix_len, refl, Result, stands, subst, sym, take, take-append-drop, true, writes_as, WritesUnless, written_character, written_escapes, ℕ, ◌++◌, ◌∙◌, ◌∷◌, ◌≡◌, ◌≢◌}
 use Rattle.yaml_emitter.proofs.ByteLemmas.{all_pass, all_tested, run_boundary}
 use Rattle.yaml_emitter.specs.Escaping.{written_code}
 
 -- ---- one character
-
-escaped_low : (c : ℕ) → stands c ≡ false → c < 128
-escaped_low c h = grind (arith, nat_tests)
-
-wide_stands : (c : ℕ) → 128 ≤ c → stands c ≡ true
-wide_stands c h = grind (arith, nat_tests)
 
 stands_written : (c : ℕ) → stands c ≡ true → written_character c ≡ c ∷ []
 unfolding written_character
@@ -24,11 +18,11 @@ run_of (c ∷ cs) h = let parts = and_parts (stands c) (list_all stands cs) h in
 
 -- the text may be cut after its first run
 pub stands_boundary : (bs : List ℕ) → IsCharBoundary bs (prefix_len stands bs)
-stands_boundary bs = run_boundary stands escaped_low bs
+stands_boundary bs = run_boundary stands (λ c h. grind (arith, nat_tests)) bs
 
 front_run : (bs : List ℕ) → IsUtf8 bs → IsRun (chars (take (prefix_len stands bs) bs))
 front_run bs u =
-    run_of _ (all_tested stands wide_stands (take (prefix_len stands bs) bs) (IsUtf8-take bs _ u (stands_boundary bs)) (all_pass stands bs))
+    run_of _ (all_tested stands (λ c h. grind (arith, nat_tests)) (take (prefix_len stands bs) bs) (IsUtf8-take bs _ u (stands_boundary bs)) (all_pass stands bs))
 
 -- where no byte is escaped, or none is left
 pub only_run : (bs : List ℕ) → IsUtf8 bs → length (drop (prefix_len stands bs) bs) ≡ 0 → IsRun (chars bs)

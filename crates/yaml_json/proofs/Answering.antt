@@ -15,5 +15,6 @@ pub use Rattle.yaml_json.proofs.Places.{ended_on, has_scalar, last_put, open_on,
 pub use Rattle.yaml_json.proofs.ReadNumberLemmas.{digits_read, digits_whole, exponent_from, number_cut, number_value, rest_of, some_of}
 pub use Rattle.yaml_json.proofs.SearchLemmas.{has_parts_met, left_sound, meets, no_more_members, no_step, other_step, Passes, passes_more, Searches, searches_in, smaller_in, value_next}
 pub use Rattle.yaml_json.proofs.ShallowLemmas.{next_item, no_items_within, no_pairs_within, not_shallow, nothing_within, only_within, scalar_within, shallow}
-pub use Rattle.yaml_json.proofs.StringLemmas.{begins_with, ended, escaped_string, gone_on, plain_string, pushed, short_ascii, short_read}
+pub use Rattle.yaml_json.proofs.StringLemmas.{ended, escaped_string, gone_on, plain_string, pushed, short_ascii, short_read}
 pub use Rattle.yaml_json.proofs.TextLemmas.{behind_word, blank_taken, cut_first, cut_run, first_is, json_text, nothing_left, run_is, skipped, took, word_is}
+pub use Rattle.yaml_tree.proofs.TextLemmas.{kept_chars}

@@ -1,6 +1,5 @@
 -- What is left to write of levels, the innermost first.
-use Rattle.std.proofs.lemmas.List.{length-set}
-use Rattle.yaml_json.proofs.Common.{[], ap, append-nil, append_assoc, ArePartsGiven, arith, Bool, closing, deeper, Ends, false, get_or, is_block, IsGiven, IsLeft, IsTooWide, json_text, left_after, left_all, left_as, left_none, left_stopped, left_then, length, Level, List, max, mul-le-mul_left, nesting, new_line, opening, Option, part_nodes, parts_left, refl, set, shallower, Stopped, stopped_early, stopped_for, Stops, suc, sym, Tree, tree_left, true, unwrap_or, Wrote, ℕ, ◌*◌, ◌++◌, ◌+◌, ◌-◌, ◌<◌, ◌^◌, ◌∙◌, ◌∷◌, ◌≡◌, ◌≢◌, ◌≤◌}
+use Rattle.yaml_json.proofs.Common.{[], ap, append-nil, append_assoc, ArePartsGiven, arith, Bool, closing, deeper, Ends, false, get_or, is_block, IsGiven, IsLeft, IsTooWide, json_text, left_after, left_all, left_as, left_none, left_stopped, left_then, length, length-set, Level, List, max, mul-le-mul_left, nesting, new_line, opening, Option, part_nodes, parts_left, refl, set, shallower, Stopped, stopped_early, stopped_for, Stops, suc, sym, Tree, tree_left, true, unwrap_or, Wrote, ℕ, ◌*◌, ◌++◌, ◌+◌, ◌-◌, ◌<◌, ◌^◌, ◌∷◌, ◌≡◌, ◌≢◌, ◌≤◌}
 use Rattle.yaml_json.proofs.LeftLemmas.{in_brackets, part_wide}
 use Rattle.yaml_json.proofs.OpenLevels.{trees, reach, weight, part_count, passed_to, waiting, one_more, one_less, so_many}
 
@@ -24,21 +23,13 @@ pub record Stands {W : Type 0} (gives : W → List ℕ → W → Type 0) (i : Op
 in_part : (i : Option ℕ) (m inner : ℕ) (t : Tree) (ts : List Tree) → is_block t ≡ true → inner ≡ deeper i m
     → json_text i m t ++ levels_left false i m ts ≡ opening t ++ levels_left true i inner (t ∷ ts)
 in_part i m inner t ts b e =
-    let up : m ≡ shallower i inner = omega (arith, e) in
-    let flat : (opening t ++ (parts_left true i inner t ++ (new_line i m ++ closing t))) ++ levels_left false i m ts
-    ≡ opening t ++ (parts_left true i inner t ++ ((new_line i m ++ closing t) ++ levels_left false i m ts)) = simp append_assoc in
-    ap (λ x. x ++ levels_left false i m ts) (sym (in_brackets i m inner t e b))
-    ∙ flat
-    ∙ ap (λ k. opening t ++ (parts_left true i inner t ++ ((new_line i k ++ closing t) ++ levels_left false i k ts))) up
+    let up : shallower i inner ≡ m = omega (arith, e) in
+    rw (up, ← in_brackets i m inner t e b) (simp append_assoc)
 
 -- a beginning of what is left was written in part
 left_within : {W : Type 0} {gives : W → List ℕ → W → Type 0} {w v a : W} {text x more : List ℕ} (rest : List ℕ) → IsLeft gives w text v (x ++ rest) → IsLeft gives v x a more
     → IsLeft gives w text a (more ++ rest)
-left_within {more = more} rest p q = left_then p (record {
-  written = q.written;
-  wrote = q.wrote;
-  whole = sym (append_assoc q.written more rest) ∙ ap (λ y. y ++ rest) q.whole;
-})
+left_within {more = more} rest p q = left_then p (record { written = q.written; wrote = q.wrote; whole = cc (append_assoc q.written more rest) })
 
 -- A part that has parts stands next, and behind it what is left of these levels.
 pub record IsBefore {W : Type 0} (gives : W → List ℕ → W → Type 0) (i : Option ℕ) (w : W) (root : Tree) (v : W) (m : ℕ) (part : Tree) (ts : List Tree) : Type 0 where
@@ -74,11 +65,11 @@ module _ {W : Type 0} {gives : W → List ℕ → W → Type 0} {i : Option ℕ}
       → Stopped gives leaves (IsTooWide i 0 (nesting root)) w (json_text i 0 root) b
   opening_stopped q = left_stopped (left_as (in_part i m _ part ts h.has_parts refl) h.left) (stopped_early _ (stopped_for too_wide q))
     where
-      levels : suc (length ts) ≤ nesting root
-      levels = omega (arith, part_wide part h.has_parts, h.no_higher)
-
       too_wide : 2 ^ 64 ≤ deeper i m → IsTooWide i 0 (nesting root)
-      too_wide wide = let more = mul-le-mul_left (unwrap_or i 0) levels in omega (arith, wide, h.margin, more)
+      too_wide wide =
+          let levels : suc (length ts) ≤ nesting root = omega (arith, part_wide part h.has_parts, h.no_higher) in
+          let more = mul-le-mul_left (unwrap_or i 0) levels in
+          omega (arith, wide, h.margin, more)
 
 module _ {W : Type 0} {gives : W → List ℕ → W → Type 0} {i : Option ℕ} {w v : W} {root t : Tree} {first : Bool} {m : ℕ} {ts : List Tree} (h : Stands gives i w root v first m (t ∷ ts)) where
   pub part_next : {a : W} {part u : Tree} → Stops gives i m v first t a part u → IsBefore gives i w root a m part (u ∷ ts)

@@ -1,8 +1,6 @@
 -- Open collections, of which the last is the innermost.
-use Rattle.std.proofs.Common.{length-set, set}
 use Rattle.std.proofs.lemmas.Grind.{take-set_at}
-use Rattle.std.proofs.lemmas.List.{take_more}
-use Rattle.yaml_json.proofs.ReadCommon.{[], ap, AreOpen, arith, Bool, false, HasValue, IsIn, IsValue, length, length-append, List, nat_tests, Puts, PutsLast, refl, same_from_push, slice_index_or, slice_set, subst, suc, sym, take, take_all, Tree, tree_in, true, ℕ, ◌++◌, ◌+◌, ◌-◌, ◌<◌, ◌==◌, ◌∙◌, ◌∷◌, ◌≡◌}
+use Rattle.yaml_json.proofs.ReadCommon.{[], ap, AreOpen, arith, Bool, false, HasValue, IsIn, IsValue, length, length-append, length-set, List, nat_tests, Puts, PutsLast, refl, same_from_push, set, slice_index_or, slice_set, subst, suc, sym, take, take_all, take_more, Tree, tree_in, true, ℕ, ◌++◌, ◌+◌, ◌-◌, ◌<◌, ◌==◌, ◌∙◌, ◌∷◌, ◌≡◌}
 use Rattle.yaml_json.specs.declared.open.Open.{Open}
 use Rattle.yaml_json.specs.declared.open.Open.TheVariants as open_as
 

@@ -1,14 +1,10 @@
 -- Digits, and the parts of a number.
-use Rattle.std.proofs.Math.Seq.{take-append_seam, drop-append_seam}
-use Rattle.yaml_json.proofs.ReadCommon.{[], and_from, and_parts, ap, append-nil, append_assoc, ap₂, are_digits, arith, Bool, chars, drop, Exponent, exponent, false, Fraction, get_or, IfSome, if◌then◌else◌, is_ascii, is_ascii_digit, is_exponent, is_fraction, is_number, is_whole, IsCharBoundary, IsCharBoundary-at_seam, IsDigits, IsExponentPart, IsFractionPart, IsMinus, IsNumber, IsNumberPart, IsSign, IsUtf8, IsValue, IsWhole, length, length-append, letter_e, List, list_all, list_all-append, list_all-more, nat_tests, ne_eqb, not, Number, Option, refl, spell_exponent, spell_fraction, spell_minus, spell_number, suc, sym, take, take_all, Tree, true, ℕ, ◌&&◌, ◌++◌, ◌-◌, ◌<◌, ◌==◌, ◌∙◌, ◌∷◌, ◌≡◌, ◌≤◌}
+use Rattle.yaml_json.proofs.ReadCommon.{[], after_all, and_from, and_parts, ap, append-nil, append_assoc, ap₂, are_digits, arith, Bool, chars, drop, drop-append_seam, Exponent, exponent, false, Fraction, get_or, IfSome, if◌then◌else◌, is_ascii, is_ascii_digit, is_exponent, is_fraction, is_number, is_whole, IsCharBoundary, IsCharBoundary-at_seam, IsDigits, IsExponentPart, IsFractionPart, IsMinus, IsNumber, IsNumberPart, IsSign, IsUtf8, IsValue, IsWhole, length, length-append, letter_e, List, list_all, list_all-append, list_all-more, low_chars, low_front, nat_tests, ne_eqb, not, Number, Option, refl, spell_exponent, spell_fraction, spell_minus, spell_number, suc, sym, take, take-append_seam, take_all, Tree, true, ℕ, ◌&&◌, ◌++◌, ◌-◌, ◌<◌, ◌==◌, ◌∙◌, ◌∷◌, ◌≡◌, ◌≤◌}
 use Rattle.defs_tree.specs.Typing.{typing}
-use Rattle.defs_tree.proofs.GrammarLaws.{after_all}
 use Rattle.defs_tree.proofs.DecimalReading.{begins_in}
 use Rattle.defs_layout.specs.JsonNumber.{number}
 use Rattle.defs_layout.specs.Json as json
 use Rattle.proof_layouts.proofs.Numbers.{numbers_stand_for_their_trees}
-use Rattle.yaml_emitter.proofs.EndLemmas.{low_front}
-use Rattle.yaml_emitter.proofs.ByteLemmas.{low_chars}
 use Rattle.yaml_json.proofs.TextLemmas.{utf8_behind}
 
 -- digits, or none
@@ -84,11 +80,8 @@ number_longer a r h = grind (arith, length-append, whole_longer)
 
 -- ---- its characters are ASCII
 
-low_digit : (c : ℕ) → is_ascii_digit c ≡ true → is_ascii c ≡ true
-low_digit c h = grind (arith, nat_tests)
-
 low_digits : (w : List ℕ) → list_all is_ascii_digit w ≡ true → list_all is_ascii w ≡ true
-low_digits w h = list_all-more is_ascii_digit is_ascii low_digit w h
+low_digits w h = list_all-more is_ascii_digit is_ascii (λ c h. grind (arith, nat_tests)) w h
 
 whole_digits : (w : List ℕ) → is_whole w ≡ true → list_all is_ascii_digit w ≡ true
 whole_digits w h = grind (arith, and_from)

@@ -62,10 +62,6 @@ pub pushed : {A : Type 0} (s t u : String A) (c : ℕ) (run : List ℕ) → IsSc
 unfolding string_chars
 pushed s t u c run scalar e f = ap chars f ∙ chars-append (string_bytes t) run (IsUtf8-string_bytes t) ∙ ap (λ x. x ++ chars run) (string_chars_push s t c scalar e)
 
-pub begins_with : {A : Type 0} (s : String A) (run : List ℕ) → string_bytes s ≡ run → string_chars s ≡ chars run
-unfolding string_chars
-begins_with s run e = ap chars e
-
 -- ---- whole strings
 
 pub plain_string : {run value text rest : List ℕ} → IsRun run text (34 ∷ rest) → value ≡ run → IsStringEnd value text rest

@@ -1,10 +1,7 @@
 -- How a text begins: a character, a word, white space or a run; and what a whole text is.
-use Rattle.yaml_json.proofs.ReadCommon.{[], and_from, and_parts, ap, ap₂, are_pieces, arith, Blank, blank_character, Bool, chars, chars-append, chars-nil, chars_past_char, drop, encode_ascii, encode_utf8_all, encodes-chars, false, get_or, is_ascii, is_unescaped, IsAsciiFirst, IsCharBoundary, IsCharBoundary-after_ascii, IsFirst, IsGap, IsInside, IsJson, IsJsonText, IsRun, IsUtf8, IsUtf8-from_ascii, IsUtf8-take, IsValue, IsWholeValue, itself, Json, length, length-append, levels, List, list_all, nat_tests, nil_from_length, prefix_len, refl, scalars-chars, Skips, spell, spell_gap, stands, subst, suc, sym, TabsBeginLines, take, take-append-drop, Tree, tree_of, true, ℕ, ◌++◌, ◌<◌, ◌==◌, ◌∙◌, ◌∷◌, ◌≡◌, ◌≤◌}
+use Rattle.yaml_json.proofs.ReadCommon.{[], all_pass, all_tested, and_from, and_parts, ap, ap₂, are_pieces, arith, Blank, blank_character, Bool, chars, chars-append, chars-nil, chars_past_char, drop, drop-append_seam, encode_ascii, encode_utf8_all, encodes-chars, get_or, is_ascii, is_unescaped, IsAsciiFirst, IsCharBoundary, IsCharBoundary-after_ascii, IsFirst, IsGap, IsInside, IsJson, IsJsonText, IsRun, IsUtf8, IsUtf8-from_ascii, IsUtf8-take, IsValue, IsWholeValue, itself, Json, length, length-append, levels, List, list_all, low_at, low_front, nat_tests, nil_from_length, prefix_len, refl, run_boundary, scalars-chars, Skips, spell, spell_gap, stands, subst, sym, TabsBeginLines, take, take-append-drop, take-append_seam, Tree, tree_of, true, ℕ, ◌++◌, ◌<◌, ◌==◌, ◌∙◌, ◌∷◌, ◌≡◌, ◌≤◌}
 use lib.Utf8.{scalar, scalars}
-use Rattle.std.proofs.Math.Seq.{take-append_seam, drop-append_seam}
 use Rattle.std.proofs.lemmas.Str.{IsCharBoundary-from_take, IsUtf8-drop}
-use Rattle.yaml_emitter.proofs.EndLemmas.{low_front}
-use Rattle.yaml_emitter.proofs.ByteLemmas.{low_at, all_pass, all_tested, run_boundary}
 
 -- ---- the first character
 
@@ -60,16 +57,13 @@ word_is v h n e = record { value = v; is = h; tree_is = refl; shallow = omega ar
 
 -- ---- white space
 
-nearer : (c : ℕ) (old new : List ℕ) → old ≡ c ∷ new → length new < length old
-nearer c old new e = let n : length old ≡ suc (length new) = ap length e in omega (arith, n)
-
 -- a blank that is taken
 pub blank_taken : (b later : Bool) (blank : Blank) (old new : List ℕ)
     → ((g : List Blank) → TabsBeginLines later g → TabsBeginLines b (blank ∷ g))
     → old ≡ blank_character blank ∷ new → ((end : List ℕ) → IsGap later new end → IsGap b old end) × (length new < length old)
 blank_taken b later blank old new tabs e = (
   λ end g. record { gap = blank ∷ g.gap; tabs = tabs g.gap g.tabs; spelled = ap (λ x. blank_character blank ∷ x) g.spelled ∙ sym e },
-  nearer (blank_character blank) old new e,
+  omega (arith, ap length e),
 )
 
 -- ---- a whole text
@@ -84,12 +78,6 @@ json_text tree text at g w = (
 
 -- ---- a run
 
-low_ends : (c : ℕ) → stands c ≡ false → c < 128
-low_ends c h = grind (arith, nat_tests)
-
-wide_stands : (c : ℕ) → 128 ≤ c → stands c ≡ true
-wide_stands c h = grind (arith, nat_tests)
-
 unescaped_one : (c : ℕ) → scalar c ≡ true → stands c ≡ true → is_unescaped c ≡ true
 unfolding is_unescaped
 unescaped_one c s h = grind (arith, nat_tests)
@@ -102,7 +90,7 @@ unescaped_all (c ∷ cs) s h =
     and_from (is_unescaped c) (list_all is_unescaped cs) (unescaped_one c p.0 q.0) (unescaped_all cs p.1 q.1)
 
 pub cut_run : (bs : List ℕ) (n : ℕ) → n ≡ prefix_len stands bs → IsCharBoundary bs n
-cut_run bs n is = subst (IsCharBoundary bs) (sym is) (run_boundary stands low_ends bs)
+cut_run bs n is = subst (IsCharBoundary bs) (sym is) (run_boundary stands (λ c h. grind (arith, nat_tests)) bs)
 
 -- characters that stand as they are, before the pieces of a string
 pub unescaped_before : (cs more rest end : List ℕ) → list_all is_unescaped cs ≡ true → IsInside more rest end → IsInside (cs ++ more) (cs ++ rest) end
@@ -118,5 +106,5 @@ run_is bs front back n u is f b =
     let whole : chars front ++ chars back ≡ chars bs = sym (chars-append front back utf8) ∙ ap chars (ap₂ (λ x y. x ++ y) f b ∙ take-append-drop n bs) in
     let all : list_all stands front ≡ true = ap (list_all stands) (f ∙ ap (λ k. take k bs) is) ∙ all_pass stands bs in
     let plain : list_all is_unescaped (chars front) ≡ true =
-    unescaped_all (chars front) (scalars-chars front utf8) (all_tested stands wide_stands front utf8 all) in
+    unescaped_all (chars front) (scalars-chars front utf8) (all_tested stands (λ c h. grind (arith, nat_tests)) front utf8 all) in
     record { nearer = omega (arith, ap length whole, length-append (chars front) (chars back)); goes_on = λ more end i. subst (λ x. IsInside (chars front ++ more) x end) whole (unescaped_before (chars front) more (chars back) end plain i) }
