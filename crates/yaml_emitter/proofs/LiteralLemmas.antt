@@ -1,5 +1,5 @@
 -- The tests of literal blocks.
-use Rattle.yaml_emitter.proofs.Common.{[], and_parts, ap, append-nil, append_assoc, arith, begins_as_marker, begins_blank, begins_well, begins_with, begins_with_mark, below, Bool, bytes_eq-Decides, chars, chars-append, chars_past_char, codes, drop, drop-append_seam, drop-cons, encode_ascii, encode_utf8, ends_with, false, first_full_line_is_indented, get_or, has_clear_lines, if◌then◌else◌, is_break, is_line_feed, is_literal_character, is_literal_text, is_low, is_root_literal, IsCharBoundary, IsCharBoundary-after_ascii, IsCharBoundary-before_ascii, IsFirstCut, IsUnbroken, IsUtf8, IsUtf8-drop, IsUtf8-past_char, IsUtf8-take, last_line, length, length-drop, lines_of, List, list_all, list_any, nat_eq, nat_tests, new_line, NonePass, not, onto_first_line, or-false, prefix_len, prefix_len_stops, refl, subst, suc, sym, take, take-append-drop, take-append_seam, take-length, true, ℕ, ◌&&◌, ◌++◌, ◌<◌, ◌==◌, ◌||◌, ◌∙◌, ◌∷◌, ◌≡◌, ◌≢◌}
+use Rattle.yaml_emitter.proofs.Common.{[], and_parts, ap, append-nil, append_assoc, arith, begins_as_marker, begins_blank, begins_well, begins_with, begins_with_mark, below, Bool, bytes_eq-Decides, chars, chars-append, chars_past_char, codes, drop, drop-append_seam, drop-cons, encode_ascii, encode_utf8, ends_with, false, first_full_line_is_indented, get_or, has_clear_lines, if◌then◌else◌, is_break, is_line_feed, is_literal_character, is_literal_text, is_low, is_root_literal, IsCharBoundary, IsCharBoundary-after_ascii, IsCharBoundary-before_ascii, IsFirstCut, IsUnbroken, IsUtf8, IsUtf8-drop, IsUtf8-past_char, IsUtf8-take, last_line, length, length-drop, lines_of, List, list_all, list_any, nat_eq, nat_tests, new_line, NonePass, not, onto_first_line, or-false, prefix_len, prefix_len-le-length, prefix_len_stops, refl, subst, suc, sym, take, take-append-drop, take-append_seam, take-length, true, ℕ, ◌&&◌, ◌++◌, ◌<◌, ◌==◌, ◌||◌, ◌∙◌, ◌∷◌, ◌≡◌, ◌≢◌}
 use Rattle.yaml_chars.specs.Class as class
 use Rattle.yaml_emitter.proofs.ByteLemmas.{all_pass, all_tested}
 use Rattle.yaml_emitter.proofs.EndLemmas.{begins_otherwise, low_front}
@@ -26,8 +26,8 @@ last_line_is level bs r u e = rw (sym e ∙ empty_text bs u) (grind arith)
 
 -- ---- marks
 
-pub after_mark : (w line rest : List ℕ) → is_low w ≡ true → length w ≡ 3 → IsUtf8 rest → line ≡ w ++ rest → begins_blank (chars rest) ≡ begins_with_mark w (chars line)
-after_mark w line rest h n u e = rw (low_front w line rest h e, ← n, take-append_seam, drop-append_seam, (bytes_eq-Decides w w).1 refl) refl
+pub after_mark : (w line rest : List ℕ) → is_low w ≡ true → length w ≡ 3 → line ≡ w ++ rest → begins_blank (chars rest) ≡ begins_with_mark w (chars line)
+after_mark w line rest h n e = rw (low_front w line rest h e, ← n, take-append_seam, drop-append_seam, (bytes_eq-Decides w w).1 refl) refl
 
 pub no_mark : (w line : List ℕ) → is_low w ≡ true → length w ≡ 3 → IsUtf8 line → ((rest : List ℕ) → line ≢ w ++ rest) → false ≡ begins_with_mark w (chars line)
 no_mark w line h n u lacks = rw (← n, ← begins_otherwise w line h u lacks) refl
@@ -65,35 +65,37 @@ unbroken s u e =
     let same : take (prefix_len runs_on s) s ≡ s = ap (λ k. take k s) e ∙ take-length s in
     subst (λ x. IsUnbroken (chars x)) same (unbroken_front s (subst IsUtf8 (sym same) u))
 
-module _ (s : List ℕ) (u : IsUtf8 s) (n : ℕ) (run : n ≡ prefix_len runs_on s) (within : n < length s) where
-  at_break : get_or s n 0 ≡ 10
-  at_break =
-      let stops : runs_on (get_or s n 0) ≡ false = rw run (prefix_len_stops runs_on s 0 (omega (arith, run))) in
-      grind (arith, nat_tests)
+module _ (s : List ℕ) (u : IsUtf8 s) (some : prefix_len runs_on s ≢ length s) where
+  within : prefix_len runs_on s < length s
+  within = omega (arith, some, prefix_len-le-length runs_on s)
 
-  pub break_boundary : IsCharBoundary s n
-  break_boundary = IsCharBoundary-before_ascii s n within (omega (arith, at_break))
+  at_break : get_or s (prefix_len runs_on s) 0 ≡ 10
+  at_break = let stops = prefix_len_stops runs_on s 0 within in grind (arith, nat_tests, stops)
 
-  break_cut : drop n s ≡ 10 ∷ drop (suc n) s
-  break_cut = drop-cons s n 0 within ∙ ap (λ x. x ∷ drop (suc n) s) at_break
+  pub break_boundary : IsCharBoundary s (prefix_len runs_on s)
+  break_boundary = IsCharBoundary-before_ascii s _ within (omega (arith, at_break))
 
-  break_split : drop n s ≡ encode_utf8 10 ++ drop 1 (drop n s)
-  break_split = break_cut ∙ ap (λ x. 10 ∷ x) (sym (ap (drop 1) break_cut)) ∙ ap (λ x. x ++ drop 1 (drop n s)) (sym (encode_ascii 10 (omega arith)))
+  break_cut : drop (prefix_len runs_on s) s ≡ 10 ∷ drop (suc (prefix_len runs_on s)) s
+  break_cut = drop-cons s (prefix_len runs_on s) 0 within ∙ ap (λ x. x ∷ drop (suc (prefix_len runs_on s)) s) at_break
 
-  break_utf8 : IsUtf8 (drop n s)
-  break_utf8 = IsUtf8-drop s n u break_boundary
+  pub break_passed : IsCharBoundary (drop (prefix_len runs_on s) s) 1
+  break_passed =
+      let long = length-drop (prefix_len runs_on s) s in
+      IsCharBoundary-after_ascii _ 0 (IsUtf8-drop s _ u break_boundary) (omega (arith, long, within)) (omega (arith, ap (λ x. get_or x 0 0) break_cut))
 
-  pub break_passed : IsCharBoundary (drop n s) 1
-  break_passed = IsCharBoundary-after_ascii (drop n s) 0 break_utf8 (omega (arith, length-drop n s)) (omega (arith, ap (λ x. get_or x 0 0) break_cut))
-
-  pub first_cut : IsFirstCut s (take n s) (drop 1 (drop n s))
+  pub first_cut : IsFirstCut s (take (prefix_len runs_on s) s) (drop 1 (drop (prefix_len runs_on s) s))
   first_cut =
+      let n = prefix_len runs_on s in
       let front = IsUtf8-take s n u break_boundary in
+      let behind = IsUtf8-drop s n u break_boundary in
+      let split : drop n s ≡ encode_utf8 10 ++ drop 1 (drop n s) =
+          break_cut ∙ ap (λ x. 10 ∷ x) (sym (ap (drop 1) break_cut)) ∙ ap (λ x. x ++ drop 1 (drop n s)) (sym (encode_ascii 10 (omega arith))) in
       record {
-        none_before = subst (λ k. IsUtf8 (take k s) → IsUnbroken (chars (take k s))) (sym run) (unbroken_front s) front;
-        whole = ap chars (sym (take-append-drop n s)) ∙ chars-append (take n s) (drop n s) front ∙ ap (λ t. chars (take n s) ++ t) (chars_past_char (drop n s) (drop 1 (drop n s)) 10 break_utf8 break_split);
-        shorter = omega (arith, length-drop n s, length-drop 1 (drop n s));
-        utf8 = IsUtf8-past_char (drop n s) (drop 1 (drop n s)) 10 break_utf8 break_split;
+        none_before = unbroken_front s front;
+        whole = ap chars (sym (take-append-drop n s)) ∙ chars-append (take n s) (drop n s) front
+            ∙ ap (λ t. chars (take n s) ++ t) (chars_past_char (drop n s) (drop 1 (drop n s)) 10 behind split);
+        shorter = omega (arith, within, length-drop n s, length-drop 1 (drop n s));
+        utf8 = IsUtf8-past_char (drop n s) (drop 1 (drop n s)) 10 behind split;
       }
 
 -- what holds of the lines of a text, the first one apart

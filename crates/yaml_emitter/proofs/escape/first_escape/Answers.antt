@@ -1,18 +1,15 @@
-use Rattle.std.specs.Prelude.{chars}
-use Rattle.yaml_emitter.proofs.Answering.{ap, drop, encode_utf8, IsCharBoundary, IsRun, IsRunCut, length, MatchOption, only_run, prefix_len, run_cut, stands, stands_boundary, subst, sym, take, ◌++◌, ◌∙◌}
+use Rattle.yaml_emitter.proofs.Answering.{ap, drop, encode_utf8, length, only_run, prefix_len, run_cut, stands, stands_boundary, sym, take, ◌++◌, ◌∙◌}
 use Rattle.yaml_emitter.proofs.escape.first_escape.Goals as goal
 
 pub split_at-requires : goal.split_at-requires
 split_at-requires c =
-    let n = c.run_length.ensures ∙ ap (prefix_len stands) c.as_bytes.ensures.value in
-    subst (IsCharBoundary c.args.text.now) (sym n) (stands_boundary c.args.text.now)
+    rw (c.run_length.ensures, c.as_bytes.ensures.value) (stands_boundary c.args.text.now)
 
 pub returns-in_err-c : goal.returns-in_err-c
 returns-in_err-c c =
     let n = c.run_length.ensures ∙ ap (prefix_len stands) c.as_bytes.ensures.value in
     let rest = c.chars-after.ensures.rest ∙ c.split_at.ensures.back ∙ ap (λ k. drop k c.args.text.now) n in
-    subst (λ r. MatchOption r (IsRun (chars c.args.text.now)) (λ x. IsRunCut c.args.text.now x.0.now x.1 x.2.now)) (sym c.from_residual.ensures)
-    (only_run c.args.text.now c.utf8.text (ap length (sym rest) ∙ (c.in_err-c.ensures {u = tt}).steps.0.0))
+    rw c.from_residual.ensures (only_run c.args.text.now c.utf8.text (ap length (sym rest) ∙ (c.in_err-c.ensures {u = tt}).steps.0.0))
 
 pub returns : goal.returns
 returns c =
