@@ -33,7 +33,7 @@ pub use Rattle.yaml_json.specs.Left.{before_entry, closing, flat_text, IsTooWide
 pub use Rattle.yaml_json.specs.Level.{left_in, part_nodes, tree_left}
 pub use Rattle.yaml_json.specs.Nest.{IsOnlyItem, nest_end, Opens}
 pub use Rattle.yaml_json.specs.Parts.{Ends, Stops}
-pub use Rattle.yaml_json.specs.Search.{ArePlain, fault_in, fault_left, IsMet, IsSeen, IsSoundAtRoot, last_step, Meets, step_in}
+pub use Rattle.yaml_json.specs.Search.{ArePlain, fault_in, fault_left, IsMet, IsSoundAtRoot, last_step, Meets, step_in}
 pub use Rattle.yaml_json.specs.Shallow.{are_items_shallow, are_items_whole, are_pairs_shallow, are_pairs_whole, is_shallow, is_whole}
 pub use Rattle.yaml_json.specs.declared.level.Level.{Level}
 pub use Rattle.yaml_tree.specs.Depth.{depth, items_depth, pairs_depth}

@@ -1,5 +1,5 @@
 -- How a text begins: a character, a word, white space or a run; and what a whole text is.
-use Rattle.yaml_json.proofs.ReadCommon.{[], all_pass, all_tested, and_from, and_parts, ap, ap₂, are_pieces, arith, Blank, blank_character, Bool, chars, chars-append, chars-nil, chars_past_char, drop, drop-append_seam, encode_ascii, encode_utf8_all, encodes-chars, get_or, is_ascii, is_unescaped, IsAsciiFirst, IsCharBoundary, IsCharBoundary-after_ascii, IsFirst, IsGap, IsInside, IsJson, IsJsonText, IsRun, IsUtf8, IsUtf8-from_ascii, IsUtf8-take, IsValue, IsWholeValue, itself, Json, length, length-append, levels, List, list_all, low_at, low_front, nat_tests, nil_from_length, prefix_len, refl, run_boundary, scalars-chars, Skips, spell, spell_gap, stands, subst, sym, TabsBeginLines, take, take-append-drop, take-append_seam, Tree, tree_of, true, ℕ, ◌++◌, ◌<◌, ◌==◌, ◌∙◌, ◌∷◌, ◌≡◌, ◌≤◌}
+use Rattle.yaml_json.proofs.ReadCommon.{[], all_pass, all_tested, and_from, and_parts, ap, are_pieces, arith, Blank, blank_character, Bool, chars, chars-append, chars-nil, chars_past_char, drop, drop-append_seam, encode_ascii, encode_utf8_all, encodes-chars, get_or, is_ascii, is_unescaped, IsAsciiFirst, IsCharBoundary, IsCharBoundary-after_ascii, IsFirst, IsGap, IsInside, IsJson, IsJsonText, IsRun, IsUtf8, IsUtf8-from_ascii, IsUtf8-take, IsValue, IsWholeValue, itself, Json, length, length-append, levels, List, list_all, low_at, low_front, nat_tests, nil_from_length, prefix_len, refl, run_boundary, scalars-chars, Skips, spell, spell_gap, stands, sym, TabsBeginLines, take, take-append-drop, take-append_seam, Tree, tree_of, true, ℕ, ◌++◌, ◌<◌, ◌==◌, ◌∙◌, ◌∷◌, ◌≡◌, ◌≤◌}
 use lib.Utf8.{scalar, scalars}
 use Rattle.std.proofs.lemmas.Str.{IsCharBoundary-from_take, IsUtf8-drop}
 
@@ -89,8 +89,8 @@ unescaped_all (c ∷ cs) s h =
     let q = and_parts (stands c) (list_all stands cs) h in
     and_from (is_unescaped c) (list_all is_unescaped cs) (unescaped_one c p.0 q.0) (unescaped_all cs p.1 q.1)
 
-pub cut_run : (bs : List ℕ) (n : ℕ) → n ≡ prefix_len stands bs → IsCharBoundary bs n
-cut_run bs n is = subst (IsCharBoundary bs) (sym is) (run_boundary stands (λ c h. grind (arith, nat_tests)) bs)
+pub cut_run : (bs : List ℕ) → IsCharBoundary bs (prefix_len stands bs)
+cut_run bs = run_boundary stands (λ c h. grind (arith, nat_tests)) bs
 
 -- characters that stand as they are, before the pieces of a string
 pub unescaped_before : (cs more rest end : List ℕ) → list_all is_unescaped cs ≡ true → IsInside more rest end → IsInside (cs ++ more) (cs ++ rest) end
@@ -100,11 +100,14 @@ unescaped_before (c ∷ cs) more rest end h i =
     let r = unescaped_before cs more rest end parts.1 i in
     record { pieces = itself c ∷ r.pieces; are = and_from _ (are_pieces r.pieces) parts.0 r.are; value_is = cc; spelled = cc }
 
-pub run_is : (bs front back : List ℕ) (n : ℕ) → IsUtf8 bs → n ≡ prefix_len stands bs → front ≡ take n bs → back ≡ drop n bs → IsRun (chars front) (chars bs) (chars back)
-run_is bs front back n u is f b =
-    let utf8 : IsUtf8 front = subst IsUtf8 (sym f) (IsUtf8-take bs n u (cut_run bs n is)) in
-    let whole : chars front ++ chars back ≡ chars bs = sym (chars-append front back utf8) ∙ ap chars (ap₂ (λ x y. x ++ y) f b ∙ take-append-drop n bs) in
-    let all : list_all stands front ≡ true = ap (list_all stands) (f ∙ ap (λ k. take k bs) is) ∙ all_pass stands bs in
-    let plain : list_all is_unescaped (chars front) ≡ true =
-    unescaped_all (chars front) (scalars-chars front utf8) (all_tested stands (λ c h. grind (arith, nat_tests)) front utf8 all) in
-    record { nearer = omega (arith, ap length whole, length-append (chars front) (chars back)); goes_on = λ more end i. subst (λ x. IsInside (chars front ++ more) x end) whole (unescaped_before (chars front) more (chars back) end plain i) }
+pub run_is : (bs : List ℕ) → IsUtf8 bs → IsRun (chars (take (prefix_len stands bs) bs)) (chars bs) (chars (drop (prefix_len stands bs) bs))
+run_is bs u =
+    let n = prefix_len stands bs in
+    let utf8 = IsUtf8-take bs n u (cut_run bs) in
+    let whole : chars bs ≡ chars (take n bs) ++ chars (drop n bs) = ap chars (sym (take-append-drop n bs)) ∙ chars-append (take n bs) (drop n bs) utf8 in
+    let all = all_tested stands (λ c h. grind (arith, nat_tests)) (take n bs) utf8 (all_pass stands bs) in
+    let plain = unescaped_all (chars (take n bs)) (scalars-chars (take n bs) utf8) all in
+    record {
+      nearer = omega (arith, ap length whole, length-append (chars (take n bs)) (chars (drop n bs)));
+      goes_on = λ more end i. rw whole (unescaped_before (chars (take n bs)) more (chars (drop n bs)) end plain i);
+    }

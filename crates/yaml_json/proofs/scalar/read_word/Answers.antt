@@ -6,8 +6,7 @@ returns-then-take_word c = word_is true_word tt refl (rw c.if-take_word.true at 
 
 pub returns-then-take_word-2 : goal.returns-then-take_word-2
 returns-then-take_word-2 c =
-    let none = rw c.if-take_word.false at c.take_word.ensures in
-    word_is false_word tt refl (rw c.if-take_word-2.true at c.take_word-2.ensures ∙ none)
+    word_is false_word tt refl (rw c.if-take_word-2.true at c.take_word-2.ensures ∙ rw c.if-take_word.false at c.take_word.ensures)
 
 pub returns-then-take_word-3 : goal.returns-then-take_word-3
 returns-then-take_word-3 c =
