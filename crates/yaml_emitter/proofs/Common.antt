@@ -1,5 +1,5 @@
 -- The words of other crates and of specs/ that the proofs here use, and the lemmas on writes, passed on from one place. Declares nothing.
-pub use Rattle.std.proofs.Common.{[], add-one, ap, append-nil, append_assoc, arith, Bool, drop, eq-eqb, false, get_or, inl, inr, length, length-append, List, ltb, ne_eqb, not, pos, refl, replicate, subst, suc, sym, T, take, to_z-of_z, true, true≢false, zero, ℕ, ℤ, ◌&&◌, ◌*◌, ◌++◌, ◌+◌, ◌-◌, ◌<◌, ◌||◌, ◌↔◌, ◌∙◌, ◌∷◌, ◌≡◌, ◌≢◌, ◌≤◌}
+pub use Rattle.std.proofs.Common.{[], add-one, ap, append-nil, append_assoc, arith, bit_or, Bool, codes, drop, encode_utf8, encode_utf8_all, eq-eqb, false, get_or, if◌then◌else◌, inl, inr, int_le, is_some, IsErr, IsOk, IsTrue, length, length-append, List, ltb, map, MatchOption, max, nat_eq, nat_lt, ne_eqb, None, not, OnErr, OnOk, Option, pos, refl, replicate, Result, slice_index, string_bytes, subst, suc, sym, T, take, to_z-of_z, true, true≢false, unsigned_abs, zero, ℕ, ℤ, ◌%◌, ◌&&◌, ◌*◌, ◌++◌, ◌+◌, ◌-◌, ◌/◌, ◌<◌, ◌==◌, ◌^◌, ◌||◌, ◌↔◌, ◌∙◌, ◌∷◌, ◌≡◌, ◌≢◌, ◌≤◌}
 pub use Rattle.std.proofs.Math.Seq.{drop-append_seam, drop-cons, get_or-append_seam, take-append_seam, take-length}
 pub use Rattle.std.proofs.Output.{has_written_append, has_written_of_eq, writes_in_calls_nil}
 pub use Rattle.std.proofs.lemmas.Bool.{and_from, and_parts, cases_order, false_from_ne_true, lt-ltb}
@@ -14,7 +14,6 @@ pub use Rattle.std.proofs.lemmas.Str.{chars-append, chars-IsAscii, chars-nil, ch
 pub use Rattle.std.specs.Char.{is_ascii_lowercase, to_ascii_lowercase}
 pub use Rattle.std.specs.Fmt.{decimal, HasWritten, signed_decimal}
 pub use Rattle.std.specs.List.{concat, ends_with, FoldsTo, list_all, list_any, prefix_len}
-pub use Rattle.std.specs.Prelude.{bit_or, codes, encode_utf8, encode_utf8_all, if◌then◌else◌, int_le, is_some, IsErr, IsOk, IsTrue, map, MatchOption, max, nat_eq, nat_lt, None, OnErr, OnOk, Option, Result, slice_index, string_bytes, unsigned_abs, ◌%◌, ◌/◌, ◌==◌, ◌^◌}
 pub use Rattle.std.specs.Str.{chars, IsAscii, IsCharBoundary, IsUtf8, NonePass}
 pub use Rattle.std.specs.Str.Iter.{chars_rest}
 pub use Rattle.yaml_tree.proofs.ItemsLemmas.{pair_list_of_pairs}

@@ -10,8 +10,8 @@ pub parts_then : {c : List ℕ} (a b more : List ℕ) → a ++ b ≡ c → c ++ 
 parts_then a b more e = rw (← e) (append_assoc a b more)
 
 -- of entries: what stands before the first, and that one
-pub entry_left : {X W : Type 0} (s : Entries X) {gives : W → List ℕ → W → Type 0} {w : W} {us xs : List X} {x : X} (first : Bool) (more : List ℕ) → us ≡ x ∷ xs
-    → IsLeft gives w (s.text first us ++ more) w (s.before first ++ (s.part x ++ (s.text false xs ++ more)))
+pub entry_left : {X W : Type 0} (s : Entries X) {gives : W → List ℕ → W → Type 0} {w : W} {us xs : List X} {x : X} (first : Bool)
+    (more : List ℕ) → us ≡ x ∷ xs → IsLeft gives w (s.text first us ++ more) w (s.before first ++ (s.part x ++ (s.text false xs ++ more)))
 entry_left s {xs = xs} {x} first more e =
     left_as (ap (λ us. s.text first us ++ more) e ∙ ap (λ t. t ++ more) (s.more_text first x xs) ∙ simp append_assoc) left_all
 

@@ -65,13 +65,15 @@ pub record AreLeft {X : Type 0} (s : Entries X) {W : Type 0} (gives : W → List
   pub no_higher : s.levels rest ≤ s.levels all
   pub decide : Decide s.members all rest
 
-pub all_left : {X : Type 0} {s : Entries X} {W : Type 0} {gives : W → List ℕ → W → Type 0} {w : W} {rest all : List X} → rest ≡ all → AreLeft s gives w all w true rest
+pub all_left : {X : Type 0} {s : Entries X} {W : Type 0} {gives : W → List ℕ → W → Type 0} {w : W} {rest all : List X} → rest ≡ all
+    → AreLeft s gives w all w true rest
 all_left e = rw e (record { left = left_all; no_higher = omega arith; decide = all_decide refl })
 
 module _ {X : Type 0} {s : Entries X} {W : Type 0} {gives : W → List ℕ → W → Type 0} {w v : W} {all xs : List X} {is_first : Bool}
     (l : AreLeft s gives w all v is_first xs) where
   -- what is left, its first entry apart
-  first_apart : {rest : List X} {x : X} → xs ≡ x ∷ rest → IsLeft gives w (s.text true all) v ((s.before is_first ++ s.part x) ++ s.text false rest)
+  first_apart : {rest : List X} {x : X} → xs ≡ x ∷ rest
+      → IsLeft gives w (s.text true all) v ((s.before is_first ++ s.part x) ++ s.text false rest)
   first_apart {rest} {x} e =
       left_as (ap (s.text is_first) e ∙ s.more_text is_first x rest ∙ sym (append_assoc (s.before is_first) (s.part x) _)) l.left
 
@@ -83,8 +85,9 @@ module _ {X : Type 0} {s : Entries X} {W : Type 0} {gives : W → List ℕ → W
     decide = rest_decides l.decide e f;
   }
 
-  pub entry_stopped : {E : Type 0} {r : Result (Unit {0}) E} {leaves : W → List ℕ → W → Type 0} {reason : Type 0} {u : W} {rest : List X} {x : X} → xs ≡ x ∷ rest
-      → IsErr r → Stopped gives leaves reason v (s.before is_first ++ s.part x) u → WritesUnless reason gives leaves w r (s.text true all) u
+  pub entry_stopped : {E : Type 0} {r : Result (Unit {0}) E} {leaves : W → List ℕ → W → Type 0} {reason : Type 0} {u : W} {rest : List X}
+      {x : X} → xs ≡ x ∷ rest → IsErr r → Stopped gives leaves reason v (s.before is_first ++ s.part x) u
+      → WritesUnless reason gives leaves w r (s.text true all) u
   entry_stopped {rest = rest} e k stop = writes_err k (left_stopped (first_apart e) (stopped_early (s.text false rest) stop))
 
   pub none_left : xs ≡ [] → Wrote gives w (s.text true all) v

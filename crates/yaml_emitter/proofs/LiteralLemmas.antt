@@ -26,7 +26,8 @@ last_line_is level bs r u e = rw (sym e ∙ empty_text bs u) (grind arith)
 
 -- ---- marks
 
-pub after_mark : (w line rest : List ℕ) → is_low w ≡ true → length w ≡ 3 → line ≡ w ++ rest → begins_blank (chars rest) ≡ begins_with_mark w (chars line)
+pub after_mark : (w line rest : List ℕ) → is_low w ≡ true → length w ≡ 3 → line ≡ w ++ rest
+    → begins_blank (chars rest) ≡ begins_with_mark w (chars line)
 after_mark w line rest h n e = rw (low_front w line rest h e, ← n, take-append_seam, drop-append_seam, (bytes_eq-Decides w w).1 refl) refl
 
 pub no_mark : (w line : List ℕ) → is_low w ≡ true → length w ≡ 3 → IsUtf8 line → ((rest : List ℕ) → line ≢ w ++ rest) → false ≡ begins_with_mark w (chars line)
@@ -81,7 +82,8 @@ module _ (s : List ℕ) (u : IsUtf8 s) (some : prefix_len runs_on s ≢ length s
   pub break_passed : IsCharBoundary (drop (prefix_len runs_on s) s) 1
   break_passed =
       let long = length-drop (prefix_len runs_on s) s in
-      IsCharBoundary-after_ascii _ 0 (IsUtf8-drop s _ u break_boundary) (omega (arith, long, within)) (omega (arith, ap (λ x. get_or x 0 0) break_cut))
+      IsCharBoundary-after_ascii _ 0 (IsUtf8-drop s _ u break_boundary) (omega (arith, long, within))
+      (omega (arith, ap (λ x. get_or x 0 0) break_cut))
 
   pub first_cut : IsFirstCut s (take (prefix_len runs_on s) s) (drop 1 (drop (prefix_len runs_on s) s))
   first_cut =
@@ -89,7 +91,8 @@ module _ (s : List ℕ) (u : IsUtf8 s) (some : prefix_len runs_on s ≢ length s
       let front = IsUtf8-take s n u break_boundary in
       let behind = IsUtf8-drop s n u break_boundary in
       let split : drop n s ≡ encode_utf8 10 ++ drop 1 (drop n s) =
-          break_cut ∙ ap (λ x. 10 ∷ x) (sym (ap (drop 1) break_cut)) ∙ ap (λ x. x ++ drop 1 (drop n s)) (sym (encode_ascii 10 (omega arith))) in
+          break_cut ∙ ap (λ x. 10 ∷ x) (sym (ap (drop 1) break_cut)) ∙ ap (λ x. x ++ drop 1 (drop n s))
+          (sym (encode_ascii 10 (omega arith))) in
       record {
         none_before = unbroken_front s front;
         whole = ap chars (sym (take-append-drop n s)) ∙ chars-append (take n s) (drop n s) front

@@ -52,7 +52,8 @@ pair_entries c m level = record {
 
 -- the two forms of a pair
 pub pair_form : (c m : Bool) (level : ℕ) (k v : Tree) {b : Bool} → b ≡ is_scalar k
-    → (if b then spelling k ++ (codes ":" ++ after_mark true level v (box c m false v)) else complex_text c m level k v) ≡ pair_text c m level k v
+    → (if b then spelling k ++ (codes ":" ++ after_mark true level v (box c m false v)) else complex_text c m level k v)
+    ≡ pair_text c m level k v
 pair_form c m level k v e = rw e refl
 
 -- what stands after a mark: a scalar or a block

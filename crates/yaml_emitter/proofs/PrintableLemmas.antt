@@ -7,7 +7,9 @@ abbrev printable : ℕ → Bool
 printable c = not (is_unprintable c)
 
 front_low : (bs : List ℕ) → is_low (take (prefix_len printable bs) bs) ≡ true
-front_low bs = list_all-more printable (λ c. nat_lt c 128) (λ c h. grind (arith, nat_tests)) (take (prefix_len printable bs) bs) (all_pass printable bs)
+front_low bs =
+    list_all-more printable (λ c. nat_lt c 128) (λ c h. grind (arith, nat_tests)) (take (prefix_len printable bs) bs)
+    (all_pass printable bs)
 
 front_utf8 : (bs : List ℕ) → IsUtf8 (take (prefix_len printable bs) bs)
 front_utf8 bs = IsUtf8-from_ascii _ (low_at _ (front_low bs))
@@ -22,7 +24,8 @@ rest_printable bs =
     let n = prefix_len printable bs in
     let front = take n bs in
     let split : chars bs ≡ chars front ++ chars (drop n bs) = ap chars (sym (take-append-drop n bs)) ∙ chars-append front (drop n bs) (front_utf8 bs) in
-    let passes : list_all is_literal_character (chars front) ≡ true = ap (list_all is_literal_character) (low_chars front (front_low bs)) ∙ list_all-more printable is_literal_character (λ c h. grind (arith, nat_tests)) front (all_pass printable bs) in
+    let passes : list_all is_literal_character (chars front) ≡ true = ap (list_all is_literal_character) (low_chars front (front_low bs))
+    ∙ list_all-more printable is_literal_character (λ c h. grind (arith, nat_tests)) front (all_pass printable bs) in
     rw (split, list_all-append is_literal_character (chars front) (chars (drop n bs)), passes) refl
 
 -- ---- a line feed

@@ -22,7 +22,8 @@ stands_boundary bs = run_boundary stands (λ c h. grind (arith, nat_tests)) bs
 
 front_run : (bs : List ℕ) → IsUtf8 bs → IsRun (chars (take (prefix_len stands bs) bs))
 front_run bs u =
-    run_of _ (all_tested stands (λ c h. grind (arith, nat_tests)) (take (prefix_len stands bs) bs) (IsUtf8-take bs _ u (stands_boundary bs)) (all_pass stands bs))
+    run_of _ (all_tested stands (λ c h. grind (arith, nat_tests)) (take (prefix_len stands bs) bs) (IsUtf8-take bs _ u (stands_boundary bs))
+    (all_pass stands bs))
 
 -- where no byte is escaped, or none is left
 pub only_run : (bs : List ℕ) → IsUtf8 bs → length (drop (prefix_len stands bs) bs) ≡ 0 → IsRun (chars bs)
@@ -54,7 +55,8 @@ run_cut bs run back c u e f =
 
 -- ---- how it is written
 
-pub cut_written : {bs run back : List ℕ} {c : ℕ} → IsRunCut bs run c back → written_escapes (chars bs) ≡ chars run ++ (written_character c ++ written_escapes (chars back))
+pub cut_written : {bs run back : List ℕ} {c : ℕ} → IsRunCut bs run c back
+    → written_escapes (chars bs) ≡ chars run ++ (written_character c ++ written_escapes (chars back))
 cut_written {run = run} {back} {c} m =
     ap written_escapes m.whole ∙ flat_map-append written_character (chars run) (c ∷ chars back)
     ∙ ap (λ x. x ++ (written_character c ++ written_escapes (chars back))) m.stands

@@ -17,7 +17,8 @@ lower_after a = grind (arith, same_sign)
 
 pub float_word : (t : List ℕ) → is_float_word t ≡ is_among float_names (map to_ascii_lowercase (after_one is_sign t))
 float_word t =
-    optional_one-after is_sign (λ x. followed_by (is_among float_names) is_empty x) (λ c cs e. followed_by-empty (is_among float_names) (c ∷ cs) ∙ grind (arith, nat_tests)) (map to_ascii_lowercase t)
+    optional_one-after is_sign (λ x. followed_by (is_among float_names) is_empty x)
+    (λ c cs e. followed_by-empty (is_among float_names) (c ∷ cs) ∙ grind (arith, nat_tests)) (map to_ascii_lowercase t)
     ∙ followed_by-empty (is_among float_names) (after_one is_sign (map to_ascii_lowercase t))
     ∙ ap (is_among float_names) (lower_after t)
 
@@ -44,7 +45,8 @@ name_of_bytes bs u = by (low bs) refl
 
     by : (b : Bool) → low bs ≡ b → is_name bs ≡ is_name (chars bs)
     by true e = ap is_name (sym (low_chars bs e))
-    by false e = wide_name bs e ∙ sym (wide_name (chars bs) (false_from_ne_true _ (λ h. true≢false (sym (ascii_low bs (low_bytes bs u h)) ∙ e))))
+    by false e =
+        wide_name bs e ∙ sym (wide_name (chars bs) (false_from_ne_true _ (λ h. true≢false (sym (ascii_low bs (low_bytes bs u h)) ∙ e))))
 
 pub word_of_bytes : (bs : List ℕ) → IsUtf8 bs → (is_name bs || not (is_string (typing (chars bs)))) ≡ is_word (chars bs)
 word_of_bytes bs u = ap (λ b. b || not (is_string (typing (chars bs)))) (name_of_bytes bs u)

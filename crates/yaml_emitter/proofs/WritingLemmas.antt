@@ -39,7 +39,8 @@ module _ {W : Type 0} {gives : W → List ℕ → W → Type 0} where
   left_as {w} {v} {text} e = subst (λ t. IsLeft gives w text v t) e
 
   pub left_after : {w v u : W} {text a b : List ℕ} → IsLeft gives w text v (a ++ b) → Wrote gives v a u → IsLeft gives w text u b
-  left_after {a = a} {b} p q = record { written = p.written ++ a; wrote = wrote_then p.wrote q; whole = append_assoc p.written a b ∙ p.whole }
+  left_after {a = a} {b} p q =
+      record { written = p.written ++ a; wrote = wrote_then p.wrote q; whole = append_assoc p.written a b ∙ p.whole }
 
   pub left_then : {w v u : W} {text a b : List ℕ} → IsLeft gives w text v a → IsLeft gives v a u b → IsLeft gives w text u b
   left_then {b = b} p q = record {
@@ -51,13 +52,14 @@ module _ {W : Type 0} {gives : W → List ℕ → W → Type 0} where
   pub left_none : {w v : W} {text : List ℕ} → IsLeft gives w text v [] → Wrote gives w text v
   left_none p = rw (sym (append-nil p.written) ∙ p.whole) at p.wrote
 
-  module _ {leaves : W → List ℕ → W → Type 0} where
+  module _ {leaves : W → List ℕ → W → Type 0} {reason : Type 0} where
     -- a stop before a call
-    pub stopped_at : {reason : Type 0} {w v : W} {text rest : List ℕ} → reason → IsLeft gives w text v rest → Stopped gives leaves reason w text v
-    stopped_at {v = v} {rest = rest} e l = record { written = l.written; rest = rest; at = v; wrote = l.wrote; whole = l.whole; end = inr (e, refl) }
+    pub stopped_at : {w v : W} {text rest : List ℕ} → reason → IsLeft gives w text v rest → Stopped gives leaves reason w text v
+    stopped_at {v = v} {rest = rest} e l =
+        record { written = l.written; rest = rest; at = v; wrote = l.wrote; whole = l.whole; end = inr (e, refl) }
 
     -- a stop, where more was to be written
-    pub stopped_early : {reason : Type 0} {w v : W} {a : List ℕ} (b : List ℕ) → Stopped gives leaves reason w a v → Stopped gives leaves reason w (a ++ b) v
+    pub stopped_early : {w v : W} {a : List ℕ} (b : List ℕ) → Stopped gives leaves reason w a v → Stopped gives leaves reason w (a ++ b) v
     stopped_early b p = record {
       written = p.written;
       rest = p.rest ++ b;
@@ -71,7 +73,7 @@ module _ {W : Type 0} {gives : W → List ℕ → W → Type 0} where
     }
 
     -- a stop after what was written
-    pub stopped_late : {reason : Type 0} {w v u : W} {a b : List ℕ} → Wrote gives w a v → Stopped gives leaves reason v b u
+    pub stopped_late : {w v u : W} {a b : List ℕ} → Wrote gives w a v → Stopped gives leaves reason v b u
         → Stopped gives leaves reason w (a ++ b) u
     stopped_late {a = a} p q = record {
       written = a ++ q.written;
@@ -83,7 +85,8 @@ module _ {W : Type 0} {gives : W → List ℕ → W → Type 0} where
     }
 
     -- a stop for another reason
-    pub stopped_for : {reason other : Type 0} {w v : W} {a : List ℕ} → (reason → other) → Stopped gives leaves reason w a v → Stopped gives leaves other w a v
+    pub stopped_for : {other : Type 0} {w v : W} {a : List ℕ} → (reason → other) → Stopped gives leaves reason w a v
+        → Stopped gives leaves other w a v
     stopped_for f p = record {
       written = p.written;
       rest = p.rest;
@@ -93,15 +96,11 @@ module _ {W : Type 0} {gives : W → List ℕ → W → Type 0} where
       end = elim p.end [ inl r ↦ inl r | inr e ↦ inr (f e.0, e.1) ];
     }
 
-    -- a call that only a refusal stops, where more was to be written
-    pub stopped_first : {reason : Type 0} {w v : W} {a : List ℕ} (b : List ℕ) → Stopped gives leaves ⊥ w a v → Stopped gives leaves reason w (a ++ b) v
-    stopped_first b p = stopped_early b (stopped_for (λ b. absurd b) p)
-
     -- the same text in another form
-    pub stopped_as : {reason : Type 0} {w v : W} {a b : List ℕ} → a ≡ b → Stopped gives leaves reason w a v → Stopped gives leaves reason w b v
-    stopped_as {reason} {w} {v} e = subst (λ t. Stopped gives leaves reason w t v) e
+    pub stopped_as : {w v : W} {a b : List ℕ} → a ≡ b → Stopped gives leaves reason w a v → Stopped gives leaves reason w b v
+    stopped_as {w} {v} e = subst (λ t. Stopped gives leaves reason w t v) e
 
-    pub left_stopped : {reason : Type 0} {w v u : W} {text a : List ℕ} → IsLeft gives w text v a → Stopped gives leaves reason v a u
+    pub left_stopped : {w v u : W} {text a : List ℕ} → IsLeft gives w text v a → Stopped gives leaves reason v a u
         → Stopped gives leaves reason w text u
     left_stopped p q = rw p.whole at (stopped_late p.wrote q)
 
@@ -109,30 +108,35 @@ module _ {W : Type 0} {gives : W → List ℕ → W → Type 0} where
 
     module _ {E : Type 0} {r : Result (Unit {0}) E} where
       -- a call after what was written
-      pub writes_late : {reason : Type 0} {w v u : W} {a b : List ℕ} → Wrote gives w a v → WritesUnless reason gives leaves v r b u
+      pub writes_late : {w v u : W} {a b : List ℕ} → Wrote gives w a v → WritesUnless reason gives leaves v r b u
           → WritesUnless reason gives leaves w r (a ++ b) u
       writes_late p q = record { ok = λ k. wrote_then p (q.ok k); err = λ k. stopped_late p (q.err k) }
 
       -- the same call, with more reasons
-      pub writes_for : {reason other : Type 0} {w v : W} {a : List ℕ} → (reason → other) → WritesUnless reason gives leaves w r a v
+      pub writes_for : {other : Type 0} {w v : W} {a : List ℕ} → (reason → other) → WritesUnless reason gives leaves w r a v
           → WritesUnless other gives leaves w r a v
       writes_for f q = record { ok = q.ok; err = λ k. stopped_for f (q.err k) }
 
       -- the same text in another form
-      pub writes_as : {reason : Type 0} {w v : W} {a b : List ℕ} → a ≡ b → WritesUnless reason gives leaves w r a v → WritesUnless reason gives leaves w r b v
-      writes_as {reason} {w} {v} e = subst (λ t. WritesUnless reason gives leaves w r t v) e
+      pub writes_as : {w v : W} {a b : List ℕ} → a ≡ b → WritesUnless reason gives leaves w r a v → WritesUnless reason gives leaves w r b v
+      writes_as {w} {v} e = subst (λ t. WritesUnless reason gives leaves w r t v) e
 
       -- of a function that is stopped
-      pub writes_err : {reason : Type 0} {w v : W} {a : List ℕ} → IsErr r → Stopped gives leaves reason w a v → WritesUnless reason gives leaves w r a v
+      pub writes_err : {w v : W} {a : List ℕ} → IsErr r → Stopped gives leaves reason w a v → WritesUnless reason gives leaves w r a v
       writes_err e p = record { ok = λ k. absurd (not_both r e k); err = λ _. p }
 
       -- of a function that has written all
-      pub writes_ok : {reason : Type 0} {w v : W} {a : List ℕ} → IsOk r → Wrote gives w a v → WritesUnless reason gives leaves w r a v
+      pub writes_ok : {w v : W} {a : List ℕ} → IsOk r → Wrote gives w a v → WritesUnless reason gives leaves w r a v
       writes_ok e p = record { ok = λ _. p; err = λ k. absurd (not_both r k e) }
 
-      pub left_writes : {reason : Type 0} {w v u : W} {text a : List ℕ} → IsLeft gives w text v a → WritesUnless reason gives leaves v r a u
+      pub left_writes : {w v u : W} {text a : List ℕ} → IsLeft gives w text v a → WritesUnless reason gives leaves v r a u
           → WritesUnless reason gives leaves w r text u
       left_writes p q = rw p.whole at (writes_late p.wrote q)
+
+  -- a call that only a refusal stops, where more was to be written
+  pub stopped_first : {leaves : W → List ℕ → W → Type 0} {reason : Type 0} {w v : W} {a : List ℕ} (b : List ℕ)
+      → Stopped gives leaves ⊥ w a v → Stopped gives leaves reason w (a ++ b) v
+  stopped_first b p = stopped_early b (stopped_for (λ b. absurd b) p)
 
 -- a call that is refused
 pub stopped_one : {W : Type 0} {reason : Type 0} (gives leaves : W → List ℕ → W → Type 0) (w v : W) (a : List ℕ) → leaves w a v → Stopped gives leaves reason w a v

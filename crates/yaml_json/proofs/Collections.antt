@@ -10,10 +10,11 @@ use Rattle.defs_layout.specs.Json as json
 -- ---- arrays
 
 one_item : {t : Tree} {n : ℕ} {at rest end : List ℕ} → IsValue t n at rest → IsGap false rest end → AreItems (t ∷ []) n at end
-one_item v g = record { elements = json.last_element v.value g.gap; are = (v.is, g.tabs); trees_are = cc; shallow = v.shallow; spelled = cc }
+one_item v g =
+    record { elements = json.last_element v.value g.gap; are = (v.is, g.tabs); trees_are = cc; shallow = v.shallow; spelled = cc }
 
-item_before : {t : Tree} {ts : List Tree} {n : ℕ} {at rest behind next end : List ℕ} → IsValue t n at rest → IsGap false rest (comma ∷ behind)
-    → IsGap false behind next → AreItems ts n next end → AreItems (t ∷ ts) n at end
+item_before : {t : Tree} {ts : List Tree} {n : ℕ} {at rest behind next end : List ℕ} → IsValue t n at rest
+    → IsGap false rest (comma ∷ behind) → IsGap false behind next → AreItems ts n next end → AreItems (t ∷ ts) n at end
 item_before v g h es = record {
   elements = json.element v.value g.gap h.gap es.elements;
   are = (v.is, g.tabs, h.tabs, es.are);
@@ -24,7 +25,8 @@ item_before v g h es = record {
 
 pub array_begun : {n : ℕ} {inner rest : List ℕ} → IsGap false inner rest → IsInArray [] n (left_bracket ∷ inner) rest
 array_begun g = record {
-  ends = λ more end es. record { value = json.array g.gap es.elements; is = (g.tabs, es.are); tree_is = cc; shallow = omega arith; spelled = cc };
+  ends = λ more end es. record { value = json.array g.gap es.elements; is =
+      (g.tabs, es.are); tree_is = cc; shallow = omega arith; spelled = cc };
 }
 
 pub array_empty : {n : ℕ} {inner rest : List ℕ} → 1 ≤ n → IsGap false inner (right_bracket ∷ rest) → IsValue (array_tree []) n (left_bracket ∷ inner) rest
@@ -84,8 +86,8 @@ pair_added k v ps qs e is =
 
 -- ---- what the innermost takes
 
-pub member_put : {ps qs : List (Tree × Tree)} {k next t : Tree} {r0 r1 r2 r3 : List ℕ} → Adds ps k t qs → IsGap false r0 (44 ∷ r1) → IsGap false r1 r2 → IsKey next r2 r3
-    → PutsMember ps k t false qs next r0 r3
+pub member_put : {ps qs : List (Tree × Tree)} {k next t : Tree} {r0 r1 r2 r3 : List ℕ} → Adds ps k t qs → IsGap false r0 (44 ∷ r1)
+    → IsGap false r1 r2 → IsKey next r2 r3 → PutsMember ps k t false qs next r0 r3
 member_put {qs = qs} {k} {t = t} {r2 = r2} a g h key n text at o v = record {
   at = r2;
   before = record {
@@ -97,16 +99,19 @@ member_put {qs = qs} {k} {t = t} {r2 = r2} a g h key n text at o v = record {
   key_is = key;
 }
 
-pub member_last : {ps qs : List (Tree × Tree)} {k t : Tree} {r0 r1 : List ℕ} (next : Tree) → Adds ps k t qs → IsGap false r0 (125 ∷ r1) → PutsMember ps k t true qs next r0 r1
+pub member_last : {ps qs : List (Tree × Tree)} {k t : Tree} {r0 r1 : List ℕ} (next : Tree) → Adds ps k t qs → IsGap false r0 (125 ∷ r1)
+    → PutsMember ps k t true qs next r0 r1
 member_last next a g n text at o v = rw a.pairs (o.before.ends _ _ (one_pair o.key_is v g) (rw a.pairs at (a.distinct o.before.distinct)))
 
-pub item_put : {ts : List Tree} {t : Tree} {r0 r1 r2 : List ℕ} → IsGap false r0 (44 ∷ r1) → IsGap false r1 r2 → PutsItem ts t false (ts ++ t ∷ []) r0 r2
+pub item_put : {ts : List Tree} {t : Tree} {r0 r1 r2 : List ℕ} → IsGap false r0 (44 ∷ r1) → IsGap false r1 r2
+    → PutsItem ts t false (ts ++ t ∷ []) r0 r2
 item_put {t = t} g h n text at a v = record { ends = λ more end es. rw append_assoc (a.ends (t ∷ more) end (item_before v g h es)) }
 
 pub item_last : {ts : List Tree} {t : Tree} {r0 r1 : List ℕ} → IsGap false r0 (93 ∷ r1) → PutsItem ts t true (ts ++ t ∷ []) r0 r1
 item_last g n text at a v = a.ends _ _ (one_item v g)
 
-pub key_read : {value r0 r1 r2 r3 : List ℕ} → IsStringEnd value r0 r1 → IsGap false r1 (58 ∷ r2) → IsGap false r2 r3 → IsKey (Tree.string value) (34 ∷ r0) r3
+pub key_read : {value r0 r1 r2 r3 : List ℕ} → IsStringEnd value r0 r1 → IsGap false r1 (58 ∷ r2) → IsGap false r2 r3
+    → IsKey (Tree.string value) (34 ∷ r0) r3
 key_read s g h = record {
   pieces = s.pieces;
   are = s.are;

@@ -48,8 +48,10 @@ later_members i m a = grind arith
 
 -- The first part of what is left, where so many nodes were passed: what stands before it, the step to it, and what is left after it, with
 -- so many nodes passed. `K` is what is given of its key.
-pub record IsNext (t : Tree) (passed : ℕ) (before : Bool → Option ℕ → ℕ → List ℕ) (K : Type 0) (s : Step) (part u : Tree) (more : ℕ) : Type 0 where
-  pub text : (first : Bool) (i : Option ℕ) (m : ℕ) → parts_left first i m t ≡ before first i m ++ (json_text i m part ++ parts_left false i m u)
+pub record IsNext (t : Tree) (passed : ℕ) (before : Bool → Option ℕ → ℕ → List ℕ) (K : Type 0) (s : Step) (part u : Tree)
+    (more : ℕ) : Type 0 where
+  pub text : (first : Bool) (i : Option ℕ) (m : ℕ)
+      → parts_left first i m t ≡ before first i m ++ (json_text i m part ++ parts_left false i m u)
   pub fault : fault_left passed t ≡ first_of (below s (first_fault part)) (fault_left more u)
   pub deepest : part_nesting t ≡ max (nesting part) (part_nesting u)
   pub fewer : nodes part + part_nodes u ≤ part_nodes t
@@ -81,7 +83,8 @@ member_left : (row : List Yaml) (n : ℕ) (k v : Yaml) → n + 1 < length row �
 member_left row n k v h ks vs = grind (arith, next_node)
 
 pub member_next : (row : List Yaml) (n : ℕ) (k v : Yaml) → n + 1 < length row → k ≡ get_or row n k → v ≡ get_or row (n + 1) v
-    → IsNext (left_in true row n) n (before_value (view k)) (IsKeyGiven (view k)) (step_in true row (n + 2)) (view v) (left_in true row (n + 2)) (n + 2)
+    → IsNext (left_in true row n) n (before_value (view k)) (IsKeyGiven (view k)) (step_in true row (n + 2)) (view v)
+    (left_in true row (n + 2)) (n + 2)
 member_next row n k v h ks vs =
     let at : n + 2 - 2 ≡ n = omega arith in
     let key : get_or (items_view row) n null ≡ view k = get_or-map view row n k null (omega arith) ∙ ap view (sym ks) in
@@ -161,10 +164,11 @@ pub record Goes {W : Type 0} (gives : W → List ℕ → W → Type 0) (i : Opti
   pub same : closing u ≡ closing t
 
 module _ {W : Type 0} {gives : W → List ℕ → W → Type 0} {i : Option ℕ} {m : ℕ} {w : W} {first : Bool} {t : Tree} {v : W} {now : Bool} {u : Tree} (h : Goes gives i m w first t v now u) where
-  module _ {before : Bool → Option ℕ → ℕ → List ℕ} {K : Type 0} {s : Step} {part x : Tree} {p q : ℕ} (n : IsNext u p before K s part x q) where
+  module _ {before : Bool → Option ℕ → ℕ → List ℕ} {K : Type 0} {s : Step} {part x : Tree} {p q : ℕ}
+      (n : IsNext u p before K s part x q) where
     -- a part without parts
-    pub goes_on : {a b : W} → K → Wrote gives v (before now i m) a → is_block part ≡ false → Wrote gives a (flat_text part) b → IsFlatGiven part
-        → Goes gives i m w first t b false x
+    pub goes_on : {a b : W} → K → Wrote gives v (before now i m) a → is_block part ≡ false → Wrote gives a (flat_text part) b
+        → IsFlatGiven part → Goes gives i m w first t b false x
     goes_on k before flat part_is g = record {
       left = left_after (left_after (left_as (n.text now i m) h.left) before) (rw (flat_text_is part i m flat) at part_is);
       no_higher = omega (arith, h.no_higher, n.deepest);
@@ -189,8 +193,9 @@ module _ {W : Type 0} {gives : W → List ℕ → W → Type 0} {i : Option ℕ}
         → Stopped gives leaves reason w (parts_left first i m t) a
     stopped_before q = left_stopped (left_as (n.text now i m) h.left) (stopped_early _ q)
 
-    pub stopped_in : {leaves : W → List ℕ → W → Type 0} {reason : Type 0} {a b : W} → Wrote gives v (before now i m) a → is_block part ≡ false
-        → Stopped gives leaves reason a (flat_text part) b → Stopped gives leaves reason w (parts_left first i m t) b
+    pub stopped_in : {leaves : W → List ℕ → W → Type 0} {reason : Type 0} {a b : W} → Wrote gives v (before now i m) a
+        → is_block part ≡ false → Stopped gives leaves reason a (flat_text part) b
+        → Stopped gives leaves reason w (parts_left first i m t) b
     stopped_in before flat q =
         left_stopped (left_as (n.text now i m) h.left) (stopped_late before (stopped_early _ (stopped_as (flat_text_is part i m flat) q)))
 

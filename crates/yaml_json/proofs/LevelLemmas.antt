@@ -29,10 +29,12 @@ in_part i m inner t ts b e =
 -- a beginning of what is left was written in part
 left_within : {W : Type 0} {gives : W → List ℕ → W → Type 0} {w v a : W} {text x more : List ℕ} (rest : List ℕ) → IsLeft gives w text v (x ++ rest) → IsLeft gives v x a more
     → IsLeft gives w text a (more ++ rest)
-left_within {more = more} rest p q = left_then p (record { written = q.written; wrote = q.wrote; whole = cc (append_assoc q.written more rest) })
+left_within {more = more} rest p q =
+    left_then p (record { written = q.written; wrote = q.wrote; whole = cc (append_assoc q.written more rest) })
 
 -- A part that has parts stands next, and behind it what is left of these levels.
-pub record IsBefore {W : Type 0} (gives : W → List ℕ → W → Type 0) (i : Option ℕ) (w : W) (root : Tree) (v : W) (m : ℕ) (part : Tree) (ts : List Tree) : Type 0 where
+pub record IsBefore {W : Type 0} (gives : W → List ℕ → W → Type 0) (i : Option ℕ) (w : W) (root : Tree) (v : W) (m : ℕ) (part : Tree)
+    (ts : List Tree) : Type 0 where
   pub left : IsLeft gives w (json_text i 0 root) v (json_text i m part ++ levels_left false i m ts)
   pub has_parts : is_block part ≡ true
   pub margin : m ≡ unwrap_or i 0 * length ts
@@ -40,7 +42,8 @@ pub record IsBefore {W : Type 0} (gives : W → List ℕ → W → Type 0) (i : 
   pub given : IsGiven part → AllGiven ts → IsGiven root
 
 -- the root, where nothing was written
-pub root_next : {W : Type 0} {gives : W → List ℕ → W → Type 0} {i : Option ℕ} {w : W} (root : Tree) → is_block root ≡ true → IsBefore gives i w root w 0 root []
+pub root_next : {W : Type 0} {gives : W → List ℕ → W → Type 0} {i : Option ℕ} {w : W} (root : Tree) → is_block root ≡ true
+    → IsBefore gives i w root w 0 root []
 root_next root b = record {
   left = left_as (sym (append-nil _)) left_all;
   has_parts = b;
@@ -49,7 +52,8 @@ root_next root b = record {
   given = λ g gs. g;
 }
 
-module _ {W : Type 0} {gives : W → List ℕ → W → Type 0} {i : Option ℕ} {w v : W} {root part : Tree} {m : ℕ} {ts : List Tree} (h : IsBefore gives i w root v m part ts) where
+module _ {W : Type 0} {gives : W → List ℕ → W → Type 0} {i : Option ℕ} {w v : W} {root part : Tree} {m : ℕ} {ts : List Tree}
+    (h : IsBefore gives i w root v m part ts) where
   -- its bracket was written
   pub stands_in : {b : W} {inner : ℕ} → (ArePartsGiven part → IsGiven part) → inner ≡ deeper i m → Wrote gives v (opening part) b
       → Stands gives i w root b true inner (part ∷ ts)
@@ -84,8 +88,8 @@ module _ {W : Type 0} {gives : W → List ℕ → W → Type 0} {i : Option ℕ}
       }
 
   -- the level's end was written
-  pub stands_out : {a b : W} {outer : ℕ} → Ends gives i m v first t a → outer ≡ shallower i m → Wrote gives a (new_line i (shallower i m) ++ closing t) b
-      → Stands gives i w root b false outer ts
+  pub stands_out : {a b : W} {outer : ℕ} → Ends gives i m v first t a → outer ≡ shallower i m
+      → Wrote gives a (new_line i (shallower i m) ++ closing t) b → Stands gives i w root b false outer ts
   stands_out s c p = rw c (record {
     left = left_after (left_after h.left s.wrote) p;
     margin = omega (arith, h.margin);
@@ -96,14 +100,17 @@ module _ {W : Type 0} {gives : W → List ℕ → W → Type 0} {i : Option ℕ}
 -- ---- levels that wait in places
 
 -- how the writer stands, where so many levels wait in the first places
-pub record Holds {W : Type 0} (gives : W → List ℕ → W → Type 0) (i : Option ℕ) (w : W) (root : Tree) (v : W) (first : Bool) (m : ℕ) (l : Level) (n : ℕ) (places : List Level) : Type 0 where
+pub record Holds {W : Type 0} (gives : W → List ℕ → W → Type 0) (i : Option ℕ) (w : W) (root : Tree) (v : W) (first : Bool) (m : ℕ)
+    (l : Level) (n : ℕ) (places : List Level) : Type 0 where
   pub stands : Stands gives i w root v first m (trees (l ∷ waiting n places))
   pub within : n ≤ length places
 
-module _ {W : Type 0} {gives : W → List ℕ → W → Type 0} {i : Option ℕ} {w v : W} {root : Tree} {first : Bool} {m : ℕ} {l : Level} {n : ℕ} {places : List Level}
+module _ {W : Type 0} {gives : W → List ℕ → W → Type 0} {i : Option ℕ} {w v : W} {root : Tree} {first : Bool} {m : ℕ} {l : Level} {n : ℕ}
+    {places : List Level}
     (h : Holds gives i w root v first m l n places) where
   -- the level waits, while the part is written
-  module _ {a : W} {part : Tree} (p : ℕ) (s : Stops gives i m v first (tree_left l) a part (tree_left (passed_to l p))) (room : nesting root ≤ length places + 1) where
+  module _ {a : W} {part : Tree} (p : ℕ) (s : Stops gives i m v first (tree_left l) a part (tree_left (passed_to l p)))
+      (room : nesting root ≤ length places + 1) where
     pub place : n < length places
     place = omega (arith, (part_next h.stands s).no_higher, part_wide part s.has_parts, so_many places n h.within, room)
 
@@ -114,19 +121,21 @@ module _ {W : Type 0} {gives : W → List ℕ → W → Type 0} {i : Option ℕ}
       within = omega (arith, place, length-set places n (passed_to l p));
     }
 
-    pub opened_smaller : (o : Level) → tree_left o ≡ part → weight (trees (o ∷ waiting (n + 1) (set places n (passed_to l p)))) < weight (trees (l ∷ waiting n places))
+    pub opened_smaller : (o : Level) → tree_left o ≡ part
+        → weight (trees (o ∷ waiting (n + 1) (set places n (passed_to l p)))) < weight (trees (l ∷ waiting n places))
     opened_smaller o e = rw (one_more places n (passed_to l p) place) (omega (arith, s.fewer, part_count part s.has_parts, ap part_nodes e))
 
   -- the level was written, and goes on with the one around it
   module _ (o : Level) (some : n ≢ 0) (is : o ≡ get_or places (n - 1) o) where
     pub resumed : {a b : W} {outer : ℕ} → Ends gives i m v first (tree_left l) a → outer ≡ shallower i m → Wrote gives a (new_line i (shallower i m) ++ closing (tree_left l)) b
         → Holds gives i w root b false outer o (n - 1) places
-    resumed s c p = record { stands = rw (← one_less places n o h.within some is) (stands_out h.stands s c p); within = omega (arith, h.within) }
+    resumed s c p =
+        record { stands = rw (← one_less places n o h.within some is) (stands_out h.stands s c p); within = omega (arith, h.within) }
 
     pub resumed_smaller : weight (trees (o ∷ waiting (n - 1) places)) < weight (trees (l ∷ waiting n places))
     resumed_smaller = omega (arith, ap weight (one_less places n o h.within some is))
 
   -- it was the outermost
-  pub finished : {a b : W} → n ≡ 0 → Ends gives i m v first (tree_left l) a → Wrote gives a (new_line i (shallower i m) ++ closing (tree_left l)) b
-      → Wrote gives w (json_text i 0 root) b × IsGiven root
+  pub finished : {a b : W} → n ≡ 0 → Ends gives i m v first (tree_left l) a
+      → Wrote gives a (new_line i (shallower i m) ++ closing (tree_left l)) b → Wrote gives w (json_text i 0 root) b × IsGiven root
   finished none s p = let out = rw none at (stands_out h.stands s refl p) in (left_none out.left, out.given tt)

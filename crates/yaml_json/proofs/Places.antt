@@ -24,12 +24,13 @@ put_inside (p ∷ os) o n m text at rest count (k, e, inner, i, more) h = (k, e,
 
 -- ---- a collection begins
 
-pub opened_in : {now : List Open} (os : List Open) (o : Open) (text at rest : List ℕ) → length os < 255 → now ≡ os ++ o ∷ [] → AreOpen os 255 text at
-    → IsIn o (254 - length os) at rest → AreOpen now 255 text rest
+pub opened_in : {now : List Open} (os : List Open) (o : Open) (text at rest : List ℕ) → length os < 255 → now ≡ os ++ o ∷ []
+    → AreOpen os 255 text at → IsIn o (254 - length os) at rest → AreOpen now 255 text rest
 opened_in os o text at rest room is outer inside = rw is (put_inside os o 255 (254 - length os) text at rest (omega arith) outer inside)
 
 -- a value without parts stands in any collection
-pub has_scalar : {os : List Open} {tree : Tree} {text at rest : List ℕ} → AreOpen os 255 text at → IsValue tree 0 at rest → HasValue os tree text rest
+pub has_scalar : {os : List Open} {tree : Tree} {text at rest : List ℕ} → AreOpen os 255 text at → IsValue tree 0 at rest
+    → HasValue os tree text rest
 has_scalar {at = at} o v = record {
   at = at;
   opened = o;
@@ -49,8 +50,8 @@ puts_end (open_as.Object ps k) (open_as.Object qs l) tree r0 r1 p n text at o v 
 puts_end _ _ tree r0 r1 p n text at o v = absurd p
 
 -- it stays open
-pub open_on : {old now : List Open} {tree : Tree} {b : Bool} {text r0 r1 : List ℕ} → b ≡ false → PutsLast old now tree b r0 r1 → HasValue old tree text r0
-    → AreOpen now 255 text r1
+pub open_on : {old now : List Open} {tree : Tree} {b : Bool} {text r0 r1 : List ℕ} → b ≡ false → PutsLast old now tree b r0 r1
+    → HasValue old tree text r0 → AreOpen now 255 text r1
 open_on {old} {text = text} {r0} {r1} e q h =
     let p = rw e at q in
     let i = innermost p.outer p.before 255 text h.at (rw p.was at h.opened) in
@@ -59,8 +60,9 @@ open_on {old} {text = text} {r0} {r1} e q h =
     (puts_on p.before p.after _ r0 r1 p.puts i.left i.at h.at i.innermost (rw room at h.value)))
 
 -- it ends, and is a value of the one around it
-pub ended_on : {old now rest : List Open} (collection : Open) {tree tree_of_it : Tree} {b : Bool} {text r0 r1 : List ℕ} → b ≡ true → now ≡ rest ++ collection ∷ []
-    → tree_of_it ≡ tree_in collection → PutsLast old now tree b r0 r1 → HasValue old tree text r0 → HasValue rest tree_of_it text r1
+pub ended_on : {old now rest : List Open} (collection : Open) {tree tree_of_it : Tree} {b : Bool} {text r0 r1 : List ℕ} → b ≡ true
+    → now ≡ rest ++ collection ∷ [] → tree_of_it ≡ tree_in collection → PutsLast old now tree b r0 r1 → HasValue old tree text r0
+    → HasValue rest tree_of_it text r1
 ended_on {old} {rest = rest} collection {text = text} {r0} {r1} e is shown q h =
     let p = rw e at q in
     let i = innermost p.outer p.before 255 text h.at (rw p.was at h.opened) in
@@ -89,7 +91,8 @@ last_put os n old new tree b r0 r1 len some is p =
       outer = take (n - 1) os;
       before = old;
       after = new;
-      was = sym (take_all n os (omega arith)) ∙ ap (λ k. take k os) up ∙ take_more os (n - 1) old low ∙ ap (λ x. take (n - 1) os ++ x ∷ []) (sym is);
+      was = sym (take_all n os (omega arith)) ∙ ap (λ k. take k os) up ∙ take_more os (n - 1) old low ∙ ap (λ x. take (n - 1) os ++ x ∷ [])
+          (sym is);
       is = sym (take_all n (set os (n - 1) new) (omega (arith, length-set os (n - 1) new))) ∙ take-set_at os (n - 1) n new up low;
       puts = p;
     }

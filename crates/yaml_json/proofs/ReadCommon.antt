@@ -1,5 +1,5 @@
 -- The words of other crates and of specs/ that the proofs on reading use, and what calls give, passed on from one place. Declares nothing.
-pub use Rattle.std.proofs.Common.{[], ap, append-nil, append_assoc, ap₂, arith, Bool, drop, false, get_or, length, length-append, length-set, List, not, refl, rules, set, subst, suc, sym, take, true, ℕ, ◌&&◌, ◌*◌, ◌++◌, ◌+◌, ◌-◌, ◌<◌, ◌∙◌, ◌∷◌, ◌≡◌, ◌≤◌}
+pub use Rattle.std.proofs.Common.{[], ap, append-nil, append_assoc, ap₂, arith, Bool, chars, cond, drop, encode_utf8, encode_utf8_all, false, get_or, IfSome, if◌then◌else◌, is_some, IsCharBoundary, IsUtf8, length, length-append, length-set, List, None, not, Option, option_map, option_to_list, refl, rules, set, slice_index_or, slice_set, Some, String, string_bytes, subst, suc, sym, take, true, vec_len, ℕ, ◌&&◌, ◌*◌, ◌++◌, ◌+◌, ◌-◌, ◌<◌, ◌==◌, ◌∙◌, ◌∷◌, ◌≡◌, ◌≤◌}
 pub use Rattle.std.proofs.lemmas.Bool.{and_from, and_parts, ne_eqb, true≢false}
 pub use Rattle.std.proofs.lemmas.Bool.Decides.{nat_tests}
 pub use Rattle.std.proofs.lemmas.List.{nil_from_length, same_from_push, take-append-drop, take_all, take_more}
@@ -8,8 +8,6 @@ pub use Rattle.std.proofs.lemmas.List.Sums.{prefix_len-le-length}
 pub use Rattle.std.proofs.lemmas.Str.{chars-append, chars-nil, chars_past_char, encode_ascii, encodes-chars, IsCharBoundary-after_ascii, IsCharBoundary-at_seam, IsUtf8-from_ascii, IsUtf8-string_bytes, IsUtf8-take, scalars-chars}
 pub use Rattle.std.specs.Char.{is_ascii_digit, IsScalar}
 pub use Rattle.std.specs.List.{list_all, prefix_len}
-pub use Rattle.std.specs.Prelude.{cond, encode_utf8, encode_utf8_all, IfSome, if◌then◌else◌, is_some, None, Option, option_map, option_to_list, slice_index_or, slice_set, Some, String, string_bytes, vec_len, ◌==◌}
-pub use Rattle.std.specs.Str.{chars, IsCharBoundary, IsUtf8}
 pub use Rattle.std.proofs.Math.Seq.{drop-append_seam, take-append_seam}
 pub use Rattle.yaml_emitter.proofs.ByteLemmas.{all_pass, all_tested, low_at, low_chars, run_boundary}
 pub use Rattle.yaml_emitter.proofs.EndLemmas.{low_front}

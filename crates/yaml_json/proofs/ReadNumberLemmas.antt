@@ -50,7 +50,8 @@ digits_whole t r rest c e low high is =
 pub some_of : {A : Type 0} (P Q : A → Type 0) (o : Option A) → ((x : A) → P x → Q x) → IfSome o P → IfSome o Q
 some_of P Q a f h = grind arith
 
-pub exponent_from : (is_capital : Bool) {t r m rest : List ℕ} → letter_e is_capital ∷ r ≡ t → IsSign r m → IsDigits m rest → IsExponentPart t rest
+pub exponent_from : (is_capital : Bool) {t r m rest : List ℕ} → letter_e is_capital ∷ r ≡ t → IsSign r m → IsDigits m rest
+    → IsExponentPart t rest
 exponent_from is_capital e s d = record { part = exponent is_capital s.sign d.digits; is = d.are; spelled = cc }
 
 pub number_from : {t a b c rest : List ℕ} → IsMinus t a → IsWhole a b → IsFractionPart b c → IsExponentPart c rest → IsNumberPart t rest

@@ -8,7 +8,8 @@ use Rattle.yaml_tree.specs.declared.yaml.Yaml.TheVariants as yamls
 
 -- the next value, by itself
 pub value_next : (row : List Yaml) (n : ℕ) (v : Yaml) → n + 1 < length row → v ≡ get_or row (n + 1) v
-    → IsNext (left_in true row n) n (before_value (view (get_or row n v))) (IsKeyGiven (view (get_or row n v))) (step_in true row (n + 2)) (view v) (left_in true row (n + 2)) (n + 2)
+    → IsNext (left_in true row n) n (before_value (view (get_or row n v))) (IsKeyGiven (view (get_or row n v))) (step_in true row (n + 2))
+    (view v) (left_in true row (n + 2)) (n + 2)
 value_next row n v h is = member_next row n (get_or row n v) v h (get_or_default row n v _ (omega arith)) is
 
 -- ---- a level
@@ -24,7 +25,8 @@ pub record Passes (t : Tree) (passed : ℕ) (u : Tree) (more : ℕ) : Type 0 whe
   pub fewer : part_nodes u ≤ part_nodes t
 
 module _ {t u : Tree} {p q : ℕ} (a : Passes t p u q) where
-  module _ {before : Bool → Option ℕ → ℕ → List ℕ} {K : Type 0} {s : tree_path.Step} {part x : Tree} {r : ℕ} (b : IsNext u q before K s part x r) where
+  module _ {before : Bool → Option ℕ → ℕ → List ℕ} {K : Type 0} {s : tree_path.Step} {part x : Tree} {r : ℕ}
+      (b : IsNext u q before K s part x r) where
     pub passes_more : (first_fault part ≡ None) × (is_block part ≡ false) → Passes t p x r
     passes_more f = record {
       fault = a.fault ∙ b.fault ∙ ap (λ o. first_of (below s o) (fault_left r x)) f.0;
@@ -94,7 +96,8 @@ module _ {root : Tree} {os : List Level} {l : Level} {d k : ℕ} (h : Searches r
           within = omega (arith, x, c, h.within, h.count, h.no_higher, p.no_higher, own);
         }
 
-    pub smaller_in : (i : Level) → is_block met ≡ true → tree_left i ≡ met → weight (trees (i ∷ passed_to l m ∷ os)) < weight (trees (l ∷ os))
+    pub smaller_in : (i : Level) → is_block met ≡ true → tree_left i ≡ met
+        → weight (trees (i ∷ passed_to l m ∷ os)) < weight (trees (l ∷ os))
     smaller_in i b g = omega (arith, p.fewer, part_count met b, ap part_nodes g)
 
   -- all levels are done

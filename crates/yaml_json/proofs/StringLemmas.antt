@@ -24,8 +24,9 @@ short_read s e = record {
 no_surrogate : (c : ℕ) → IsScalar c → not (is_surrogate c) ≡ true
 no_surrogate c h = grind (arith, nat_tests)
 
-pub code_read : {character v w x y : ℕ} {t1 t2 t3 t4 rest : List ℕ} → TakesDigit v t1 t2 → TakesDigit w t2 t3 → TakesDigit x t3 t4 → TakesDigit y t4 rest
-    → IsScalar (v * 4096 + w * 256 + x * 16 + y) → character ≡ v * 4096 + w * 256 + x * 16 + y → IsCode character t1 rest
+pub code_read : {character v w x y : ℕ} {t1 t2 t3 t4 rest : List ℕ} → TakesDigit v t1 t2 → TakesDigit w t2 t3 → TakesDigit x t3 t4
+    → TakesDigit y t4 rest → IsScalar (v * 4096 + w * 256 + x * 16 + y) → character ≡ v * 4096 + w * 256 + x * 16 + y
+    → IsCode character t1 rest
 code_read {v = v} {w} {x} {y} a b c d scalar is =
     let code : four_digits a.digit b.digit c.digit d.digit ≡ v * 4096 + w * 256 + x * 16 + y = omega arith in
     let piece : is_piece (unicode a.digit b.digit c.digit d.digit) ≡ true =
@@ -47,8 +48,8 @@ code_read {v = v} {w} {x} {y} a b c d scalar is =
 pub record Goes (start now text rest : List ℕ) : Type 0 where
   pub goes_on : (more end : List ℕ) → IsInside more rest end → IsPart start (now ++ more) text end
 
-pub gone_on : {start now text r0 r1 r2 : List ℕ} {c : ℕ} {run later : List ℕ} → Goes start now text (92 ∷ r0) → IsEscape c r0 r1 → IsRun run r1 r2
-    → later ≡ (now ++ c ∷ []) ++ run → Goes start later text r2
+pub gone_on : {start now text r0 r1 r2 : List ℕ} {c : ℕ} {run later : List ℕ} → Goes start now text (92 ∷ r0) → IsEscape c r0 r1
+    → IsRun run r1 r2 → later ≡ (now ++ c ∷ []) ++ run → Goes start later text r2
 gone_on {c = c} {run} g e r is = record {
   goes_on = λ more end i.
       rw (is, append_assoc, append_assoc) (g.goes_on (c ∷ (run ++ more)) end (e.goes_on (run ++ more) end (r.goes_on more end i)));
@@ -67,8 +68,10 @@ pushed s t u c run scalar e f = ap chars f ∙ chars-append (string_bytes t) run
 pub plain_string : {run value text rest : List ℕ} → IsRun run text (34 ∷ rest) → value ≡ run → IsStringEnd value text rest
 plain_string {rest = rest} r is = rw is (rw append-nil at (r.goes_on [] (34 ∷ rest) (no_pieces (34 ∷ rest))))
 
-pub escaped_string : {run start value text mid rest : List ℕ} → IsRun run text mid → start ≡ run → IsPart start value mid (34 ∷ rest) → IsStringEnd value text rest
+pub escaped_string : {run start value text mid rest : List ℕ} → IsRun run text mid → start ≡ run → IsPart start value mid (34 ∷ rest)
+    → IsStringEnd value text rest
 escaped_string r e p = rw (p.value_is, e) (r.goes_on _ _ p.inside)
 
-pub string_value : {value text behind rest : List ℕ} → text ≡ 34 ∷ behind → IsStringEnd value behind rest → IsValue (Tree.string value) 0 text rest
+pub string_value : {value text behind rest : List ℕ} → text ≡ 34 ∷ behind → IsStringEnd value behind rest
+    → IsValue (Tree.string value) 0 text rest
 string_value e s = record { value = json.string s.pieces; is = s.are; tree_is = cc; shallow = omega arith; spelled = cc }

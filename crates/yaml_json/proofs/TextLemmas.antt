@@ -22,7 +22,8 @@ record Begun (bs : List ℕ) (c : ℕ) (rest : List ℕ) : Type 0 where
 begun : (bs : List ℕ) → IsUtf8 bs → (a : IsAsciiFirst (chars bs)) → Begun bs a.first a.rest
 begun bs u a =
     let back = encode_utf8_all a.rest in
-    let whole : bs ≡ a.first ∷ back = sym (encodes-chars bs u) ∙ ap encode_utf8_all a.is ∙ ap (λ x. x ++ back) (encode_ascii a.first a.ascii) in
+    let whole : bs ≡ a.first ∷ back = sym (encodes-chars bs u) ∙ ap encode_utf8_all a.is ∙ ap (λ x. x ++ back)
+    (encode_ascii a.first a.ascii) in
     record { back = back; whole = whole; back_is = cc (first_byte bs back a.first u whole a.ascii) }
 
 pub cut_first : (bs : List ℕ) → IsUtf8 bs → IsAsciiFirst (chars bs) → IsCharBoundary bs 1
@@ -49,7 +50,8 @@ utf8_behind front back h u =
     rw drop-append_seam at (IsUtf8-drop (front ++ back) (length front) u cut)
 
 -- the characters behind a word that a text begins with
-pub behind_word : (bs word back : List ℕ) (n : ℕ) → list_all is_ascii word ≡ true → bs ≡ word ++ drop n bs → back ≡ drop n bs → word ++ chars back ≡ chars bs
+pub behind_word : (bs word back : List ℕ) (n : ℕ) → list_all is_ascii word ≡ true → bs ≡ word ++ drop n bs → back ≡ drop n bs
+    → word ++ chars back ≡ chars bs
 behind_word bs word back n low whole e = rw e (sym (low_front word bs (drop n bs) low whole))
 
 pub word_is : (v : Json) {text rest : List ℕ} → IsJson v → levels v ≡ 0 → spell v rest ≡ text → IsValue (tree_of v) 0 text rest
@@ -104,7 +106,8 @@ pub run_is : (bs : List ℕ) → IsUtf8 bs → IsRun (chars (take (prefix_len st
 run_is bs u =
     let n = prefix_len stands bs in
     let utf8 = IsUtf8-take bs n u (cut_run bs) in
-    let whole : chars bs ≡ chars (take n bs) ++ chars (drop n bs) = ap chars (sym (take-append-drop n bs)) ∙ chars-append (take n bs) (drop n bs) utf8 in
+    let whole : chars bs ≡ chars (take n bs) ++ chars (drop n bs) = ap chars (sym (take-append-drop n bs)) ∙ chars-append (take n bs)
+    (drop n bs) utf8 in
     let all = all_tested stands (λ c h. grind (arith, nat_tests)) (take n bs) utf8 (all_pass stands bs) in
     let plain = unescaped_all (chars (take n bs)) (scalars-chars (take n bs) utf8) all in
     record {

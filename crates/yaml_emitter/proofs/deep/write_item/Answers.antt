@@ -8,12 +8,14 @@ returns-in_default g c =
 
 pub returns-in_err-begin_entry : goal.returns-in_err-begin_entry
 returns-in_err-begin_entry g c =
-    goes_refused _ c.from_residual.ensures.0 (entry_left (item_entries _ _ c.args.level) c.args.is_first _ (ap items_view c.in-Some.ensures.cases.0)) (c.in_err-begin_entry.ensures.err refl)
+    goes_refused _ c.from_residual.ensures.0 (entry_left (item_entries _ _ c.args.level) c.args.is_first _
+    (ap items_view c.in-Some.ensures.cases.0)) (c.in_err-begin_entry.ensures.err refl)
 
 pub returns-in_err-push : goal.returns-in_err-push
 returns-in_err-push g c =
     goes_err c.from_residual-in_err-push.ensures.0
-    (stopped_at tt (left_after (entry_left (item_entries _ _ c.args.level) c.args.is_first _ (ap items_view c.in-Some.ensures.cases.0)) (c.in_ok-begin_entry.ensures.ok refl)))
+    (stopped_at tt (left_after (entry_left (item_entries _ _ c.args.level) c.args.is_first _ (ap items_view c.in-Some.ensures.cases.0))
+    (c.in_ok-begin_entry.ensures.ok refl)))
 
 pub returns : goal.returns
 returns g c =

@@ -10,7 +10,8 @@ returns-in_default g c =
 pub returns-in_err-begin_entry : goal.returns-in_err-begin_entry
 returns-in_err-begin_entry g c =
     let pairs = ap pairs_view (c.in-Some.ensures.cases.0 ∙ ap (λ ys. c.in-Some.key.now ∷ ys) c.in-Some-split_first.ensures.cases.0) in
-    goes_refused _ c.from_residual.ensures.0 (entry_left (pair_entries _ _ c.args.level) c.args.is_first _ pairs) (c.in_err-begin_entry.ensures.err refl)
+    goes_refused _ c.from_residual.ensures.0 (entry_left (pair_entries _ _ c.args.level) c.args.is_first _ pairs)
+    (c.in_err-begin_entry.ensures.err refl)
 
 pub returns-in_err-push : goal.returns-in_err-push
 returns-in_err-push g c =

@@ -47,7 +47,8 @@ write_items-items-preserved g t c =
     (wrote_then (c.in_ok-begin_entry.ensures.ok refl) (c.in_ok-write_value.ensures.text.ok refl)) c.in_ok-write_value.ensures.valid
 
 pub write_items-write_value-requires : goal.write_items-write_value-requires
-write_items-write_value-requires g t c = λ κs s. (omega (arith, first_within c.items.invariant.decide c.in-Some.ensures.steps), (s, omega arith))
+write_items-write_value-requires g t c =
+    λ κs s. (omega (arith, first_within c.items.invariant.decide c.in-Some.ensures.steps), (s, omega arith))
 
 pub write_items-returns-in_err-begin_entry-clause-text : goal.write_items-returns-in_err-begin_entry-clause-text
 write_items-returns-in_err-begin_entry-clause-text g t c =
@@ -58,7 +59,8 @@ pub write_items-returns-in_err-write_value-clause-text : goal.write_items-return
 write_items-returns-in_err-write_value-clause-text g t c =
     let own = own_no_higher c.items.invariant c.in-Some.ensures.steps in
     entry_stopped c.items.invariant c.in-Some.ensures.steps c.from_residual-in_err-write_value.ensures.0
-    (stopped_late (c.in_ok-begin_entry.ensures.ok refl) (stopped_for (λ b. omega (arith, b, own)) (c.in_err-write_value.ensures.text.err refl)))
+    (stopped_late (c.in_ok-begin_entry.ensures.ok refl) (stopped_for (λ b. omega (arith, b, own))
+    (c.in_err-write_value.ensures.text.err refl)))
 
 pub write_items-returns-clause-text : goal.write_items-returns-clause-text
 write_items-returns-clause-text g t c =
@@ -74,7 +76,8 @@ write_pairs-pairs-preserved g t c =
     (wrote_then (c.in_ok-begin_entry.ensures.ok refl) (c.in_ok-write_pair.ensures.text.ok refl)) c.in_ok-write_pair.ensures.valid
 
 pub write_pairs-write_pair-requires : goal.write_pairs-write_pair-requires
-write_pairs-write_pair-requires g t c = λ κs s. (omega (arith, first_within c.pairs.invariant.decide c.in-Some.ensures.steps), (s, omega arith))
+write_pairs-write_pair-requires g t c =
+    λ κs s. (omega (arith, first_within c.pairs.invariant.decide c.in-Some.ensures.steps), (s, omega arith))
 
 pub write_pairs-returns-in_err-begin_entry-clause-text : goal.write_pairs-returns-in_err-begin_entry-clause-text
 write_pairs-returns-in_err-begin_entry-clause-text g t c =
@@ -85,7 +88,8 @@ pub write_pairs-returns-in_err-write_pair-clause-text : goal.write_pairs-returns
 write_pairs-returns-in_err-write_pair-clause-text g t c =
     let own = own_no_higher c.pairs.invariant c.in-Some.ensures.steps in
     entry_stopped c.pairs.invariant c.in-Some.ensures.steps c.from_residual-in_err-write_pair.ensures.0
-    (stopped_late (c.in_ok-begin_entry.ensures.ok refl) (stopped_for (λ b. omega (arith, b, own)) (c.in_err-write_pair.ensures.text.err refl)))
+    (stopped_late (c.in_ok-begin_entry.ensures.ok refl) (stopped_for (λ b. omega (arith, b, own))
+    (c.in_err-write_pair.ensures.text.err refl)))
 
 pub write_pairs-returns-clause-text : goal.write_pairs-returns-clause-text
 write_pairs-returns-clause-text g t c =
@@ -102,7 +106,8 @@ write_pair-returns-then-is_scalar-clause-text g t c =
     (writes_late (c.in_ok-write_spelling.ensures.text.ok refl) (writes_for (λ b. omega (arith, b)) c.write_value.ensures.text))
 
 pub write_pair-returns-clause-text : goal.write_pair-returns-clause-text
-write_pair-returns-clause-text g t c = writes_as (pair_form _ _ c.args.level _ _ (c.if-is_scalar.ensures {u = tt})) c.write_complex_pair.ensures.text
+write_pair-returns-clause-text g t c =
+    writes_as (pair_form _ _ c.args.level _ _ (c.if-is_scalar.ensures {u = tt})) c.write_complex_pair.ensures.text
 
 pub write_complex_pair-returns-in_err-write_value-clause-text : goal.write_complex_pair-returns-in_err-write_value-clause-text
 write_complex_pair-returns-in_err-write_value-clause-text g t c =
@@ -121,4 +126,5 @@ write_complex_pair-returns-clause-text g t c =
 -- ---- valid trees
 
 pub write_pairs-returns-clause-valid : goal.write_pairs-returns-clause-valid
-write_pairs-returns-clause-valid g t c = valid_hash _ c.iter-key-items.ensures.distinct (none_decide c.pairs.invariant.decide c.in-None.ensures.steps.0)
+write_pairs-returns-clause-valid g t c =
+    valid_hash _ c.iter-key-items.ensures.distinct (none_decide c.pairs.invariant.decide c.in-None.ensures.steps.0)

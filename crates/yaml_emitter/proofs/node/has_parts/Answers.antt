@@ -7,4 +7,5 @@ returns-in-Array c =
 
 pub returns-in-Hash : goal.returns-in-Hash
 returns-in-Hash c =
-    rw c.in-Hash.is (by_empty (λ b ps. b ≡ is_block (hash (pairs_of ps))) refl (λ p ps. refl) c.is_empty-in-Hash.result _ c.is_empty-in-Hash.ensures)
+    rw c.in-Hash.is (by_empty (λ b ps. b ≡ is_block (hash (pairs_of ps))) refl
+    (λ p ps. refl) c.is_empty-in-Hash.result _ c.is_empty-in-Hash.ensures)

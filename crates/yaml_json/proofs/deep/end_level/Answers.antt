@@ -12,4 +12,5 @@ returns-in_err-put_ascii-clause-stopped g c =
 
 pub returns-clause-wrote : goal.returns-clause-wrote
 returns-clause-wrote g c =
-    rw (← c.shallower-outer.ensures, ← c.closing.ensures) (wrote_then (c.in_ok-new_line.ensures.ok refl) (c.in_ok-put_ascii.ensures.ok refl))
+    rw (← c.shallower-outer.ensures, ← c.closing.ensures) (wrote_then (c.in_ok-new_line.ensures.ok refl)
+    (c.in_ok-put_ascii.ensures.ok refl))

@@ -3,13 +3,15 @@ use Rattle.yaml_json.proofs.deep.write_levels.Goals as goal
 
 pub returns-in_err-margin-clause-text : goal.returns-in_err-margin-clause-text
 returns-in_err-margin-clause-text g c =
-    writes_err c.from_residual.ensures.0 (opening_stopped (root_next _ c.requires.parts) (rw c.of-level.ensures.tree at c.in_err-margin.ensures.stopped))
+    writes_err c.from_residual.ensures.0 (opening_stopped (root_next _ c.requires.parts)
+    (rw c.of-level.ensures.tree at c.in_err-margin.ensures.stopped))
 
 pub levels-init : goal.levels-init
 levels-init g c =
     let is = c.of-level.ensures.tree in
     record {
-      stands = rw is (stands_in (root_next _ c.requires.parts) c.of-level.ensures.given c.in_ok-margin.ensures.margin (rw is at c.in_ok-margin.ensures.wrote));
+      stands = rw is (stands_in (root_next _ c.requires.parts) c.of-level.ensures.given c.in_ok-margin.ensures.margin
+          (rw is at c.in_ok-margin.ensures.wrote));
       within = omega arith;
     }
 
@@ -20,7 +22,8 @@ returns-in_err-stop-clause-text g c =
 
 pub bounds-places-waiting : goal.bounds-places-waiting
 bounds-places-waiting g c =
-    place c.levels.invariant c.in-Some.stop.passed (rw c.in-Some.is at c.in_ok-stop.ensures.stop) (omega (arith, c.requires.room, c.levels.auto.places))
+    place c.levels.invariant c.in-Some.stop.passed (rw c.in-Some.is at c.in_ok-stop.ensures.stop)
+    (omega (arith, c.requires.room, c.levels.auto.places))
 
 pub returns-in_err-margin-in-Some-clause-text : goal.returns-in_err-margin-in-Some-clause-text
 returns-in_err-margin-in-Some-clause-text g c =

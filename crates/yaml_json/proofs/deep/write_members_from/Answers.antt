@@ -30,7 +30,8 @@ pub at-preserved : goal.at-preserved
 at-preserved g c =
     let next = member_next c.args.row.now c.at.at _ _ (omega arith) c.index-row-at.is c.index-row-at-in-at.is in
     goes_on c.at.invariant next c.write_key.ensures.given
-    (wrote_then (c.in_ok-begin_entry.ensures.ok refl) (wrote_then (c.in_ok-write_key.ensures.text.ok refl) (c.in_ok-end_key.ensures.ok refl)))
+    (wrote_then (c.in_ok-begin_entry.ensures.ok refl) (wrote_then (c.in_ok-write_key.ensures.text.ok refl)
+    (c.in_ok-end_key.ensures.ok refl)))
     (sym c.has_parts.ensures ∙ c.if-has_parts.false) (c.in_ok-write_flat.ensures.text.ok refl) c.write_flat.ensures.given
 
 pub returns-in_err-write_flat-clause-stopped : goal.returns-in_err-write_flat-clause-stopped
@@ -38,5 +39,6 @@ returns-in_err-write_flat-clause-stopped g c =
     let next = member_next c.args.row.now c.at.at _ _ (omega arith) c.index-row-at.is c.index-row-at-in-at.is in
     when_err c.from_residual-in_err-write_flat.result
     (stopped_in c.at.invariant next
-    (wrote_then (c.in_ok-begin_entry.ensures.ok refl) (wrote_then (c.in_ok-write_key.ensures.text.ok refl) (c.in_ok-end_key.ensures.ok refl)))
+    (wrote_then (c.in_ok-begin_entry.ensures.ok refl) (wrote_then (c.in_ok-write_key.ensures.text.ok refl)
+    (c.in_ok-end_key.ensures.ok refl)))
     (sym c.has_parts.ensures ∙ c.if-has_parts.false) (c.in_err-write_flat.ensures.text.err refl))

@@ -5,7 +5,8 @@ pub levels-smaller : goal.levels-smaller
 levels-smaller c =
     let seen = has_parts_met (view c.in-Some.met.node.now) c.in-Some.met.reason c.in_default-reason.not-Some c.in-Some.ensures.met in
     rw c.in-Ok.ensures.ok
-    (smaller_in c.levels.invariant c.in-Some.met.passed c.in-Some.ensures.meets c.of-level-in-levels.result seen.1 c.of-level-in-levels.ensures.tree)
+    (smaller_in c.levels.invariant c.in-Some.met.passed c.in-Some.ensures.meets c.of-level-in-levels.result seen.1
+    c.of-level-in-levels.ensures.tree)
 
 pub levels-preserved : goal.levels-preserved
 levels-preserved c =

@@ -21,7 +21,8 @@ left-preserved c =
       long = c.put_pair.array_long;
       digits = has_digits _ (omega (arith, l.auto.left-fits.fits));
       start = omega arith;
-      written = rw (c.put_pair.ensures, same) (rw (two_more l.left (omega arith) (omega (arith, l.auto.left-fits.fits)), append_assoc) at l.invariant.written);
+      written = rw (c.put_pair.ensures, same) (rw (two_more l.left (omega arith) (omega (arith, l.auto.left-fits.fits)),
+          append_assoc) at l.invariant.written);
     }
 
 pub returns-then-left-ge10-clause-written : goal.returns-then-left-ge10-clause-written
@@ -32,4 +33,5 @@ returns-then-left-ge10-clause-written c =
 pub returns-clause-written : goal.returns-clause-written
 returns-clause-written c =
     let same : c.left.at - 1 + 1 ≡ c.left.at = omega arith in
-    rw (drop-set c.left.bytes (c.left.at - 1) _ (omega arith), same) (rw (decimal_digit c.left.left (omega arith)) at c.left.invariant.written)
+    rw (drop-set c.left.bytes (c.left.at - 1) _ (omega arith), same)
+    (rw (decimal_digit c.left.left (omega arith)) at c.left.invariant.written)

@@ -3,7 +3,8 @@ use Rattle.yaml_json.proofs.nest.open_nest.Goals as goal
 
 pub levels-preserved : goal.levels-preserved
 levels-preserved g c =
-    opens_more _ _ c.in_ok-deeper.ensures c.in-Some.ensures c.levels.invariant (c.in_ok-put_ascii.ensures.ok refl) (c.in_ok-new_line.ensures.ok refl)
+    opens_more _ _ c.in_ok-deeper.ensures c.in-Some.ensures c.levels.invariant (c.in_ok-put_ascii.ensures.ok refl)
+    (c.in_ok-new_line.ensures.ok refl)
 
 pub returns-in_err-deeper-clause-stopped : goal.returns-in_err-deeper-clause-stopped
 returns-in_err-deeper-clause-stopped g c = when_err _ (margin_stops _ c.in_err-deeper.ensures c.in-Some.ensures c.levels.invariant)

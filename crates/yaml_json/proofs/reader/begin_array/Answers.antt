@@ -17,6 +17,7 @@ pub returns : goal.returns
 returns c =
     let none = rw c.if-take.false at c.take.ensures in
     record {
-      begins = λ text o. opened_in c.args.opened.now.items _ text _ _ (omega arith) (c.in_ok-push_open.ensures {u = tt}) o (rw (c.new-2.ensures, none) (array_begun c.skip_gap.ensures));
+      begins = λ text o. opened_in c.args.opened.now.items _ text _ _ (omega arith) (c.in_ok-push_open.ensures {u = tt}) o
+          (rw (c.new-2.ensures, none) (array_begun c.skip_gap.ensures));
       nearer = omega (arith, gap_nearer c.skip_gap.ensures, ap length none);
     }

@@ -10,7 +10,8 @@ pub levels-preserved : goal.levels-preserved
 levels-preserved c =
     let popped = c.pop.ensures.items ∙ ap (λ x. c.pop.new.self.items ++ option_to_list x) c.in-Some.is in
     record {
-      goes_on = λ text h. ended_on c.in-Some.collection c.if-not-branch.false popped c.into_tree-value.ensures (c.in_ok-put_last.ensures {u = tt}).puts (c.levels.invariant.goes_on text h);
+      goes_on = λ text h. ended_on c.in-Some.collection c.if-not-branch.false popped c.into_tree-value.ensures
+          (c.in_ok-put_last.ensures {u = tt}).puts (c.levels.invariant.goes_on text h);
       nearer = omega (arith, (c.in_ok-put_last.ensures {u = tt}).nearer, c.levels.invariant.nearer);
     }
 

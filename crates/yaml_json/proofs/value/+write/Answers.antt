@@ -37,7 +37,8 @@ write_node-put_ascii-requires-2 g t c = ap is_low c.brackets.ensures.closing ∙
 pub write_node-returns-in_err-inner-clause-text : goal.write_node-returns-in_err-inner-clause-text
 write_node-returns-in_err-inner-clause-text g t c =
     writes_err c.from_residual.ensures.0
-    (stopped_at (part_margin (g.S.Spacing.indentation c.args.spacing) c.args.margin (view c.args.node.now) (sym (c.if-not-has_parts.ensures {u = tt})) c.in_err-inner.ensures) left_all)
+    (stopped_at (part_margin (g.S.Spacing.indentation c.args.spacing) c.args.margin (view c.args.node.now)
+    (sym (c.if-not-has_parts.ensures {u = tt})) c.in_err-inner.ensures) left_all)
 
 pub write_node-returns-in_err-put_ascii-clause-text : goal.write_node-returns-in_err-put_ascii-clause-text
 write_node-returns-in_err-put_ascii-clause-text g t c =
@@ -54,7 +55,8 @@ pub write_node-returns-in_err-new_line-clause-text : goal.write_node-returns-in_
 write_node-returns-in_err-new_line-clause-text g t c =
     writes_as (put_in_brackets _ c.args.margin _ _ c.brackets.ensures.opening c.brackets.ensures.closing c.in_ok-inner.ensures (sym (c.if-not-has_parts.ensures {u = tt})))
     (writes_err c.from_residual-in_err-new_line.ensures.0
-    (stopped_late (c.in_ok-put_ascii.ensures.ok refl) (stopped_late (c.in_ok-write_parts.ensures.text.ok refl) (stopped_first _ (c.in_err-new_line.ensures.err refl)))))
+    (stopped_late (c.in_ok-put_ascii.ensures.ok refl) (stopped_late (c.in_ok-write_parts.ensures.text.ok refl)
+    (stopped_first _ (c.in_err-new_line.ensures.err refl)))))
 
 pub write_node-returns-clause-text : goal.write_node-returns-clause-text
 write_node-returns-clause-text g t c =
@@ -79,10 +81,15 @@ pub write_members-pairs-init : goal.write_members-pairs-init
 write_members-pairs-init g t c = all_left (c.into_iter-key-iterator.ensures.into_iter_gives ∙ c.iter-key-items.ensures.pairs)
 
 pub write_items-items-preserved : goal.write_items-items-preserved
-write_items-items-preserved g t c = rest_left c.items.invariant c.in-Some.ensures.steps (wrote_then (c.in_ok-begin_entry.ensures.ok refl) (c.in_ok-write_value.ensures.text.ok refl)) c.in_ok-write_value.ensures.given
+write_items-items-preserved g t c =
+    rest_left c.items.invariant c.in-Some.ensures.steps (wrote_then (c.in_ok-begin_entry.ensures.ok refl)
+    (c.in_ok-write_value.ensures.text.ok refl)) c.in_ok-write_value.ensures.given
 
 pub write_members-pairs-preserved : goal.write_members-pairs-preserved
-write_members-pairs-preserved g t c = rest_left c.pairs.invariant c.in-Some.ensures.steps (wrote_then (c.in_ok-begin_entry.ensures.ok refl) (wrote_then (c.in_ok-write_key.ensures.text.ok refl) (wrote_then (c.in_ok-end_key.ensures.ok refl) (c.in_ok-write_value.ensures.text.ok refl)))) (c.write_key.ensures.given, c.in_ok-write_value.ensures.given)
+write_members-pairs-preserved g t c =
+    rest_left c.pairs.invariant c.in-Some.ensures.steps (wrote_then (c.in_ok-begin_entry.ensures.ok refl)
+    (wrote_then (c.in_ok-write_key.ensures.text.ok refl) (wrote_then (c.in_ok-end_key.ensures.ok refl)
+    (c.in_ok-write_value.ensures.text.ok refl)))) (c.write_key.ensures.given, c.in_ok-write_value.ensures.given)
 
 pub write_items-write_value-requires : goal.write_items-write_value-requires
 write_items-write_value-requires g t c = λ κs s. (omega (arith, first_within c.items.invariant.decide c.in-Some.ensures.steps), s)
@@ -110,17 +117,23 @@ write_members-returns-in_err-write_key-clause-text g t c =
 pub write_members-returns-in_err-end_key-clause-text : goal.write_members-returns-in_err-end_key-clause-text
 write_members-returns-in_err-end_key-clause-text g t c =
     entry_stopped c.pairs.invariant c.in-Some.ensures.steps c.from_residual-in_err-end_key.ensures.0
-    (stopped_late (c.in_ok-begin_entry.ensures.ok refl) (stopped_late (c.in_ok-write_key.ensures.text.ok refl) (stopped_first _ (c.in_err-end_key.ensures.err refl))))
+    (stopped_late (c.in_ok-begin_entry.ensures.ok refl) (stopped_late (c.in_ok-write_key.ensures.text.ok refl)
+    (stopped_first _ (c.in_err-end_key.ensures.err refl))))
 
 pub write_items-returns-in_err-write_value-clause-text : goal.write_items-returns-in_err-write_value-clause-text
 write_items-returns-in_err-write_value-clause-text g t c =
     entry_stopped c.items.invariant c.in-Some.ensures.steps c.from_residual-in_err-write_value.ensures.0
-    (stopped_late (c.in_ok-begin_entry.ensures.ok refl) (stopped_for (wide_within (g.S.Spacing.indentation c.args.spacing) c.args.margin _ _ (own_no_higher c.items.invariant c.in-Some.ensures.steps)) (c.in_err-write_value.ensures.text.err refl)))
+    (stopped_late (c.in_ok-begin_entry.ensures.ok refl) (stopped_for
+    (wide_within (g.S.Spacing.indentation c.args.spacing) c.args.margin _ _ (own_no_higher c.items.invariant c.in-Some.ensures.steps))
+    (c.in_err-write_value.ensures.text.err refl)))
 
 pub write_members-returns-in_err-write_value-clause-text : goal.write_members-returns-in_err-write_value-clause-text
 write_members-returns-in_err-write_value-clause-text g t c =
     entry_stopped c.pairs.invariant c.in-Some.ensures.steps c.from_residual-in_err-write_value.ensures.0
-    (stopped_late (c.in_ok-begin_entry.ensures.ok refl) (stopped_late (c.in_ok-write_key.ensures.text.ok refl) (stopped_late (c.in_ok-end_key.ensures.ok refl) (stopped_for (wide_within (g.S.Spacing.indentation c.args.spacing) c.args.margin _ _ (own_no_higher c.pairs.invariant c.in-Some.ensures.steps)) (c.in_err-write_value.ensures.text.err refl)))))
+    (stopped_late (c.in_ok-begin_entry.ensures.ok refl) (stopped_late (c.in_ok-write_key.ensures.text.ok refl)
+    (stopped_late (c.in_ok-end_key.ensures.ok refl) (stopped_for
+    (wide_within (g.S.Spacing.indentation c.args.spacing) c.args.margin _ _ (own_no_higher c.pairs.invariant c.in-Some.ensures.steps))
+    (c.in_err-write_value.ensures.text.err refl)))))
 
 -- ---- items and members: the end
 
@@ -134,4 +147,5 @@ pub write_items-returns-clause-given : goal.write_items-returns-clause-given
 write_items-returns-clause-given g t c = none_decide c.items.invariant.decide c.in-None.ensures.steps.0
 
 pub write_members-returns-clause-given : goal.write_members-returns-clause-given
-write_members-returns-clause-given g t c = given_hash _ c.iter-key-items.ensures.distinct (none_decide c.pairs.invariant.decide c.in-None.ensures.steps.0)
+write_members-returns-clause-given g t c =
+    given_hash _ c.iter-key-items.ensures.distinct (none_decide c.pairs.invariant.decide c.in-None.ensures.steps.0)

@@ -6,4 +6,5 @@ returns c =
     let v = c.args.block in
     let long = c.fits-block.0 in
     masked _ is_escaped v _ (omega arith) c.fits-block.1
-    (either _ _ v (either _ _ v (either _ _ v (zip2_splat hit v 16 34 long) (zip2_splat hit v 16 92 long)) (zip2_splat lane_below v 16 32 long)) (zip2_splat hit v 16 127 long)) tt
+    (either _ _ v (either _ _ v (either _ _ v (zip2_splat hit v 16 34 long) (zip2_splat hit v 16 92 long))
+    (zip2_splat lane_below v 16 32 long)) (zip2_splat hit v 16 127 long)) tt

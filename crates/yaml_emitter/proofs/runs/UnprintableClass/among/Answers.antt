@@ -6,4 +6,5 @@ returns c =
     let v = c.args.block in
     let long = c.fits-block.0 in
     masked _ is_unprintable v _ (omega arith) c.fits-block.1
-    (either _ _ v (splat_first lane_below v 16 126 long) (both_of _ _ v (both_of _ _ v (zip2_splat lane_below v 16 32 long) (zip2_splat other v 16 10 long)) (zip2_splat other v 16 9 long))) tt
+    (either _ _ v (splat_first lane_below v 16 126 long) (both_of _ _ v
+    (both_of _ _ v (zip2_splat lane_below v 16 32 long) (zip2_splat other v 16 10 long)) (zip2_splat other v 16 9 long))) tt

@@ -5,7 +5,8 @@ pub split_at-requires : goal.split_at-requires
 split_at-requires c =
     let value = c.as_bytes-bytes.ensures.value in
     let part = rw value at (c.in_ok-after.ensures {u = tt}) in
-    (number_cut c.self.inside.rest.now c.in_ok-after.after.now _ c.self.invariant part (ap (λ x. length x - length c.in_ok-after.after.now) value)).boundary
+    (number_cut c.self.inside.rest.now c.in_ok-after.after.now _ c.self.invariant part
+    (ap (λ x. length x - length c.in_ok-after.after.now) value)).boundary
 
 pub returns : goal.returns
 returns c =
