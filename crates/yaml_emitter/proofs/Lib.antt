@@ -1,6 +1,5 @@
 pub mod FmtLemmas
 pub mod RunLemmas
-pub mod PrintableLemmas
 pub mod WritingLemmas
 pub mod LineLemmas
 pub mod NumberLemmas
@@ -12,6 +11,5 @@ pub mod EntryLemmas
 pub mod ValidLemmas
 pub mod ListLemmas
 pub mod NodeLemmas
-pub mod DeepLemmas
 mod Common
 mod Answering

@@ -6,9 +6,8 @@ pub use Rattle.yaml_json.proofs.Collections.{array_begun, array_empty, item_last
 pub use Rattle.yaml_json.proofs.DigitLemmas.{end_text, has_digits, HasDigits, minus_first, pairs_below, signed_ascii, two_digits, two_more}
 pub use Rattle.yaml_json.proofs.GivenLemmas.{flat_given, flat_text_is, given_hash, has_json}
 pub use Rattle.yaml_json.proofs.LeftLemmas.{Goes, goes_in, goes_on, item_entries, item_next, low_brackets, member_entries, member_next, members_end, no_member_left, part_inside, part_margin, put_in_brackets, stopped_before, stopped_in, when_err, wide_within}
-pub use Rattle.yaml_json.proofs.LevelLemmas.{finished, Holds, opened, opened_smaller, opening_stopped, part_next, place, resumed, resumed_smaller, root_next, stands_in}
+pub use Rattle.yaml_json.proofs.LevelLemmas.{finished, Holds, level_left, margin_stops, next_end, opened, opened_smaller, opening_stopped, opens_more, part_next, place, resumed, resumed_smaller, root_next, stands_in}
 pub use Rattle.yaml_json.proofs.Longer.{gap_nearer, key_nearer, value_nearer}
-pub use Rattle.yaml_json.proofs.NestLemmas.{level_left, margin_stops, next_end, opens_more}
 pub use Rattle.yaml_json.proofs.NumberLemmas.{no_real, real_is}
 pub use Rattle.yaml_json.proofs.OpenLevels.{trees, waiting, weight}
 pub use Rattle.yaml_json.proofs.Places.{ended_on, has_scalar, last_put, open_on, opened_in, outermost}

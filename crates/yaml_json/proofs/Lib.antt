@@ -6,7 +6,6 @@ pub mod GivenLemmas
 pub mod LeftLemmas
 pub mod LevelLemmas
 pub mod Longer
-pub mod NestLemmas
 pub mod NumberLemmas
 pub mod OpenLevels
 pub mod Places

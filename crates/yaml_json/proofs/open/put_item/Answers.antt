@@ -1,4 +1,4 @@
-use Rattle.yaml_json.proofs.Answering.{[], ap, arith, gap_nearer, item_last, item_put, length, sym, view, was_ok, ◌++◌, ◌∙◌, ◌∷◌, ◌≡◌}
+use Rattle.yaml_json.proofs.Answering.{ap, arith, gap_nearer, item_last, item_put, length, sym, was_ok, ◌∙◌}
 use Rattle.yaml_json.proofs.open.put_item.Goals as goal
 
 pub returns-then-take : goal.returns-then-take
