@@ -1,5 +1,5 @@
 -- Tests of bytes and of characters, and sets of bytes.
-use Rattle.yaml_emitter.proofs.Common.{[], All-from_get_or, and_from, and_parts, ap, append-nil, arith, Bool, cases_order, chars, chars-IsAscii, each_upto, encode_ascii, encode_utf8, encode_utf8_all, encodes-chars, false, get_or, has_bit, inl, inr, inside_one, is_ascii_lowercase, is_escaped, is_low, is_unfit_for_plain, IsAscii, IsCharBoundary, IsCharBoundary-before_ascii, IsCharBoundary-end, IsUtf8, length, List, list_all, list_any, list_any-append, list_any_none, lt-ltb, nat_lt, nat_tests, not, or-false, prefix_len, prefix_len-le-length, prefix_len_stops, refl, same, same_is, slice_index, subst, suc, sym, take, take_while-cons, true, zero, ℕ, ◌&&◌, ◌<◌, ◌||◌, ◌∙◌, ◌∷◌, ◌≡◌, ◌≤◌}
+use Rattle.yaml_emitter.proofs.Common.{[], All-from_get_or, and_from, and_parts, ap, append-nil, arith, Bool, cases_order, chars, chars-append, chars-IsAscii, chars_past_char, drop, each_upto, encode_ascii, encode_utf8, encode_utf8_all, encodes-chars, false, get_or, has_bit, inl, inr, inside_one, is_ascii_lowercase, is_escaped, is_low, is_unfit_for_plain, IsAscii, IsCharBoundary, IsCharBoundary-before_ascii, IsCharBoundary-end, IsUtf8, IsUtf8-drop, IsUtf8-past_char, IsUtf8-take, len_utf8_bounds, length, length-append, length-drop, length-encode, List, list_all, list_any, list_any-append, list_any_none, lt-ltb, nat_lt, nat_tests, not, or-false, prefix_len, prefix_len-le-length, prefix_len_stops, refl, same, same_is, slice_index, subst, suc, sym, take, take-append-drop, take_while-cons, true, zero, ℕ, ◌&&◌, ◌++◌, ◌<◌, ◌||◌, ◌∙◌, ◌∷◌, ◌≡◌, ◌≤◌}
 use Rattle.yaml_emitter.specs.declared.runs.Bits.{Bits}
 
 -- ---- texts of ASCII
@@ -67,6 +67,24 @@ run_boundary p low bs =
       | inr (inl l) ↦ IsCharBoundary-before_ascii bs (prefix_len p bs) l (low _ (prefix_len_stops p bs 0 l))
       | inr (inr g) ↦ absurd (omega (arith, prefix_len-le-length p bs))
     ]
+
+-- ---- a text that is cut before a character
+
+pub record Cut (bs : List ℕ) (n c : ℕ) (back : List ℕ) : Type 0 where
+  pub whole : chars bs ≡ chars (take n bs) ++ c ∷ chars back
+  pub shorter : length back < length bs
+  pub utf8 : IsUtf8 back
+
+pub cut_before : (bs : List ℕ) (n c : ℕ) (back : List ℕ) → IsUtf8 bs → IsCharBoundary bs n → drop n bs ≡ encode_utf8 c ++ back → Cut bs n c back
+cut_before bs n c back u b e =
+    let rest = IsUtf8-drop bs n u b in
+    let long = ap length e ∙ length-append (encode_utf8 c) back in
+    record {
+      whole = ap chars (sym (take-append-drop n bs)) ∙ chars-append (take n bs) (drop n bs) (IsUtf8-take bs n u b)
+          ∙ ap (λ x. chars (take n bs) ++ x) (chars_past_char (drop n bs) back c rest e);
+      shorter = omega (arith, long, length-drop n bs, length-encode c, len_utf8_bounds c);
+      utf8 = IsUtf8-past_char (drop n bs) back c rest e;
+    }
 
 -- ---- sets that are held as bits
 

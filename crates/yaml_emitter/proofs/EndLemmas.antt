@@ -1,7 +1,7 @@
 -- How a text begins and ends, by its bytes and by its characters.
 use Rattle.std.specs.Str.Pattern.{HasPrefixMatch, FindsTextPrefix, HasSuffixMatch, FindsTextSuffix}
 use Rattle.std.specs.Bool.{MatchBool}
-use Rattle.yaml_emitter.proofs.Common.{[], ap, arith, begins_with, Bool, bytes_eq-Decides, chars, chars-append, chars-nil, drop, drop-append_seam, encode_utf8_all, encodes-append, encodes-chars, encodes-IsAscii, ends_with, false, get_or, get_or-append_seam, is_low, IsCharBoundary-before_ascii, IsUtf8, IsUtf8-from_ascii, IsUtf8-take, length, length-append, List, nat_eq, nat_tests, None, refl, sym, take, take-append-drop, take-append_seam, take-length, take_more, true, ℕ, ◌++◌, ◌+◌, ◌-◌, ◌<◌, ◌==◌, ◌∙◌, ◌∷◌, ◌≡◌, ◌≢◌, ◌≤◌}
+use Rattle.yaml_emitter.proofs.Common.{[], ap, arith, begins_with, Bool, bytes_eq-Decides, chars, chars-append, drop, drop-append_seam, encode_utf8_all, encodes-append, encodes-chars, encodes-IsAscii, ends_with, false, get_or, get_or-append_seam, is_low, IsCharBoundary-before_ascii, IsUtf8, IsUtf8-from_ascii, IsUtf8-take, length, length-append, List, nat_eq, nat_tests, None, refl, sym, take, take-append-drop, take-append_seam, take-length, take_more, true, ℕ, ◌++◌, ◌+◌, ◌-◌, ◌<◌, ◌==◌, ◌∙◌, ◌∷◌, ◌≡◌, ◌≢◌, ◌≤◌}
 use Rattle.yaml_emitter.proofs.ByteLemmas.{low_at, low_chars}
 
 false_if : (b : Bool) → (b ≡ true → ⊥) → false ≡ b
@@ -74,6 +74,3 @@ last_is bs c lt u some = by (get_or bs (length bs - 1) 0 == c) refl
         (last_apart bs some ∙ ap (λ x. front ++ x ∷ []) f)
     by false e = ends_otherwise (c ∷ []) bs low u (λ front f. let g = no_end bs front c f in grind (arith, nat_tests))
 
-pub none_last : (bs : List ℕ) (c : ℕ) → length bs < 1 → false ≡ ends_with nat_eq (chars bs) (c ∷ [])
-none_last [] c n = ap (λ x. ends_with nat_eq x (c ∷ [])) (sym chars-nil)
-none_last (b ∷ bs) c n = absurd (omega arith)

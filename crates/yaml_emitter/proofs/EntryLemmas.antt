@@ -23,7 +23,7 @@ deeper_line n x = ap (λ t. 10 ∷ t) (spaces_end n x) ∙ ap (λ k. new_line k 
 
 below_indented : (n : ℕ) (ls : List (List ℕ)) → below n (indented ls) ≡ below (n + 1) ls
 below_indented n [] = refl
-below_indented n (l ∷ ls) = ap (λ t. new_line n ++ 32 ∷ 32 ∷ (l ++ t)) (below_indented n ls) ∙ deeper_line n (l ++ below (n + 1) ls)
+below_indented n (l ∷ ls) = rw (below_indented n ls) (deeper_line n (l ++ below (n + 1) ls))
 
 below_append : (n : ℕ) (a b : List (List ℕ)) → below n (a ++ b) ≡ below n a ++ below n b
 below_append n [] b = refl

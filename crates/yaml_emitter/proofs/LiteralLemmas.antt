@@ -1,7 +1,7 @@
 -- The tests of literal blocks.
-use Rattle.yaml_emitter.proofs.Common.{[], and_parts, ap, append-nil, append_assoc, arith, begins_as_marker, begins_blank, begins_well, begins_with, begins_with_mark, below, Bool, bytes_eq-Decides, chars, chars-append, chars_past_char, codes, drop, drop-append_seam, drop-cons, encode_ascii, encode_utf8, ends_with, false, first_full_line_is_indented, get_or, has_clear_lines, if◌then◌else◌, is_break, is_line_feed, is_literal_character, is_literal_text, is_low, is_root_literal, is_some, is_unprintable, IsCharBoundary, IsCharBoundary-after_ascii, IsCharBoundary-before_ascii, IsCharBoundary-from_take, IsFirstCut, IsUnbroken, IsUtf8, IsUtf8-drop, IsUtf8-from_ascii, IsUtf8-past_char, IsUtf8-take, last_line, length, length-drop, lines_of, List, list_all, list_all-append, list_all-more, list_any, MatchOption, nat_eq, nat_lt, nat_tests, new_line, NonePass, not, onto_first_line, Option, or-false, prefix_len, prefix_len-le-length, prefix_len_stops, refl, subst, suc, sym, take, take-append-drop, take-append_seam, take-length, true, ℕ, ◌&&◌, ◌++◌, ◌<◌, ◌==◌, ◌||◌, ◌∙◌, ◌∷◌, ◌≡◌, ◌≢◌}
+use Rattle.yaml_emitter.proofs.Common.{[], and_parts, ap, append-nil, append_assoc, arith, begins_as_marker, begins_blank, begins_well, begins_with, begins_with_mark, below, Bool, bytes_eq-Decides, chars, chars-append, codes, drop, drop-append_seam, drop-cons, encode_ascii, encode_utf8, ends_with, false, first_full_line_is_indented, get_or, has_clear_lines, if◌then◌else◌, is_break, is_line_feed, is_literal_character, is_literal_text, is_low, is_root_literal, is_some, is_unprintable, IsCharBoundary, IsCharBoundary-after_ascii, IsCharBoundary-before_ascii, IsCharBoundary-from_take, IsFirstCut, IsUnbroken, IsUtf8, IsUtf8-drop, IsUtf8-from_ascii, IsUtf8-take, last_line, length, length-drop, lines_of, List, list_all, list_all-append, list_all-more, list_any, MatchOption, nat_eq, nat_lt, nat_tests, new_line, NonePass, not, onto_first_line, Option, or-false, prefix_len, prefix_len-le-length, prefix_len_stops, refl, subst, suc, sym, take, take-append-drop, take-append_seam, take-length, true, ℕ, ◌&&◌, ◌++◌, ◌<◌, ◌==◌, ◌||◌, ◌∙◌, ◌∷◌, ◌≡◌, ◌≢◌}
 use Rattle.yaml_chars.specs.Class as class
-use Rattle.yaml_emitter.proofs.ByteLemmas.{all_pass, all_tested, low_at, low_chars}
+use Rattle.yaml_emitter.proofs.ByteLemmas.{all_pass, all_tested, cut_before, low_at, low_chars}
 use Rattle.yaml_emitter.proofs.EndLemmas.{begins_otherwise, low_front}
 use Rattle.yaml_emitter.proofs.WordLemmas.{empty_text}
 use Rattle.std.specs.Borrow.{Bor}
@@ -88,18 +88,14 @@ module _ (s : List ℕ) (u : IsUtf8 s) (some : prefix_len runs_on s ≢ length s
 
   pub first_cut : IsFirstCut s (take (prefix_len runs_on s) s) (drop 1 (drop (prefix_len runs_on s) s))
   first_cut =
-      let n = prefix_len runs_on s in
-      let front = IsUtf8-take s n u break_boundary in
-      let behind = IsUtf8-drop s n u break_boundary in
-      let split : drop n s ≡ encode_utf8 10 ++ drop 1 (drop n s) =
-          break_cut ∙ ap (λ x. 10 ∷ x) (sym (ap (drop 1) break_cut)) ∙ ap (λ x. x ++ drop 1 (drop n s))
-          (sym (encode_ascii 10 (omega arith))) in
+      let rest = drop (prefix_len runs_on s) s in
+      let split : rest ≡ encode_utf8 10 ++ drop 1 rest = rw (encode_ascii 10 (omega arith)) (break_cut ∙ ap (λ x. 10 ∷ x) (sym (ap (drop 1) break_cut))) in
+      let cut = cut_before s (prefix_len runs_on s) 10 (drop 1 rest) u break_boundary split in
       record {
-        none_before = unbroken_front s front;
-        whole = ap chars (sym (take-append-drop n s)) ∙ chars-append (take n s) (drop n s) front
-            ∙ ap (λ t. chars (take n s) ++ t) (chars_past_char (drop n s) (drop 1 (drop n s)) 10 behind split);
-        shorter = omega (arith, within, length-drop n s, length-drop 1 (drop n s));
-        utf8 = IsUtf8-past_char (drop n s) (drop 1 (drop n s)) 10 behind split;
+        none_before = unbroken_front s (IsUtf8-take s _ u break_boundary);
+        whole = cut.whole;
+        shorter = cut.shorter;
+        utf8 = cut.utf8;
       }
 
 -- what holds of the lines of a text, the first one apart

@@ -1,20 +1,17 @@
 -- Runs of bytes as texts.
 use Rattle.std.proofs.lemmas.List.Concat.{flat_map-append}
-use Rattle.yaml_emitter.proofs.Common.{[], and_parts, ap, append-nil, arith, chars, chars-append, chars_past_char, drop, encode_utf8, IsCharBoundary, IsRun, IsRunCut, IsUtf8, IsUtf8-drop, IsUtf8-past_char, IsUtf8-take, len_utf8_bounds, length, length-append, length-encode, List, list_all, nat_tests, ne_eqb, nil_from_length, prefix_len, refl, Result, stands, subst, sym, take, take-append-drop, true, writes_as, WritesUnless, written_character, written_escapes, ℕ, ◌++◌, ◌∙◌, ◌∷◌, ◌≡◌, ◌≢◌}
-use Rattle.yaml_emitter.proofs.ByteLemmas.{all_pass, all_tested, run_boundary}
+use Rattle.yaml_emitter.proofs.Common.{[], and_parts, ap, append-nil, arith, chars, drop, encode_utf8, IsCharBoundary, IsRun, IsRunCut, IsUtf8, IsUtf8-take, length, List, list_all, nat_tests, ne_eqb, nil_from_length, prefix_len, refl, Result, stands, sym, take, take-append-drop, true, writes_as, WritesUnless, written_character, written_escapes, ℕ, ◌++◌, ◌∙◌, ◌∷◌, ◌≡◌, ◌≢◌}
+use Rattle.yaml_emitter.proofs.ByteLemmas.{all_pass, all_tested, cut_before, run_boundary}
 use Rattle.yaml_emitter.specs.Escaping.{written_code}
 
 -- ---- one character
 
-stands_written : (c : ℕ) → stands c ≡ true → written_character c ≡ c ∷ []
-unfolding written_character
-stands_written c h = grind (arith, nat_tests)
-
 -- ---- a text
 
 run_of : (cs : List ℕ) → list_all stands cs ≡ true → written_escapes cs ≡ cs
+unfolding written_character
 run_of [] h = refl
-run_of (c ∷ cs) h = let parts = and_parts (stands c) (list_all stands cs) h in (λ i. stands_written c parts.0 i ++ run_of cs parts.1 i)
+run_of (c ∷ cs) h = let parts = and_parts (stands c) (list_all stands cs) h in grind (arith, nat_tests, parts, run_of cs parts.1)
 
 -- the text may be cut after its first run
 pub stands_boundary : (bs : List ℕ) → IsCharBoundary bs (prefix_len stands bs)
@@ -32,26 +29,11 @@ only_run bs u n =
     rw whole at (front_run bs u)
 
 -- where a character stands after the run
-pub run_cut : (bs run back : List ℕ) (c : ℕ) → IsUtf8 bs → run ≡ take (prefix_len stands bs) bs → drop (prefix_len stands bs) bs ≡ encode_utf8 c ++ back → IsRunCut bs run c back
-run_cut bs run back c u e f =
-    let n = prefix_len stands bs in
-    let run_utf8 : IsUtf8 run = subst IsUtf8 (sym e) (IsUtf8-take bs n u (stands_boundary bs)) in
-    let rest_utf8 : IsUtf8 (drop n bs) = IsUtf8-drop bs n u (stands_boundary bs) in
-    let parts : bs ≡ run ++ drop n bs = sym (take-append-drop n bs) ∙ ap (λ x. x ++ drop n bs) (sym e) in
-    record {
-      stands = subst (λ x. IsRun (chars x)) (sym e) (front_run bs u);
-      whole = ap chars parts ∙ chars-append run (drop n bs) run_utf8 ∙ ap (λ x. chars run ++ x) (chars_past_char (drop n bs) back c rest_utf8 f);
-      shorter = omega (
-        arith,
-        ap length f,
-        length-append (encode_utf8 c) back,
-        length-encode c,
-        len_utf8_bounds c,
-        ap length parts,
-        length-append run (drop n bs),
-      );
-      utf8 = IsUtf8-past_char (drop n bs) back c rest_utf8 f;
-    }
+pub run_cut : (bs : List ℕ) (c : ℕ) (back : List ℕ) → IsUtf8 bs → drop (prefix_len stands bs) bs ≡ encode_utf8 c ++ back
+    → IsRunCut bs (take (prefix_len stands bs) bs) c back
+run_cut bs c back u e =
+    let cut = cut_before bs (prefix_len stands bs) c back u (stands_boundary bs) e in
+    record { stands = front_run bs u; whole = cut.whole; shorter = cut.shorter; utf8 = cut.utf8 }
 
 -- ---- how it is written
 

@@ -5,7 +5,7 @@ pub use Rattle.yaml_json.proofs.ReadCommon.{[], carriage_return, chars, false_wo
 pub use Rattle.yaml_json.proofs.Collections.{array_begun, array_empty, item_last, item_put, member_last, member_put, object_begun, object_empty, pair_added}
 pub use Rattle.yaml_json.proofs.DigitLemmas.{end_text, has_digits, HasDigits, minus_first, pairs_below, signed_ascii, two_digits, two_more}
 pub use Rattle.yaml_json.proofs.GivenLemmas.{flat_given, flat_text_is, given_hash, has_json}
-pub use Rattle.yaml_json.proofs.LeftLemmas.{Goes, goes_in, goes_on, item_entries, item_next, low_brackets, member_entries, member_next, members_end, no_member_left, part_inside, part_margin, put_in_brackets, stopped_before, stopped_in, when_err, wide_within}
+pub use Rattle.yaml_json.proofs.LeftLemmas.{Goes, goes_in, goes_on, item_entries, item_next, low_brackets, member_entries, member_next, members_end, no_member_left, part_wide, put_in_brackets, stopped_before, stopped_in, when_err, wide_within}
 pub use Rattle.yaml_json.proofs.LevelLemmas.{finished, Holds, level_left, margin_stops, next_end, opened, opened_smaller, opening_stopped, opens_more, part_next, place, resumed, resumed_smaller, root_next, stands_in}
 pub use Rattle.yaml_json.proofs.Longer.{gap_nearer, key_nearer, value_nearer}
 pub use Rattle.yaml_json.proofs.NumberLemmas.{no_real, real_is}

@@ -1,5 +1,5 @@
 -- The words of other crates and of specs/ that the proofs here use, passed on from one place. Declares nothing.
-pub use Rattle.std.proofs.Common.{[], add-one, ap, append-nil, append_assoc, arith, Bool, codes, drop, eqb, eqb→eq, false, FitsSigned, get_or, Global, if◌then◌else◌, int_le, is_err, is_none, is_some, length, length-append, length-set, List, map, MatchResult, max, mul-le-mul_left, nat_le, nat_lt, negsuc, None, not, OnErr, Option, pos, refl, Result, reverse, set, Some, String, subst, suc, sym, take, to_z-of_z, true, true≢false, unsigned_abs, unwrap_or, w64, zero, ℕ, ℤ, ◌%◌, ◌&&◌, ◌*◌, ◌++◌, ◌+◌, ◌-◌, ◌/◌, ◌<◌, ◌==◌, ◌^◌, ◌∙◌, ◌∷◌, ◌≡◌, ◌≢◌, ◌≤◌}
+pub use Rattle.std.proofs.Common.{[], add-one, ap, append-nil, append_assoc, arith, Bool, codes, drop, eqb, eqb→eq, false, FitsSigned, get_or, Global, int_le, is_err, is_none, is_some, length, length-append, length-set, List, map, MatchResult, max, mul-le-mul_left, nat_le, nat_lt, negsuc, None, not, OnErr, Option, pos, refl, Result, reverse, set, Some, String, subst, suc, sym, take, to_z-of_z, true, true≢false, unsigned_abs, unwrap_or, w64, zero, ℕ, ℤ, ◌%◌, ◌&&◌, ◌*◌, ◌++◌, ◌+◌, ◌-◌, ◌/◌, ◌<◌, ◌==◌, ◌^◌, ◌∙◌, ◌∷◌, ◌≡◌, ◌≢◌, ◌≤◌}
 pub use Rattle.std.proofs.Math.ListN.{get_or-eq_default, get_or-map}
 pub use Rattle.std.proofs.lemmas.Bool.{and_from, and_parts}
 pub use Rattle.std.proofs.lemmas.Bool.Decides.{nat_tests}
@@ -11,7 +11,7 @@ pub use Rattle.std.specs.Char.{is_ascii_digit}
 pub use Rattle.std.specs.Fmt.{decimal, signed_decimal}
 pub use Rattle.std.specs.Str.{all_scalars, chars, IsAscii, IsUtf8}
 pub use Rattle.defs_layout.proofs.Reading.{is_json_number-read, reads_number}
-pub use Rattle.defs_layout.specs.Fault.{are_strings, below, Fault, first_fault, first_item_fault, first_member_fault, first_of, has_other_key, here, step_of}
+pub use Rattle.defs_layout.specs.Fault.{are_strings, below, Fault, first_fault, first_item_fault, first_member_fault, first_of, here, step_of}
 pub use Rattle.defs_layout.specs.HasJson.{AllHaveJson, are_characters, AreMembers, HasJson, IsKey, item_nesting, member_nesting, nesting}
 pub use Rattle.defs_layout.specs.JsonReal.{is_frac, is_json_real}
 unfoldable pub use Rattle.defs_layout.specs.JsonReal.{is_json_number}

@@ -1,5 +1,5 @@
 -- What every tree of the library meets, part by part.
-use Rattle.yaml_json.proofs.Common.{[], all_scalars, AllHaveJson, and_from, and_parts, are_characters, are_strings, AreGiven, AreMembers, ArePairsGiven, arith, array, below, Bool, boolean, chars, false, Fault, first_fault, first_item_fault, first_member_fault, first_of, flat_text, has_other_key, hash, hash_tree, HasJson, here, if◌then◌else◌, index, integer, is_block, is_string, IsFlatGiven, IsGiven, IsKey, IsKeyGiven, IsUtf8, item, Items, json_text, List, nat_tests, no_items, no_pairs, None, null, Option, pair, Pairs, pairs_of, real, refl, scalars-chars, Step, step_of, string, Tree, true, true≢false, ℕ, ◌+◌, ◌∷◌, ◌≡◌}
+use Rattle.yaml_json.proofs.Common.{[], all_scalars, AllHaveJson, and_from, and_parts, are_characters, are_strings, AreGiven, AreMembers, ArePairsGiven, arith, array, below, boolean, chars, false, Fault, first_fault, first_item_fault, first_member_fault, first_of, flat_text, hash, hash_tree, HasJson, index, integer, is_block, is_string, IsFlatGiven, IsGiven, IsKey, IsKeyGiven, IsUtf8, item, Items, json_text, List, nat_tests, no_items, no_pairs, None, null, Option, pair, Pairs, pairs_of, real, refl, scalars-chars, Step, step_of, string, Tree, true, true≢false, ℕ, ◌+◌, ◌∷◌, ◌≡◌}
 use Rattle.defs_tree.specs.Pairs.{AreDistinct}
 use Rattle.yaml_emitter.proofs.ValidLemmas.{distinct_pairs}
 
@@ -36,9 +36,6 @@ none_first s a q e = grind arith
 key_has : (k : Tree) → is_string k ≡ true → IsKeyGiven k → IsKey k
 key_has a e g = grind arith
 
-keys_have : (b : Bool) (o : Option Fault) → (if b then o else here has_other_key) ≡ None → (b ≡ true) × (o ≡ None)
-keys_have a o e = grind arith
-
 mutual
   pub has_json : (t : Tree) → first_fault t ≡ None → IsGiven t → HasJson t
   has_json (real s) e g = grind arith
@@ -46,7 +43,7 @@ mutual
   has_json (string s) e g = g
   has_json (boolean b) e g = tt
   has_json (array ts) e g = items_have 0 ts e g
-  has_json (hash ps) e g = let h = keys_have (are_strings ps) (first_member_fault ps) e in (g.0, members_have ps h.0 h.1 g.1)
+  has_json (hash ps) e g = (g.0, members_have ps (grind arith) (grind arith) g.1)
   has_json null e g = tt
   has_json t e g = cc
 

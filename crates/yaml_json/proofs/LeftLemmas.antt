@@ -1,5 +1,5 @@
 -- What is left to write of arrays and objects.
-use Rattle.yaml_json.proofs.Common.{[], ap, append_assoc, AreGiven, ArePairsGiven, ArePartsGiven, arith, array, before_entry, below, Bool, closing, deeper, depth, drop, drop_more, Ends, Entries, false, fault_left, first_fault, first_of, flat_text, get_or, hash, hash_tree, is_block, is_low, IsFlatGiven, IsGiven, IsKeyGiven, IsLeft, IsTooWide, item, item_nesting, Items, items_depth, items_left, items_of, items_view, json_text, key_end, key_text, left_after, left_as, left_in, left_none, left_stopped, length, length-drop, length-map, List, max, member_nesting, members_left, more_items, more_members, mul-le-mul_left, nesting, new_line, no_pairs, nodes, null, OnErr, opening, Option, pair, paired, Pairs, pairs_depth, pairs_of, part_nesting, part_nodes, parts_left, refl, Result, Step, step_in, Stopped, stopped_as, stopped_early, stopped_late, Stops, subst, suc, sym, Tree, true, unwrap_or, view, Wrote, Yaml, ℕ, ◌++◌, ◌+◌, ◌-◌, ◌<◌, ◌^◌, ◌∙◌, ◌∷◌, ◌≡◌, ◌≤◌}
+use Rattle.yaml_json.proofs.Common.{[], ap, append_assoc, AreGiven, ArePairsGiven, ArePartsGiven, arith, array, before_entry, below, Bool, closing, deeper, depth, drop, drop_more, Ends, Entries, false, fault_left, first_fault, first_of, flat_text, get_or, hash, hash_tree, is_block, is_low, IsFlatGiven, IsGiven, IsKeyGiven, IsLeft, IsTooWide, item, item_nesting, Items, items_depth, items_left, items_of, items_view, json_text, key_end, key_text, left_after, left_as, left_in, left_none, left_stopped, length, length-drop, length-map, List, max, member_nesting, members_left, more_items, more_members, mul-le-mul_left, nesting, new_line, no_pairs, nodes, null, OnErr, opening, Option, pair, paired, Pairs, pairs_depth, pairs_of, part_nesting, part_nodes, parts_left, refl, Result, Step, step_in, Stopped, stopped_as, stopped_early, stopped_late, Stops, subst, suc, sym, Tree, true, unwrap_or, view, Wrote, Yaml, ℕ, ◌++◌, ◌+◌, ◌-◌, ◌<◌, ◌∙◌, ◌∷◌, ◌≡◌, ◌≤◌}
 use Rattle.std.proofs.lemmas.List.{get_or-map}
 use Rattle.yaml_json.proofs.GivenLemmas.{flat_given, flat_text_is}
 
@@ -11,14 +11,6 @@ wide_within i m n k h w = let grown = mul-le-mul_left (unwrap_or i 0) h in omega
 
 pub part_wide : (t : Tree) → is_block t ≡ true → nesting t ≡ suc (part_nesting t)
 part_wide a b = grind arith
-
--- of a node that has parts
-pub part_inside : (i : Option ℕ) (m inner : ℕ) (t : Tree) → is_block t ≡ true → inner ≡ deeper i m
-    → IsTooWide i inner (part_nesting t) → IsTooWide i m (nesting t)
-part_inside i m inner t b e w = rw (part_wide t b) (omega arith)
-
-pub part_margin : (i : Option ℕ) (m : ℕ) (t : Tree) → is_block t ≡ true → 2 ^ 64 ≤ deeper i m → IsTooWide i m (nesting t)
-part_margin i m t b w = rw (part_wide t b) (omega arith)
 
 -- ---- arrays and objects with parts
 

@@ -1,4 +1,4 @@
-use Rattle.yaml_emitter.proofs.Answering.{ap, drop, encode_utf8, length, only_run, prefix_len, run_cut, stands, stands_boundary, sym, take, ◌++◌, ◌∙◌}
+use Rattle.yaml_emitter.proofs.Answering.{ap, drop, encode_utf8, length, only_run, prefix_len, run_cut, stands, stands_boundary, sym, ◌++◌, ◌∙◌}
 use Rattle.yaml_emitter.proofs.escape.first_escape.Goals as goal
 
 pub split_at-requires : goal.split_at-requires
@@ -15,5 +15,6 @@ pub returns : goal.returns
 returns c =
     let n = c.run_length.ensures ∙ ap (prefix_len stands) c.as_bytes.ensures.value in
     let rest = c.chars-after.ensures.rest ∙ c.split_at.ensures.back ∙ ap (λ k. drop k c.args.text.now) n in
-    run_cut c.args.text.now c.split_at.result.0.now c.as_str.result.now c.in_ok-c.c c.utf8.text (c.split_at.ensures.front ∙ ap (λ k. take k c.args.text.now) n)
-    (sym rest ∙ (c.in_ok-c.ensures {u = tt}).steps.0 ∙ ap (λ x. encode_utf8 c.in_ok-c.c ++ x) (sym c.as_str.ensures))
+    rw (c.split_at.ensures.front, c.run_length.ensures, c.as_bytes.ensures.value)
+    (run_cut c.args.text.now c.in_ok-c.c c.as_str.result.now c.utf8.text
+    (sym rest ∙ (c.in_ok-c.ensures {u = tt}).steps.0 ∙ ap (λ x. encode_utf8 c.in_ok-c.c ++ x) (sym c.as_str.ensures)))

@@ -1,4 +1,4 @@
-use Rattle.yaml_json.proofs.Answering.{all_left, ap, arith, entry_stopped, first_within, flat_given, flat_text_is, given_hash, is_low, left_after, left_all, left_stopped, left_writes, low_brackets, none_decide, none_left, own_no_higher, part_inside, part_margin, put_in_brackets, refl, rest_left, stopped_at, stopped_early, stopped_first, stopped_for, stopped_late, sym, view, wide_within, writes_as, writes_err, writes_for, writes_late, writes_ok, wrote_then, ◌∙◌}
+use Rattle.yaml_json.proofs.Answering.{all_left, ap, arith, entry_stopped, first_within, flat_given, flat_text_is, given_hash, is_low, left_after, left_all, left_stopped, left_writes, low_brackets, none_decide, none_left, own_no_higher, part_wide, put_in_brackets, refl, rest_left, stopped_at, stopped_early, stopped_first, stopped_for, stopped_late, sym, view, wide_within, writes_as, writes_err, writes_for, writes_late, writes_ok, wrote_then, ◌∙◌}
 use Rattle.yaml_emitter.proofs.ValidLemmas.{in_any}
 use Rattle.yaml_json.proofs.value.+write.Goals as goal
 
@@ -36,9 +36,8 @@ write_node-put_ascii-requires-2 g t c = ap is_low c.brackets.ensures.closing ∙
 
 pub write_node-returns-in_err-inner-clause-text : goal.write_node-returns-in_err-inner-clause-text
 write_node-returns-in_err-inner-clause-text g t c =
-    writes_err c.from_residual.ensures.0
-    (stopped_at (part_margin (g.S.Spacing.indentation c.args.spacing) c.args.margin (view c.args.node.now)
-    (sym (c.if-not-has_parts.ensures {u = tt})) c.in_err-inner.ensures) left_all)
+    let wide = part_wide (view c.args.node.now) (sym (c.if-not-has_parts.ensures {u = tt})) in
+    writes_err c.from_residual.ensures.0 (stopped_at (rw wide (omega (arith, c.in_err-inner.ensures))) left_all)
 
 pub write_node-returns-in_err-put_ascii-clause-text : goal.write_node-returns-in_err-put_ascii-clause-text
 write_node-returns-in_err-put_ascii-clause-text g t c =
@@ -47,9 +46,11 @@ write_node-returns-in_err-put_ascii-clause-text g t c =
 
 pub write_node-returns-in_err-write_parts-clause-text : goal.write_node-returns-in_err-write_parts-clause-text
 write_node-returns-in_err-write_parts-clause-text g t c =
-    writes_as (put_in_brackets _ c.args.margin _ _ c.brackets.ensures.opening c.brackets.ensures.closing c.in_ok-inner.ensures (sym (c.if-not-has_parts.ensures {u = tt})))
-    (writes_err c.from_residual-in_err-write_parts.ensures.0
-    (stopped_late (c.in_ok-put_ascii.ensures.ok refl) (stopped_early _ (stopped_for (part_inside (g.S.Spacing.indentation c.args.spacing) c.args.margin c.in_ok-inner.inner (view c.args.node.now) (sym (c.if-not-has_parts.ensures {u = tt})) c.in_ok-inner.ensures) (c.in_err-write_parts.ensures.text.err refl)))))
+    let parts = sym (c.if-not-has_parts.ensures {u = tt}) in
+    let wide = part_wide (view c.args.node.now) parts in
+    writes_as (put_in_brackets _ c.args.margin _ _ c.brackets.ensures.opening c.brackets.ensures.closing c.in_ok-inner.ensures parts)
+    (writes_err c.from_residual-in_err-write_parts.ensures.0 (stopped_late (c.in_ok-put_ascii.ensures.ok refl)
+    (stopped_early _ (stopped_for (λ b. rw wide (omega (arith, b, c.in_ok-inner.ensures))) (c.in_err-write_parts.ensures.text.err refl)))))
 
 pub write_node-returns-in_err-new_line-clause-text : goal.write_node-returns-in_err-new_line-clause-text
 write_node-returns-in_err-new_line-clause-text g t c =
