@@ -36,7 +36,7 @@ pub use Rattle.defs_tree.specs.Writable.{item_levels, levels, pair_levels}
 pub use Rattle.yaml_chars.proofs.MaskLemmas.{all_upto, below as lane_below, both_of, each_upto, either, hit, masked, other, run_ends, run_from, run_stops, run_through, same, same_is, splat_first}
 pub use Rattle.yaml_emitter.specs.At.{below, is_low, new_line, spaces, stacked}
 pub use Rattle.yaml_emitter.specs.Blocks.{begins_well, begins_with_mark, has_clear_lines, IsFirstCut, IsUnbroken, last_line}
-pub use Rattle.yaml_emitter.specs.Deep.{AreRestsValid, GoesOn, rests_text, rests_weight, value_text}
+pub use Rattle.yaml_emitter.specs.Deep.{AreRestsValid, GoesOn, rests_text, rests_weight}
 pub use Rattle.yaml_emitter.specs.Entries.{after_mark, before_block, before_entry, complex_text, entries_text, mark_text, pair_text, scalar_box}
 pub use Rattle.yaml_emitter.specs.Runs.{has_bit, is_break, is_escaped, is_unprintable, IsRun, IsRunCut, stands}
 pub use Rattle.yaml_emitter.specs.ValidTree.{ArePairsValid, AreValid, IsValid}
@@ -44,5 +44,4 @@ pub use Rattle.yaml_emitter.specs.Words.{begins_plainly, float_names, is_name, i
 pub use Rattle.yaml_emitter.proofs.WritingLemmas.{left_after, left_all, left_as, left_none, left_stopped, left_then, left_writes, not_both, stopped_as, stopped_at, stopped_early, stopped_first, stopped_for, stopped_late, stopped_one, writes_as, writes_err, writes_for, writes_late, writes_ok, wrote_none, wrote_one, wrote_then}
 pub use Rattle.yaml_emitter.specs.Writing.{IsLeft, Stopped, WritesUnless, Wrote}
 pub use Rattle.yaml_tree.specs.Depth.{depth, items_depth, pairs_depth}
-pub use Rattle.yaml_tree.specs.View.{hash_tree, items_view, pairs_view, view}
-pub use Rattle.yaml_tree.specs.Weight.{items_nodes, pairs_nodes}
+pub use Rattle.yaml_tree.specs.View.{hash_tree, items_view, view}

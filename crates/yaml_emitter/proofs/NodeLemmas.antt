@@ -1,5 +1,5 @@
 -- How a writer stands after a node, and what is left to write of arrays and hashes that are begun.
-use Rattle.yaml_emitter.proofs.Common.{[], after_mark, ap, append-nil, append_assoc, AreRestsValid, arith, before_block, before_entry, below, Bool, box, codes, complex_text, entries_text, false, GoesOn, if◌then◌else◌, is_block, is_scalar, IsErr, IsLeft, IsOk, item_boxes, item_levels, items_of, joined, left_after, left_all, left_as, left_stopped, left_then, levels, List, max, not, not_both, pair_boxes, pair_levels, pair_text, pairs_of, refl, rests_text, rests_weight, Result, scalar_box, spelling, stacked, Stopped, stopped_early, stopped_for, subst, suc, sym, Tree, true, writes_as, WritesUnless, ℕ, ◌++◌, ◌+◌, ◌<◌, ◌∙◌, ◌∷◌, ◌≡◌, ◌≤◌}
+use Rattle.yaml_emitter.proofs.Common.{[], after_mark, ap, append-nil, append_assoc, AreRestsValid, arith, before_block, before_entry, below, Bool, box, codes, complex_text, entries_text, false, GoesOn, if◌then◌else◌, is_block, is_scalar, IsErr, IsLeft, IsOk, item_boxes, item_levels, items_of, joined, left_after, left_stopped, left_then, levels, List, max, not, not_both, pair_boxes, pair_levels, pair_text, pairs_of, refl, rests_text, rests_weight, Result, scalar_box, spelling, stacked, Stopped, stopped_early, stopped_for, sym, Tree, true, writes_as, WritesUnless, ℕ, ◌++◌, ◌+◌, ◌<◌, ◌∷◌, ◌≡◌, ◌≤◌}
 use Rattle.std.proofs.Math.Bool.{and-false, and-true}
 use Rattle.defs_tree.specs.DumpText.{dump_text}
 use Rattle.yaml_emitter.proofs.EntryLemmas.{HasLines, lines, box_lines, next_item, next_pair}
@@ -89,12 +89,6 @@ document_text c m t = by (box_lines c m true t)
 pub parts_then : {c : List ℕ} (a b more : List ℕ) → a ++ b ≡ c → c ++ more ≡ a ++ (b ++ more)
 parts_then a b more e = rw (← e) (append_assoc a b more)
 
--- of entries: what stands before the first, and that one
-pub entry_left : {X W : Type 0} (s : Entries X) {gives : W → List ℕ → W → Type 0} {w : W} {us xs : List X} {x : X} (first : Bool)
-    (more : List ℕ) → us ≡ x ∷ xs → IsLeft gives w (s.text first us ++ more) w (s.before first ++ (s.part x ++ (s.text false xs ++ more)))
-entry_left s {xs = xs} {x} first more e =
-    left_as (ap (λ us. s.text first us ++ more) e ∙ ap (λ t. t ++ more) (s.more_text first x xs) ∙ simp append_assoc) left_all
-
 -- ---- how a function goes on
 
 module _ {W : Type 0} {c m : Bool} {gives leaves : W → List ℕ → W → Type 0} {w v : W} {text : List ℕ} {weight : ℕ} {fit : Type 0} {rests : List Rest} {r : Result (Unit {0}) Error} where
@@ -136,12 +130,3 @@ module _ {W : Type 0} {c m : Bool} {gives leaves : W → List ℕ → W → Type
     valid = λ k a. f (g.valid k a);
     err = λ e. left_stopped l (g.err e);
   }
-
--- no entry is left
-pub entries_end : {X W : Type 0} (s : Entries X) {c m : Bool} {gives leaves : W → List ℕ → W → Type 0} {w : W} {r : Result (Unit {0}) Error}
-    (first : Bool) (rs : List Rest) (n : ℕ) {us : List X} → IsOk r → us ≡ []
-    → GoesOn c m gives leaves w (s.text first us ++ rests_text c m rs) (suc n + rests_weight rs)
-    (s.members.AreFit us × AreRestsValid rs) r w rs
-entries_end s {c} {m} first rs n k e =
-    goes_ok k (left_as (ap (λ us. s.text first us ++ rests_text c m rs) e ∙ ap (λ x. x ++ rests_text c m rs) (s.none_text first)) left_all)
-    (omega arith) (λ v. (subst s.members.AreFit (sym e) s.members.none_fit, v))
