@@ -1,6 +1,6 @@
 -- How a writer stands after a node, and what is left to write of arrays and hashes that are begun.
-use Rattle.yaml_emitter.proofs.Common.{[], after_mark, ap, append-nil, append_assoc, AreRestsValid, arith, before_block, before_entry, below, Bool, box, codes, complex_text, entries_text, false, GoesOn, if◌then◌else◌, is_block, is_scalar, IsErr, IsLeft, IsOk, item_boxes, item_levels, items_of, joined, left_after, left_stopped, left_then, levels, List, max, not, not_both, pair_boxes, pair_levels, pair_text, pairs_of, refl, rests_text, rests_weight, Result, scalar_box, spelling, stacked, Stopped, stopped_early, stopped_for, sym, Tree, true, writes_as, WritesUnless, ℕ, ◌++◌, ◌+◌, ◌<◌, ◌∷◌, ◌≡◌, ◌≤◌}
-use Rattle.std.proofs.Math.Bool.{and-false, and-true}
+use Rattle.yaml_emitter.proofs.Common.{[], after_mark, ap, append-nil, append_assoc, AreRestsValid, arith, before_entry, below, Bool, box, codes, entries_text, false, GoesOn, is_block, IsErr, IsLeft, IsOk, item_boxes, item_levels, items_of, joined, left_after, left_stopped, left_then, levels, List, max, not, not_both, pair_boxes, pair_levels, pair_text, pairs_of, refl, rests_text, rests_weight, Result, scalar_box, stacked, Stopped, stopped_early, stopped_for, sym, Tree, true, writes_as, WritesUnless, ℕ, ◌++◌, ◌+◌, ◌<◌, ◌∷◌, ◌≡◌, ◌≤◌}
+use Rattle.std.proofs.Math.Bool.{and-false}
 use Rattle.defs_tree.specs.DumpText.{dump_text}
 use Rattle.yaml_emitter.proofs.EntryLemmas.{HasLines, lines, box_lines, next_item, next_pair}
 use Rattle.yaml_emitter.proofs.ListLemmas.{Entries}
@@ -52,20 +52,10 @@ pair_entries c m level = record {
   more_text = λ first p ps. next_pair c m first level p.0 p.1 (pairs_of ps);
 }
 
--- the two forms of a pair
-pub pair_form : (c m : Bool) (level : ℕ) (k v : Tree) {b : Bool} → b ≡ is_scalar k
-    → (if b then spelling k ++ (codes ":" ++ after_mark true level v (box c m false v)) else complex_text c m level k v)
-    ≡ pair_text c m level k v
-pair_form c m level k v e = rw e refl
-
--- what stands after a mark: a scalar or a block
+-- what stands after a mark: a scalar
 pub flat_after : (c m lower : Bool) (level : ℕ) (mark : List ℕ) (t : Tree) → is_block t ≡ false
     → (mark ++ codes " ") ++ stacked (level + 1) (scalar_box m false t) ≡ mark ++ after_mark lower level t (box c m false t)
 flat_after c m lower level mark t e = rw (e, and-false, flat_box t c m false e) (append_assoc mark (codes " ") _)
-
-pub block_after : (c m lower : Bool) (level : ℕ) (mark : List ℕ) (t : Tree) → is_block t ≡ true
-    → (mark ++ before_block lower level) ++ stacked (level + 1) (box c m false t) ≡ mark ++ after_mark lower level t (box c m false t)
-block_after c m lower level mark t e = rw (e, and-true) (append_assoc mark (before_block lower level) _)
 
 -- a block is written alike at the root
 pub root_block : (c m r : Bool) (t : Tree) → is_block t ≡ true → box c m false t ≡ box c m r t

@@ -1,4 +1,5 @@
-use Rattle.yaml_emitter.proofs.Answering.{all_left, arith, block_after, block_writes, entry_stopped, first_within, flat_after, flat_valid, in_any, items_text, mark_text, none_decide, none_left, own_no_higher, pair_form, pairs_text, refl, rest_left, stopped_early, stopped_first, stopped_for, stopped_late, sym, two_levels, valid_hash, view, writes_as, writes_err, writes_for, writes_late, writes_ok, wrote_then, ◌∙◌}
+use Rattle.yaml_emitter.proofs.Answering.{append_assoc, all_left, arith, block_writes, entry_stopped, first_within, flat_after, flat_valid, in_any, items_text, mark_text, none_decide, none_left, own_no_higher, pairs_text, refl, rest_left, stopped_early, stopped_first, stopped_for, stopped_late, sym, two_levels, valid_hash, view, writes_as, writes_err, writes_for, writes_late, writes_ok, wrote_then, ◌∙◌}
+use Rattle.std.proofs.Math.Bool.{and-true}
 use Rattle.yaml_emitter.proofs.node.+write.Goals as goal
 
 pub write_value-returns-in_err-put_spaced-clause-text : goal.write_value-returns-in_err-put_spaced-clause-text
@@ -13,12 +14,12 @@ write_value-returns-then-not-has_parts-clause-text g t c =
 
 pub write_value-returns-in_err-begin_block-clause-text : goal.write_value-returns-in_err-begin_block-clause-text
 write_value-returns-in_err-begin_block-clause-text g t c =
-    writes_as (block_after _ _ c.args.blocks_lower c.args.level (mark_text c.args.mark) (view c.args.node.now) (sym (c.if-not-has_parts.ensures {u = tt})))
+    rw (← (c.if-not-has_parts.ensures {u = tt}), and-true, ← append_assoc (mark_text c.args.mark))
     (writes_err c.from_residual-in_err-begin_block.ensures.0 (stopped_first _ (c.in_err-begin_block.ensures.err refl)))
 
 pub write_value-returns-clause-text : goal.write_value-returns-clause-text
 write_value-returns-clause-text g t c =
-    writes_as (block_after _ _ c.args.blocks_lower c.args.level (mark_text c.args.mark) (view c.args.node.now) (sym (c.if-not-has_parts.ensures {u = tt})))
+    rw (← (c.if-not-has_parts.ensures {u = tt}), and-true, ← append_assoc (mark_text c.args.mark))
     (writes_late (c.in_ok-begin_block.ensures.ok refl) c.write_block.ensures.text)
 
 pub write_block-returns-then-level-ge-SHALLOW-clause-text : goal.write_block-returns-then-level-ge-SHALLOW-clause-text
@@ -97,17 +98,16 @@ write_pairs-returns-clause-text g t c =
 
 pub write_pair-returns-in_err-write_spelling-clause-text : goal.write_pair-returns-in_err-write_spelling-clause-text
 write_pair-returns-in_err-write_spelling-clause-text g t c =
-    writes_as (pair_form _ _ c.args.level _ _ (c.if-is_scalar.ensures {u = tt}))
+    rw (← (c.if-is_scalar.ensures {u = tt}))
     (writes_err c.from_residual.ensures.0 (stopped_first _ (c.in_err-write_spelling.ensures.text.err refl)))
 
 pub write_pair-returns-then-is_scalar-clause-text : goal.write_pair-returns-then-is_scalar-clause-text
 write_pair-returns-then-is_scalar-clause-text g t c =
-    writes_as (pair_form _ _ c.args.level _ _ (c.if-is_scalar.ensures {u = tt}))
+    rw (← (c.if-is_scalar.ensures {u = tt}))
     (writes_late (c.in_ok-write_spelling.ensures.text.ok refl) (writes_for (λ b. omega (arith, b)) c.write_value.ensures.text))
 
 pub write_pair-returns-clause-text : goal.write_pair-returns-clause-text
-write_pair-returns-clause-text g t c =
-    writes_as (pair_form _ _ c.args.level _ _ (c.if-is_scalar.ensures {u = tt})) c.write_complex_pair.ensures.text
+write_pair-returns-clause-text g t c = rw (← (c.if-is_scalar.ensures {u = tt})) c.write_complex_pair.ensures.text
 
 pub write_complex_pair-returns-in_err-write_value-clause-text : goal.write_complex_pair-returns-in_err-write_value-clause-text
 write_complex_pair-returns-in_err-write_value-clause-text g t c =
