@@ -37,7 +37,7 @@ pub use Rattle.yaml_chars.proofs.MaskLemmas.{all_upto, below as lane_below, both
 pub use Rattle.yaml_emitter.specs.At.{below, is_low, new_line, spaces, stacked}
 pub use Rattle.yaml_emitter.specs.Blocks.{begins_well, begins_with_mark, has_clear_lines, IsFirstCut, IsUnbroken, last_line}
 pub use Rattle.yaml_emitter.specs.Deep.{AreRestsValid, GoesOn, rests_text, rests_weight}
-pub use Rattle.yaml_emitter.specs.Entries.{after_mark, before_block, before_entry, complex_text, entries_text, mark_text, pair_text, scalar_box}
+pub use Rattle.yaml_emitter.specs.Entries.{after_mark, before_entry, entries_text, mark_text, pair_text, scalar_box}
 pub use Rattle.yaml_emitter.specs.Runs.{has_bit, is_break, is_escaped, is_unprintable, IsRun, IsRunCut, stands}
 pub use Rattle.yaml_emitter.specs.ValidTree.{ArePairsValid, AreValid, IsValid}
 pub use Rattle.yaml_emitter.specs.Words.{begins_plainly, float_names, is_name, is_plain_letter, is_plain_small, is_unfit, is_word}

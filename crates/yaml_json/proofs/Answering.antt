@@ -5,11 +5,10 @@ pub use Rattle.yaml_json.proofs.ReadCommon.{[], carriage_return, chars, false_wo
 pub use Rattle.yaml_json.proofs.Collections.{array_begun, array_empty, item_last, item_put, member_last, member_put, object_begun, object_empty, pair_added}
 pub use Rattle.yaml_json.proofs.DigitLemmas.{end_text, has_digits, HasDigits, minus_first, pairs_below, signed_ascii, two_digits, two_more}
 pub use Rattle.yaml_json.proofs.GivenLemmas.{flat_given, flat_text_is, given_hash, has_json}
-pub use Rattle.yaml_json.proofs.LeftLemmas.{Goes, goes_in, goes_on, item_entries, item_next, low_brackets, member_entries, member_next, members_end, no_member_left, part_wide, put_in_brackets, stopped_before, stopped_in, when_err, wide_within}
+pub use Rattle.yaml_json.proofs.LeftLemmas.{Goes, goes_in, goes_on, item_entries, item_next, low_brackets, member_entries, member_next, members_end, no_member_left, part_wide, put_in_brackets, stopped_before, stopped_in, trees, waiting, weight, when_err, wide_within}
 pub use Rattle.yaml_json.proofs.LevelLemmas.{finished, Holds, level_left, margin_stops, next_end, opened, opened_smaller, opening_stopped, opens_more, part_next, place, resumed, resumed_smaller, root_next, stands_in}
 pub use Rattle.yaml_json.proofs.Longer.{gap_nearer, key_nearer, value_nearer}
 pub use Rattle.yaml_json.proofs.NumberLemmas.{no_real, real_is}
-pub use Rattle.yaml_json.proofs.OpenLevels.{trees, waiting, weight}
 pub use Rattle.yaml_json.proofs.Places.{ended_on, has_scalar, last_put, open_on, opened_in, outermost}
 pub use Rattle.yaml_json.proofs.ReadNumberLemmas.{digits_read, digits_whole, exponent_from, number_cut, number_value, rest_of, some_of}
 pub use Rattle.yaml_json.proofs.SearchLemmas.{has_parts_met, left_sound, meets, no_more_members, no_step, other_step, Passes, passes_more, Searches, searches_in, smaller_in, value_next}

@@ -1,7 +1,6 @@
 -- What is left to write of levels, the innermost first.
 use Rattle.yaml_json.proofs.Common.{[], add-one, ap, append-nil, append_assoc, ArePartsGiven, arith, Bool, closing, codes, deeper, depth, Ends, false, get_or, is_block, IsGiven, IsLeft, IsOnlyItem, IsTooWide, json_text, left_after, left_all, left_as, left_none, left_stopped, left_then, length, length-set, Level, List, max, mul-le-mul_left, nest_end, nesting, new_line, opening, Opens, Option, part_nodes, parts_left, refl, set, shallower, Stopped, stopped_at, stopped_early, stopped_for, Stops, suc, sym, Tree, tree_left, true, unwrap_or, Wrote, zero, ℕ, ◌*◌, ◌++◌, ◌+◌, ◌-◌, ◌<◌, ◌^◌, ◌∙◌, ◌∷◌, ◌≡◌, ◌≢◌, ◌≤◌}
-use Rattle.yaml_json.proofs.LeftLemmas.{in_brackets, part_wide}
-use Rattle.yaml_json.proofs.OpenLevels.{trees, reach, weight, part_count, passed_to, waiting, one_more, one_less, so_many}
+use Rattle.yaml_json.proofs.LeftLemmas.{in_brackets, one_less, one_more, part_count, part_wide, passed_to, reach, so_many, trees, waiting, weight}
 
 -- the text that is left: parts of the innermost level, its end, and what is left of the levels around it
 abbrev pub levels_left : (first : Bool) → Option ℕ → ℕ → List Tree → List ℕ

@@ -7,7 +7,6 @@ pub mod LeftLemmas
 pub mod LevelLemmas
 pub mod Longer
 pub mod NumberLemmas
-pub mod OpenLevels
 pub mod Places
 mod ReadCommon
 pub mod ReadNumberLemmas

@@ -104,28 +104,27 @@ number_low (number b w f e) h =
     (and_from _ _ (low_digits w (whole_digits w q.0)) (and_from _ _ (fraction_low f q.1) (exponent_low e p.1))))
 
 -- the text is cut behind its number
-pub record NumberCut (bs after : List ℕ) (n : ℕ) : Type 0 where
+pub record NumberCut (bs : List ℕ) (n : ℕ) : Type 0 where
   pub boundary : IsCharBoundary bs n
-  pub is_number : (front back : List ℕ) → front ≡ take n bs → back ≡ drop n bs → IsNumber (chars front) (chars bs) (chars back)
+  pub is_number : IsNumber (chars (take n bs)) (chars bs) (chars (drop n bs))
 
-pub number_cut : (bs after : List ℕ) (n : ℕ) → IsUtf8 bs → IsNumberPart bs after → n ≡ length bs - length after → NumberCut bs after n
-number_cut bs after n u p is =
+pub number_cut : (bs after : List ℕ) → IsUtf8 bs → IsNumberPart bs after → NumberCut bs (length bs - length after)
+number_cut bs after u p =
     let s = spell_number p.parts [] in
     let low : list_all is_ascii s ≡ true = number_low p.parts p.is in
     let whole : bs ≡ s ++ after = sym p.spelled ∙ number_before p.parts after in
-    let n_is : n ≡ length s = omega (arith, is, ap length whole, length-append s after) in
-    record {
-      boundary = rw n_is (IsCharBoundary-at_seam bs s after whole (utf8_behind s after low (rw whole at u)));
-      is_number = λ front back e g.
-          let front_is : front ≡ s = e ∙ ap₂ take n_is whole ∙ take-append_seam s after in
-          let back_is : back ≡ after = g ∙ ap₂ drop n_is whole ∙ drop-append_seam s after in
-          record {
-            parts = p.parts;
-            is = p.is;
-            shown = sym (ap chars front_is ∙ low_chars s low);
-            spelled = number_before p.parts (chars back) ∙ ap (λ x. s ++ chars x) back_is ∙ sym (low_front s bs after low whole);
-          };
-    }
+    let n_is : length bs - length after ≡ length s = omega (arith, ap length whole, length-append s after) in
+    let front : take (length s) bs ≡ s = ap (take (length s)) whole ∙ take-append_seam s after in
+    let back : drop (length s) bs ≡ after = ap (drop (length s)) whole ∙ drop-append_seam s after in
+    rw n_is (record {
+      boundary = IsCharBoundary-at_seam bs s after whole (utf8_behind s after low (rw whole at u));
+      is_number = rw (front, back) (record {
+        parts = p.parts;
+        is = p.is;
+        shown = sym (low_chars s low);
+        spelled = number_before p.parts (chars after) ∙ sym (low_front s bs after low whole);
+      });
+    })
 
 -- ---- its tree
 

@@ -1,8 +1,7 @@
 -- The search for the first node that has no JSON text.
 use Rattle.yaml_json.proofs.Common.{[], ap, ArePlain, arith, array, below, Bool, false, Fault, fault_in, fault_left, first_fault, first_item_fault, first_member_fault, first_of, get_or, get_or-eq_default, get_or-map, get_or_default, Global, hash, index, is_block, IsKeyGiven, IsMet, IsSoundAtRoot, item, Items, items_view, last_step, left_in, length, Level, List, max, Meets, nesting, no_items, no_pairs, None, null, Option, pair, Pairs, part_nesting, part_nodes, refl, Some, step_in, step_of, String, suc, Tree, tree_left, true, view, Yaml, ℕ, ◌+◌, ◌<◌, ◌∙◌, ◌∷◌, ◌≡◌, ◌≤◌}
 use Rattle.defs_tree.specs.Path as tree_path
-use Rattle.yaml_json.proofs.LeftLemmas.{before_value, IsNext, member_next, part_wide}
-use Rattle.yaml_json.proofs.OpenLevels.{passed_to, trees, reach, weight, part_count}
+use Rattle.yaml_json.proofs.LeftLemmas.{before_value, IsNext, member_next, part_count, part_wide, passed_to, reach, trees, weight}
 use Rattle.yaml_json.specs.declared.error.Reason.{Reason}
 use Rattle.yaml_tree.specs.declared.yaml.Yaml.TheVariants as yamls
 
