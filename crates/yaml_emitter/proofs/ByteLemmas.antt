@@ -75,7 +75,8 @@ pub record Cut (bs : List ℕ) (n c : ℕ) (back : List ℕ) : Type 0 where
   pub shorter : length back < length bs
   pub utf8 : IsUtf8 back
 
-pub cut_before : (bs : List ℕ) (n c : ℕ) (back : List ℕ) → IsUtf8 bs → IsCharBoundary bs n → drop n bs ≡ encode_utf8 c ++ back → Cut bs n c back
+pub cut_before : (bs : List ℕ) (n c : ℕ) (back : List ℕ) → IsUtf8 bs → IsCharBoundary bs n → drop n bs ≡ encode_utf8 c ++ back
+    → Cut bs n c back
 cut_before bs n c back u b e =
     let rest = IsUtf8-drop bs n u b in
     let long = ap length e ∙ length-append (encode_utf8 c) back in

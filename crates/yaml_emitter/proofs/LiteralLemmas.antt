@@ -89,7 +89,8 @@ module _ (s : List ℕ) (u : IsUtf8 s) (some : prefix_len runs_on s ≢ length s
   pub first_cut : IsFirstCut s (take (prefix_len runs_on s) s) (drop 1 (drop (prefix_len runs_on s) s))
   first_cut =
       let rest = drop (prefix_len runs_on s) s in
-      let split : rest ≡ encode_utf8 10 ++ drop 1 rest = rw (encode_ascii 10 (omega arith)) (break_cut ∙ ap (λ x. 10 ∷ x) (sym (ap (drop 1) break_cut))) in
+      let split : rest ≡ encode_utf8 10 ++ drop 1 rest = rw (encode_ascii 10 (omega arith))
+      (break_cut ∙ ap (λ x. 10 ∷ x) (sym (ap (drop 1) break_cut))) in
       let cut = cut_before s (prefix_len runs_on s) 10 (drop 1 rest) u break_boundary split in
       record {
         none_before = unbroken_front s (IsUtf8-take s _ u break_boundary);

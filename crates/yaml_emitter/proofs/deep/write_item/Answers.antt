@@ -3,7 +3,8 @@ use Rattle.yaml_emitter.proofs.deep.write_item.Goals as goal
 
 pub returns-in_default : goal.returns-in_default
 returns-in_default g c =
-    rw (nil_from_length _ c.in_default.ensures.cases, no_entries c.args.level c.args.is_first) (goes_ok refl left_all (omega arith) (λ v. ((tt, tt), v)))
+    rw (nil_from_length _ c.in_default.ensures.cases, no_entries c.args.level c.args.is_first)
+    (goes_ok refl left_all (omega arith) (λ v. ((tt, tt), v)))
 
 pub returns-in_err-begin_entry : goal.returns-in_err-begin_entry
 returns-in_err-begin_entry g c =
@@ -18,5 +19,6 @@ returns-in_err-push g c =
 pub returns : goal.returns
 returns g c =
     rw (c.in-Some.ensures.cases.0, next_item, append_assoc, append_assoc)
-    (goes_late (left_after left_all (c.in_ok-begin_entry.ensures.ok refl)) (omega arith) (λ f. (((f.0.0, f.1.0.0), (f.0.1, f.1.0.1)), f.1.1))
+    (goes_late (left_after left_all (c.in_ok-begin_entry.ensures.ok refl)) (omega arith)
+    (λ f. (((f.0.0, f.1.0.0), (f.0.1, f.1.0.1)), f.1.1))
     (rw c.in_ok-push.ensures.ok at c.begin_value.ensures))

@@ -3,7 +3,8 @@ use Rattle.yaml_emitter.proofs.deep.write_pair.Goals as goal
 
 pub returns-in_default : goal.returns-in_default
 returns-in_default g c =
-    rw (nil_from_length _ c.in_default.ensures.cases, no_entries c.args.level c.args.is_first) (goes_ok refl left_all (omega arith) (λ v. ((tt, tt), v)))
+    rw (nil_from_length _ c.in_default.ensures.cases, no_entries c.args.level c.args.is_first)
+    (goes_ok refl left_all (omega arith) (λ v. ((tt, tt), v)))
 
 pub returns-in_err-begin_entry : goal.returns-in_err-begin_entry
 returns-in_err-begin_entry g c =
@@ -17,7 +18,8 @@ returns-in_err-push g c =
 
 pub returns-in_err-write_spelling : goal.returns-in_err-write_spelling
 returns-in_err-write_spelling g c =
-    rw (c.in-Some.ensures.cases.0, c.in-Some-split_first.ensures.cases.0, next_pair, append_assoc, append_assoc, ← (c.if-is_scalar.ensures {u = tt}), append_assoc)
+    rw (c.in-Some.ensures.cases.0, c.in-Some-split_first.ensures.cases.0, next_pair, append_assoc, append_assoc, ←
+    (c.if-is_scalar.ensures {u = tt}), append_assoc)
     (goes_refused _ c.from_residual-in_err-write_spelling.ensures.0 (left_after left_all (c.in_ok-begin_entry.ensures.ok refl))
     (c.in_err-write_spelling.ensures.text.err refl))
 
@@ -26,7 +28,8 @@ returns-then-is_scalar g c =
     let scalar = c.if-is_scalar.ensures {u = tt} in
     let key = c.in_ok-write_spelling.ensures.valid (sym scalar) in
     rw (c.in-Some.ensures.cases.0, c.in-Some-split_first.ensures.cases.0, next_pair, append_assoc, append_assoc, ← scalar, append_assoc)
-    (goes_late (left_after (left_after left_all (c.in_ok-begin_entry.ensures.ok refl)) (c.in_ok-write_spelling.ensures.text.ok refl)) (omega arith)
+    (goes_late (left_after (left_after left_all (c.in_ok-begin_entry.ensures.ok refl)) (c.in_ok-write_spelling.ensures.text.ok refl))
+    (omega arith)
     (λ f. (((key.0, f.0.0, f.1.0.0), (key.1, f.0.1, f.1.0.1)), f.1.1)) (rw c.in_ok-push.ensures.ok at c.begin_value.ensures))
 
 pub returns-in_err-push-2 : goal.returns-in_err-push-2
@@ -36,7 +39,8 @@ returns-in_err-push-2 g c =
 
 pub returns : goal.returns
 returns g c =
-    rw (c.in-Some.ensures.cases.0, c.in-Some-split_first.ensures.cases.0, next_pair, append_assoc, append_assoc, ← (c.if-is_scalar.ensures {u = tt}), append_assoc)
+    rw (c.in-Some.ensures.cases.0, c.in-Some-split_first.ensures.cases.0, next_pair, append_assoc, append_assoc, ←
+    (c.if-is_scalar.ensures {u = tt}), append_assoc)
     (goes_late (left_after left_all (c.in_ok-begin_entry.ensures.ok refl)) (omega arith)
     (λ f. (((f.0.0, f.1.0.0, f.1.1.0.0), (f.0.1, f.1.0.1, f.1.1.0.1)), f.1.1.1))
     (rw c.in_ok-push.ensures.ok at (rw c.in_ok-push-2.ensures.ok at c.begin_value-2.ensures)))

@@ -11,11 +11,11 @@ returns-in_err-deeper-clause-stopped g c = when_err _ (margin_stops _ c.in_err-d
 
 pub returns-in_err-put_ascii-clause-stopped : goal.returns-in_err-put_ascii-clause-stopped
 returns-in_err-put_ascii-clause-stopped g c =
-    when_err _ (left_stopped (level_left _ _ c.in_ok-deeper.ensures c.in-Some.ensures c.levels.invariant)
-    (stopped_first _ (c.in_err-put_ascii.ensures.err refl)))
+    let left = level_left _ _ c.in_ok-deeper.ensures c.in-Some.ensures c.levels.invariant in
+    when_err _ (left_stopped left (stopped_first _ (c.in_err-put_ascii.ensures.err refl)))
 
 pub returns-in_err-new_line-clause-stopped : goal.returns-in_err-new_line-clause-stopped
 returns-in_err-new_line-clause-stopped g c =
-    when_err _ (left_stopped
-    (left_after (level_left _ _ c.in_ok-deeper.ensures c.in-Some.ensures c.levels.invariant) (c.in_ok-put_ascii.ensures.ok refl))
-    (stopped_first _ (c.in_err-new_line.ensures.err refl)))
+    let left = left_after (level_left _ _ c.in_ok-deeper.ensures c.in-Some.ensures c.levels.invariant)
+    (c.in_ok-put_ascii.ensures.ok refl) in
+    when_err _ (left_stopped left (stopped_first _ (c.in_err-new_line.ensures.err refl)))
