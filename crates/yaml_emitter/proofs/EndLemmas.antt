@@ -73,4 +73,3 @@ last_is bs c lt u some = by (get_or bs (length bs - 1) 0 == c) refl
         ends_so (c ∷ []) bs front low (IsUtf8-take bs _ u (IsCharBoundary-before_ascii bs _ (omega arith) (omega (arith, f))))
         (last_apart bs some ∙ ap (λ x. front ++ x ∷ []) f)
     by false e = ends_otherwise (c ∷ []) bs low u (λ front f. let g = no_end bs front c f in grind (arith, nat_tests))
-

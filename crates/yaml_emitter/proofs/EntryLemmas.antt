@@ -96,9 +96,9 @@ pair_at c m level k v = by (is_scalar k) refl
     by false e =
         let key = box_lines c m false k in
         let value = box_lines c m false v in
-        let lines = placed_lines (not c) (codes ":") v value in
-        rw (e, stacked_append level (placed (not c) (codes ":") v (box c m false v)) (placed_lines (not c) (codes "?") k key),
-        placed_at (not c) (codes "?") level k key, below_stacked level lines, placed_at (not c) (codes ":") level v value)
+        let after = placed_lines (not c) (codes ":") v value in
+        let apart = stacked_append level (placed (not c) (codes ":") v (box c m false v)) (placed_lines (not c) (codes "?") k key) in
+        rw (e, apart, placed_at (not c) (codes "?") level k key, below_stacked level after, placed_at (not c) (codes ":") level v value)
 
 pub next_pair : (c m first : Bool) (level : ℕ) (k v : Tree) (ps : Pairs)
     → entries_text first level (pair_boxes c m (pair k v ps))

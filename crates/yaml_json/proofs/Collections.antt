@@ -25,8 +25,8 @@ item_before v g h es = record {
 
 pub array_begun : {n : ℕ} {inner rest : List ℕ} → IsGap false inner rest → IsInArray [] n (left_bracket ∷ inner) rest
 array_begun g = record {
-  ends = λ more end es. record { value = json.array g.gap es.elements; is =
-      (g.tabs, es.are); tree_is = cc; shallow = omega arith; spelled = cc };
+  ends = λ more end es.
+      record { value = json.array g.gap es.elements; is = (g.tabs, es.are); tree_is = cc; shallow = omega arith; spelled = cc };
 }
 
 pub array_empty : {n : ℕ} {inner rest : List ℕ} → 1 ≤ n → IsGap false inner (right_bracket ∷ rest) → IsValue (array_tree []) n (left_bracket ∷ inner) rest

@@ -41,5 +41,5 @@ gap_nearer {rest = rest} g = omega (arith, gap_longer g.gap rest, ap length g.sp
 pub key_nearer : {key : Tree} {text rest : List ℕ} → IsKey key text rest → length rest < length text
 key_nearer {rest = rest} k =
     let behind = 58 ∷ spell_gap k.after_colon rest in
-    omega (arith, string_longer k.pieces (spell_gap k.after_key behind), gap_longer k.after_key behind, gap_longer k.after_colon rest,
-    ap length k.spelled)
+    let first = string_longer k.pieces (spell_gap k.after_key behind) in
+    omega (arith, first, gap_longer k.after_key behind, gap_longer k.after_colon rest, ap length k.spelled)

@@ -30,8 +30,8 @@ pub code_read : {character v w x y : ℕ} {t1 t2 t3 t4 rest : List ℕ} → Take
 code_read {v = v} {w} {x} {y} a b c d scalar is =
     let code : four_digits a.digit b.digit c.digit d.digit ≡ v * 4096 + w * 256 + x * 16 + y = omega arith in
     let piece : is_piece (unicode a.digit b.digit c.digit d.digit) ≡ true =
-        and_from _ _ (and_from _ _ (and_from _ _ (and_from _ _ a.is b.is) c.is) d.is)
-        (ap (λ z. not (is_surrogate z)) code ∙ no_surrogate (v * 4096 + w * 256 + x * 16 + y) scalar) in
+    and_from _ _ (and_from _ _ (and_from _ _ (and_from _ _ a.is b.is) c.is) d.is)
+    (ap (λ z. not (is_surrogate z)) code ∙ no_surrogate (v * 4096 + w * 256 + x * 16 + y) scalar) in
     record {
       goes_on = λ more end i. record {
         pieces = unicode a.digit b.digit c.digit d.digit ∷ i.pieces;

@@ -17,8 +17,8 @@ returns-in_err-push g c =
 
 pub returns-then-has_parts : goal.returns-then-has_parts
 returns-then-has_parts g c =
-    rw (c.in_ok-push.ensures.ok, ← (c.if-has_parts.ensures {u = tt}), and-true, append_assoc, append_assoc, ← append_assoc
-    (mark_text c.args.mark))
+    let parts = c.if-has_parts.ensures {u = tt} in
+    rw (c.in_ok-push.ensures.ok, ← parts, and-true, append_assoc, append_assoc, ← append_assoc (mark_text c.args.mark))
     (goes_ok refl
     (left_as (ap (λ x. x ++ rests_text c.args.settings.now.compact c.args.settings.now.multiline c.args.outer.now) (c.of.ensures.text _ _))
     (left_after left_all (c.in_ok-begin_block.ensures.ok refl)))

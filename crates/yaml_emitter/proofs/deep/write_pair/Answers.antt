@@ -18,8 +18,8 @@ returns-in_err-push g c =
 
 pub returns-in_err-write_spelling : goal.returns-in_err-write_spelling
 returns-in_err-write_spelling g c =
-    rw (c.in-Some.ensures.cases.0, c.in-Some-split_first.ensures.cases.0, next_pair, append_assoc, append_assoc, ←
-    (c.if-is_scalar.ensures {u = tt}), append_assoc)
+    let scalar = c.if-is_scalar.ensures {u = tt} in
+    rw (c.in-Some.ensures.cases.0, c.in-Some-split_first.ensures.cases.0, next_pair, append_assoc, append_assoc, ← scalar, append_assoc)
     (goes_refused _ c.from_residual-in_err-write_spelling.ensures.0 (left_after left_all (c.in_ok-begin_entry.ensures.ok refl))
     (c.in_err-write_spelling.ensures.text.err refl))
 
@@ -39,8 +39,8 @@ returns-in_err-push-2 g c =
 
 pub returns : goal.returns
 returns g c =
-    rw (c.in-Some.ensures.cases.0, c.in-Some-split_first.ensures.cases.0, next_pair, append_assoc, append_assoc, ←
-    (c.if-is_scalar.ensures {u = tt}), append_assoc)
+    let scalar = c.if-is_scalar.ensures {u = tt} in
+    rw (c.in-Some.ensures.cases.0, c.in-Some-split_first.ensures.cases.0, next_pair, append_assoc, append_assoc, ← scalar, append_assoc)
     (goes_late (left_after left_all (c.in_ok-begin_entry.ensures.ok refl)) (omega arith)
     (λ f. (((f.0.0, f.1.0.0, f.1.1.0.0), (f.0.1, f.1.0.1, f.1.1.0.1)), f.1.1.1))
     (rw c.in_ok-push.ensures.ok at (rw c.in_ok-push-2.ensures.ok at c.begin_value-2.ensures)))

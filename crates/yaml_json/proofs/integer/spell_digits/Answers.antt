@@ -15,14 +15,14 @@ pub left-preserved : goal.left-preserved
 left-preserved c =
     let l = c.left in
     let same : l.at - 2 + 2 ≡ l.at = omega arith in
+    let two = two_more l.left (omega arith) (omega (arith, l.auto.left-fits.fits)) in
     record {
       fits = omega arith;
       within = omega arith;
       long = c.put_pair.array_long;
       digits = has_digits _ (omega (arith, l.auto.left-fits.fits));
       start = omega arith;
-      written = rw (c.put_pair.ensures, same) (rw (two_more l.left (omega arith) (omega (arith, l.auto.left-fits.fits)),
-          append_assoc) at l.invariant.written);
+      written = rw (c.put_pair.ensures, same) (rw (two, append_assoc) at l.invariant.written);
     }
 
 pub returns-then-left-ge10-clause-written : goal.returns-then-left-ge10-clause-written
