@@ -1,11 +1,8 @@
 -- How a text begins and ends, by its bytes and by its characters.
 use Rattle.std.specs.Str.Pattern.{HasPrefixMatch, FindsTextPrefix, HasSuffixMatch, FindsTextSuffix}
 use Rattle.std.specs.Bool.{MatchBool}
-use Rattle.yaml_emitter.proofs.Common.{[], ap, arith, begins_with, Bool, bytes_eq-Decides, chars, chars-append, drop, drop-append_seam, encode_utf8_all, encodes-append, encodes-chars, encodes-IsAscii, ends_with, false, get_or, get_or-append_seam, is_low, IsCharBoundary-before_ascii, IsUtf8, IsUtf8-from_ascii, IsUtf8-take, length, length-append, List, nat_eq, nat_tests, None, refl, sym, take, take-append-drop, take-append_seam, take-length, take_more, true, ℕ, ◌++◌, ◌+◌, ◌-◌, ◌<◌, ◌==◌, ◌∙◌, ◌∷◌, ◌≡◌, ◌≢◌, ◌≤◌}
+use Rattle.yaml_emitter.proofs.Common.{[], ap, arith, begins_with, Bool, bytes_eq-Decides, chars, chars-append, drop, drop-append_seam, encode_utf8_all, encodes-append, encodes-chars, encodes-IsAscii, ends_with, false, false_from_ne_true, get_or, get_or-append_seam, is_low, IsCharBoundary-before_ascii, IsUtf8, IsUtf8-from_ascii, IsUtf8-take, length, length-append, List, nat_eq, nat_tests, None, refl, sym, take, take-append-drop, take-append_seam, take-length, take_more, true, ℕ, ◌++◌, ◌+◌, ◌-◌, ◌<◌, ◌==◌, ◌∙◌, ◌∷◌, ◌≡◌, ◌≢◌, ◌≤◌}
 use Rattle.yaml_emitter.proofs.ByteLemmas.{low_at, low_chars}
-
-false_if : (b : Bool) → (b ≡ true → ⊥) → false ≡ b
-false_if a n = grind arith
 
 low_encoded : (w : List ℕ) → is_low w ≡ true → encode_utf8_all w ≡ w
 low_encoded w h = encodes-IsAscii w (low_at w h)
@@ -18,12 +15,12 @@ pub begins_so : (w s rest : List ℕ) → is_low w ≡ true → s ≡ w ++ rest 
 begins_so w s rest h e = rw (low_front w s rest h e, take-append_seam, (bytes_eq-Decides w w).1 refl) refl
 
 pub begins_otherwise : (w s : List ℕ) → is_low w ≡ true → IsUtf8 s → ((rest : List ℕ) → s ≢ w ++ rest) → false ≡ begins_with w (chars s)
-begins_otherwise w s h u lacks = false_if (begins_with w (chars s)) (λ e.
+begins_otherwise w s h u lacks = sym (false_from_ne_true (begins_with w (chars s)) (λ e.
     let same : w ≡ take (length w) (chars s) = (bytes_eq-Decides w (take (length w) (chars s))).0 e in
     let rest = drop (length w) (chars s) in
     lacks (encode_utf8_all rest)
     (sym (encodes-chars s u) ∙ ap encode_utf8_all (sym (take-append-drop (length w) (chars s)) ∙ ap (λ x. x ++ rest) (sym same))
-    ∙ encodes-append w rest ∙ ap (λ x. x ++ encode_utf8_all rest) (low_encoded w h)))
+    ∙ encodes-append w rest ∙ ap (λ x. x ++ encode_utf8_all rest) (low_encoded w h))))
 
 pub ends_so : (w s front : List ℕ) → is_low w ≡ true → IsUtf8 front → s ≡ front ++ w → true ≡ ends_with nat_eq (chars s) w
 ends_so w s front h u e =
@@ -32,13 +29,13 @@ ends_so w s front h u e =
     rw (f, n, drop-append_seam, (bytes_eq-Decides w w).1 refl) refl
 
 pub ends_otherwise : (w s : List ℕ) → is_low w ≡ true → IsUtf8 s → ((front : List ℕ) → s ≢ front ++ w) → false ≡ ends_with nat_eq (chars s) w
-ends_otherwise w s h u lacks = false_if (ends_with nat_eq (chars s) w) (λ e.
+ends_otherwise w s h u lacks = sym (false_from_ne_true (ends_with nat_eq (chars s) w) (λ e.
     let n = length (chars s) - length w in
     let same : w ≡ drop n (chars s) = (bytes_eq-Decides w (drop n (chars s))).0 e in
     let front = take n (chars s) in
     lacks (encode_utf8_all front)
     (sym (encodes-chars s u) ∙ ap encode_utf8_all (sym (take-append-drop n (chars s)) ∙ ap (λ x. front ++ x) (sym same))
-    ∙ encodes-append front w ∙ ap (λ x. encode_utf8_all front ++ x) (low_encoded w h)))
+    ∙ encodes-append front w ∙ ap (λ x. encode_utf8_all front ++ x) (low_encoded w h))))
 
 -- what `str::starts_with` and `str::ends_with` answer
 pub begins_by : (w s : List ℕ) (b : Bool) → is_low w ≡ true → IsUtf8 s → MatchBool b (HasPrefixMatch (FindsTextPrefix w) s) (FindsTextPrefix w s None) → b ≡ begins_with w (chars s)

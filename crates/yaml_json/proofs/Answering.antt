@@ -1,5 +1,5 @@
 -- What answers and invariants take from the lemmas here and from the words that these use, passed on from one place. Declares nothing.
-pub use Rattle.yaml_json.proofs.Common.{all_left, ap, append-nil, append_assoc, AreLeft, arith, common_steps, decimal, decimal_digit, depth, drop, drop-set, drop_all, entry_stopped, false, first_within, is_low, IsAscii, IsSoundAtRoot, IsUtf8, IsUtf8-from_ascii, items_depth, items_of, key, left_after, left_all, left_as, left_in, left_none, left_stopped, left_writes, length, length-decimal-le, length-set, nest_end, none_decide, none_left, own_no_higher, pairs_depth, pairs_of, reads_number, refl, rest_left, set, set_comm, signed_decimal, step_in, stopped_at, stopped_early, stopped_first, stopped_for, stopped_late, subst, sym, to_z-of_z, true, view, writes_as, writes_err, writes_for, writes_late, writes_ok, wrote_then, ◌%◌, ◌*◌, ◌++◌, ◌+◌, ◌-◌, ◌∙◌, ◌∷◌, ◌≡◌, ◌≤◌}
+pub use Rattle.yaml_json.proofs.Common.{all_left, ap, append-nil, append_assoc, AreLeft, arith, common_steps, decimal, decimal_digit, depth, drop, drop-set, drop_all, entry_stopped, false, first_within, is_low, IsAscii, IsSoundAtRoot, IsUtf8, IsUtf8-from_ascii, items_depth, items_of, key, left_after, left_all, left_as, left_in, left_none, left_stopped, left_writes, length, length-decimal-le, length-set, nest_end, none_decide, none_left, own_no_higher, pairs_depth, pairs_of, reads_number, refl, rest_left, set, set_comm, signed_decimal, stopped_at, stopped_early, stopped_first, stopped_for, stopped_late, subst, sym, to_z-of_z, true, view, writes_as, writes_err, writes_for, writes_late, writes_ok, wrote_then, ◌%◌, ◌*◌, ◌++◌, ◌+◌, ◌-◌, ◌∙◌, ◌∷◌, ◌≡◌, ◌≤◌}
 unfoldable pub use Rattle.yaml_json.proofs.Common.{string_chars}
 pub use Rattle.yaml_json.proofs.ReadCommon.{[], carriage_return, chars, false_word, fraction, get_or, is_some, IsAsciiFirst, IsFirst, IsGap, line_feed, null_word, ok_of, option_map, option_to_list, rules, space, tab, TabsBeginLines, true_word, vec_len, was_ok}
 pub use Rattle.yaml_json.proofs.Collections.{array_begun, array_empty, item_last, item_put, member_last, member_put, object_begun, object_empty, pair_added}
