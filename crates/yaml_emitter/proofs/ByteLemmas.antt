@@ -1,14 +1,30 @@
 -- Tests of bytes and of characters, and sets of bytes.
-use Rattle.yaml_emitter.proofs.Common.{[], All-from_get_or, and_from, ap, append-nil, arith, Bool, cases_order, chars, cond, each_upto, encode_ascii, encode_utf8, encode_utf8_all, encodes-chars, false, get_or, has_bit, inl, inr, inside_one, is_ascii_lowercase, is_escaped, is_unfit_for_plain, IsCharBoundary, IsCharBoundary-before_ascii, IsCharBoundary-end, IsUtf8, length, List, list_all, list_any, list_any-append, list_any_none, nat_lt, nat_tests, not, or-false, prefix_len, prefix_len-le-length, prefix_len_stops, refl, same, same_is, subst, sym, take, take_while-cons, true, ℕ, ◌&&◌, ◌<◌, ◌||◌, ◌∙◌, ◌∷◌, ◌≡◌, ◌≤◌}
+use Rattle.yaml_emitter.proofs.Common.{[], All-from_get_or, and_from, and_parts, ap, append-nil, arith, Bool, cases_order, chars, chars-append, chars-IsAscii, chars_past_char, drop, each_upto, encode_ascii, encode_utf8, encode_utf8_all, encodes-chars, false, get_or, has_bit, inl, inr, inside_one, is_ascii_lowercase, is_escaped, is_low, is_unfit_for_plain, IsAscii, IsCharBoundary, IsCharBoundary-before_ascii, IsCharBoundary-end, IsUtf8, IsUtf8-drop, IsUtf8-past_char, IsUtf8-take, len_utf8_bounds, length, length-append, length-drop, length-encode, List, list_all, list_any, list_any-append, list_any_none, lt-ltb, nat_lt, nat_tests, not, or-false, prefix_len, prefix_len-le-length, prefix_len_stops, refl, same, same_is, slice_index, subst, suc, sym, take, take-append-drop, take_while-cons, true, zero, ℕ, ◌&&◌, ◌++◌, ◌<◌, ◌||◌, ◌∙◌, ◌∷◌, ◌≡◌, ◌≤◌}
 use Rattle.yaml_emitter.specs.declared.runs.Bits.{Bits}
+
+-- ---- texts of ASCII
+
+pub low_at : (t : List ℕ) → is_low t ≡ true → (i : ℕ) → slice_index t i < 128
+low_at [] h i = omega arith
+low_at (c ∷ cs) h zero = let parts = and_parts (nat_lt c 128) (is_low cs) h in grind (arith, nat_tests)
+low_at (c ∷ cs) h (suc i) = let parts = and_parts (nat_lt c 128) (is_low cs) h in low_at cs parts.1 i
+
+-- bytes that are all ASCII are the characters that they spell
+pub low_chars : (t : List ℕ) → is_low t ≡ true → chars t ≡ t
+low_chars t h = chars-IsAscii t (low_at t h)
+
+pub ascii_low : (t : List ℕ) → IsAscii t → is_low t ≡ true
+ascii_low [] h = refl
+ascii_low (c ∷ cs) h = and_from (nat_lt c 128) (is_low cs) (lt-ltb c 128 (h 0)) (ascii_low cs (λ i. h (suc i)))
+
+-- ---- a test of each byte
 
 -- tests that only ASCII characters pass
 module _ (p : ℕ → Bool) (low : (c : ℕ) → 128 ≤ c → p c ≡ false) where
   byte_fails : (c : ℕ) → 128 ≤ c → (k : ℕ) → k < length (encode_utf8 c) → p (get_or (encode_utf8 c) k 0) ≡ false
-  byte_fails c h k lt = by (get_or (encode_utf8 c) k 0) (λ l. inside_one c [] (encode_utf8 c) k (sym (append-nil (encode_utf8 c))) lt l)
-    where
-      by : (b : ℕ) → (b < 128 → c ≡ b) → p b ≡ false
-      by b f = low b (grind arith)
+  byte_fails c h k lt =
+      let itself = inside_one c [] (encode_utf8 c) k (sym (append-nil (encode_utf8 c))) lt in
+      low (get_or (encode_utf8 c) k 0) (grind (arith, itself))
 
   one_tested : (c : ℕ) → list_any p (encode_utf8 c) ≡ p c
   one_tested c = by (nat_lt c 128) refl
@@ -28,30 +44,20 @@ module _ (p : ℕ → Bool) (low : (c : ℕ) → 128 ≤ c → p c ≡ false) wh
 
 any_is : (q : ℕ → Bool) (xs : List ℕ) → list_any (λ c. not (q c)) xs ≡ not (list_all q xs)
 any_is q [] = refl
-any_is q (x ∷ xs) = ap (λ b. not (q x) || b) (any_is q xs) ∙ either (q x) (list_all q xs)
-  where
-    either : (a b : Bool) → (not a || not b) ≡ not (a && b)
-    either a b = grind arith
+any_is q (x ∷ xs) = grind (arith, any_is q xs)
 
 -- a test that all other characters pass
 pub all_tested : (q : ℕ → Bool) → ((c : ℕ) → 128 ≤ c → q c ≡ true) → (bs : List ℕ) → IsUtf8 bs
     → list_all q bs ≡ true → list_all q (chars bs) ≡ true
 all_tested q wide bs u h =
-    by _ (sym (any_is q (chars bs)) ∙ sym (bytes_tested (λ c. not (q c)) (λ c l. ap not (wide c l)) bs u) ∙ any_is q bs ∙ ap not h)
-  where
-    by : (b : Bool) → not b ≡ false → b ≡ true
-    by b e = grind arith
+    let same = sym (any_is q (chars bs)) ∙ sym (bytes_tested (λ c. not (q c)) (λ c l. ap not (wide c l)) bs u) ∙ any_is q bs in
+    grind (arith, same)
 
 -- ---- the elements before the first that fails a test
 
 pub all_pass : (p : ℕ → Bool) (bs : List ℕ) → list_all p (take (prefix_len p bs) bs) ≡ true
 all_pass p [] = refl
-all_pass p (b ∷ bs) = ap (list_all p) (take_while-cons p b bs) ∙ by (p b) refl (all_pass p bs)
-  where
-    by : (x : Bool) → p b ≡ x → list_all p (take (prefix_len p bs) bs) ≡ true
-        → list_all p (cond x (b ∷ take (prefix_len p bs) bs) []) ≡ true
-    by true e h = and_from (p b) _ e h
-    by false e h = refl
+all_pass p (b ∷ bs) = grind (arith, take_while-cons p b bs, all_pass p bs)
 
 -- a text may be cut there, if only characters of ASCII fail
 pub run_boundary : (p : ℕ → Bool) → ((c : ℕ) → p c ≡ false → c < 128) → (bs : List ℕ) → IsCharBoundary bs (prefix_len p bs)
@@ -61,6 +67,25 @@ run_boundary p low bs =
       | inr (inl l) ↦ IsCharBoundary-before_ascii bs (prefix_len p bs) l (low _ (prefix_len_stops p bs 0 l))
       | inr (inr g) ↦ absurd (omega (arith, prefix_len-le-length p bs))
     ]
+
+-- ---- a text that is cut before a character
+
+pub record Cut (bs : List ℕ) (n c : ℕ) (back : List ℕ) : Type 0 where
+  pub whole : chars bs ≡ chars (take n bs) ++ c ∷ chars back
+  pub shorter : length back < length bs
+  pub utf8 : IsUtf8 back
+
+pub cut_before : (bs : List ℕ) (n c : ℕ) (back : List ℕ) → IsUtf8 bs → IsCharBoundary bs n → drop n bs ≡ encode_utf8 c ++ back
+    → Cut bs n c back
+cut_before bs n c back u b e =
+    let rest = IsUtf8-drop bs n u b in
+    let long = ap length e ∙ length-append (encode_utf8 c) back in
+    record {
+      whole = ap chars (sym (take-append-drop n bs)) ∙ chars-append (take n bs) (drop n bs) (IsUtf8-take bs n u b)
+          ∙ ap (λ x. chars (take n bs) ++ x) (chars_past_char (drop n bs) back c rest e);
+      shorter = omega (arith, long, length-drop n bs, length-encode c, len_utf8_bounds c);
+      utf8 = IsUtf8-past_char (drop n bs) back c rest e;
+    }
 
 -- ---- sets that are held as bits
 

@@ -1,47 +1,41 @@
 -- How a text begins and ends, by its bytes and by its characters.
 use Rattle.std.specs.Str.Pattern.{HasPrefixMatch, FindsTextPrefix, HasSuffixMatch, FindsTextSuffix}
 use Rattle.std.specs.Bool.{MatchBool}
-use Rattle.std.proofs.Math.ListN.{drop_of_length-le}
-use Rattle.yaml_emitter.proofs.Common.{[], ap, arith, begins_with, Bool, bytes_eq-Decides, chars, chars-append, chars-nil, drop, drop-append_seam, drop-cons, encode_utf8_all, encodes-append, encodes-chars, encodes-IsAscii, ends_with, false, get_or, is_low, IsCharBoundary-before_ascii, IsUtf8, IsUtf8-from_ascii, IsUtf8-take, length, length-append, List, nat_eq, nat_tests, None, refl, suc, sym, take, take-append-drop, take-append_seam, true, ℕ, ◌++◌, ◌-◌, ◌<◌, ◌==◌, ◌∙◌, ◌∷◌, ◌≡◌, ◌≢◌, ◌≤◌}
-use Rattle.yaml_emitter.proofs.TextLemmas.{low_at, low_chars}
-
-false_if : (b : Bool) → (b ≡ true → ⊥) → false ≡ b
-false_if a n = grind arith
-
-drop_front : (x w : List ℕ) → drop (length (x ++ w) - length w) (x ++ w) ≡ w
-drop_front x w =
-    let e : length (x ++ w) - length w ≡ length x = omega (arith, length-append x w) in
-    ap (λ k. drop k (x ++ w)) e ∙ drop-append_seam x w
+use Rattle.yaml_emitter.proofs.Common.{[], ap, arith, begins_with, Bool, bytes_eq-Decides, chars, chars-append, drop, drop-append_seam, encode_utf8_all, encodes-append, encodes-chars, encodes-IsAscii, ends_with, false, false_from_ne_true, get_or, get_or-append_seam, is_low, IsCharBoundary-before_ascii, IsUtf8, IsUtf8-from_ascii, IsUtf8-take, length, length-append, List, nat_eq, nat_tests, None, refl, sym, take, take-append-drop, take-append_seam, take-length, take_more, true, ℕ, ◌++◌, ◌+◌, ◌-◌, ◌<◌, ◌==◌, ◌∙◌, ◌∷◌, ◌≡◌, ◌≢◌, ◌≤◌}
+use Rattle.yaml_emitter.proofs.ByteLemmas.{low_at, low_chars}
 
 low_encoded : (w : List ℕ) → is_low w ≡ true → encode_utf8_all w ≡ w
 low_encoded w h = encodes-IsAscii w (low_at w h)
 
+-- characters of ASCII at the front of a text
+pub low_front : (w s rest : List ℕ) → is_low w ≡ true → s ≡ w ++ rest → chars s ≡ w ++ chars rest
+low_front w s rest h e = ap chars e ∙ chars-append w rest (IsUtf8-from_ascii w (low_at w h)) ∙ ap (λ x. x ++ chars rest) (low_chars w h)
+
 pub begins_so : (w s rest : List ℕ) → is_low w ≡ true → s ≡ w ++ rest → true ≡ begins_with w (chars s)
-begins_so w s rest h e =
-    let f : chars s ≡ w ++ chars rest = ap chars e ∙ chars-append w rest (IsUtf8-from_ascii w (low_at w h)) ∙ ap (λ x. x ++ chars rest) (low_chars w h) in
-    sym ((bytes_eq-Decides w (take (length w) (chars s))).1 (sym (ap (take (length w)) f ∙ take-append_seam w (chars rest))))
+begins_so w s rest h e = rw (low_front w s rest h e, take-append_seam, (bytes_eq-Decides w w).1 refl) refl
 
 pub begins_otherwise : (w s : List ℕ) → is_low w ≡ true → IsUtf8 s → ((rest : List ℕ) → s ≢ w ++ rest) → false ≡ begins_with w (chars s)
-begins_otherwise w s h u lacks = false_if (begins_with w (chars s)) (λ e.
+begins_otherwise w s h u lacks = sym (false_from_ne_true (begins_with w (chars s)) (λ e.
     let same : w ≡ take (length w) (chars s) = (bytes_eq-Decides w (take (length w) (chars s))).0 e in
     let rest = drop (length w) (chars s) in
     lacks (encode_utf8_all rest)
     (sym (encodes-chars s u) ∙ ap encode_utf8_all (sym (take-append-drop (length w) (chars s)) ∙ ap (λ x. x ++ rest) (sym same))
-    ∙ encodes-append w rest ∙ ap (λ x. x ++ encode_utf8_all rest) (low_encoded w h)))
+    ∙ encodes-append w rest ∙ ap (λ x. x ++ encode_utf8_all rest) (low_encoded w h))))
 
 pub ends_so : (w s front : List ℕ) → is_low w ≡ true → IsUtf8 front → s ≡ front ++ w → true ≡ ends_with nat_eq (chars s) w
 ends_so w s front h u e =
     let f : chars s ≡ chars front ++ w = ap chars e ∙ chars-append front w u ∙ ap (λ x. chars front ++ x) (low_chars w h) in
-    sym ((bytes_eq-Decides w (drop (length (chars s) - length w) (chars s))).1 (sym (ap (λ x. drop (length x - length w) x) f ∙ drop_front (chars front) w)))
+    let n : length (chars front ++ w) - length w ≡ length (chars front) = omega (arith, length-append (chars front) w) in
+    rw (f, n, drop-append_seam, (bytes_eq-Decides w w).1 refl) refl
 
 pub ends_otherwise : (w s : List ℕ) → is_low w ≡ true → IsUtf8 s → ((front : List ℕ) → s ≢ front ++ w) → false ≡ ends_with nat_eq (chars s) w
-ends_otherwise w s h u lacks = false_if (ends_with nat_eq (chars s) w) (λ e.
+ends_otherwise w s h u lacks = sym (false_from_ne_true (ends_with nat_eq (chars s) w) (λ e.
     let n = length (chars s) - length w in
     let same : w ≡ drop n (chars s) = (bytes_eq-Decides w (drop n (chars s))).0 e in
     let front = take n (chars s) in
     lacks (encode_utf8_all front)
     (sym (encodes-chars s u) ∙ ap encode_utf8_all (sym (take-append-drop n (chars s)) ∙ ap (λ x. front ++ x) (sym same))
-    ∙ encodes-append front w ∙ ap (λ x. encode_utf8_all front ++ x) (low_encoded w h)))
+    ∙ encodes-append front w ∙ ap (λ x. encode_utf8_all front ++ x) (low_encoded w h))))
 
 -- what `str::starts_with` and `str::ends_with` answer
 pub begins_by : (w s : List ℕ) (b : Bool) → is_low w ≡ true → IsUtf8 s → MatchBool b (HasPrefixMatch (FindsTextPrefix w) s) (FindsTextPrefix w s None) → b ≡ begins_with w (chars s)
@@ -55,17 +49,13 @@ ends_by w s false h u m = ends_otherwise w s h u m
 
 no_end : (bs front : List ℕ) (c : ℕ) → bs ≡ front ++ c ∷ [] → get_or bs (length bs - 1) 0 ≡ c
 no_end bs front c e =
-    ap (λ x. get_or x (length x - 1) 0) e ∙ ap (λ k. get_or (front ++ c ∷ []) k 0) (omega (arith, length-append front (c ∷ []))) ∙ by front
-  where
-    by : (x : List ℕ) → get_or (x ++ c ∷ []) (length x) 0 ≡ c
-    by [] = refl
-    by (d ∷ x) = by x
+    let n : length (front ++ c ∷ []) - 1 ≡ length front = omega (arith, length-append front (c ∷ [])) in
+    rw (e, n, get_or-append_seam)
 
 last_apart : (bs : List ℕ) → 1 ≤ length bs → bs ≡ take (length bs - 1) bs ++ get_or bs (length bs - 1) 0 ∷ []
 last_apart bs some =
-    let n = length bs - 1 in
-    let end : length bs ≤ suc n = omega arith in
-    sym (take-append-drop n bs) ∙ ap (λ x. take n bs ++ x) (drop-cons bs n 0 (omega arith) ∙ ap (λ x. get_or bs n 0 ∷ x) (drop_of_length-le bs end))
+    let up : length bs ≡ length bs - 1 + 1 = omega arith in
+    sym (take-length bs) ∙ ap (λ k. take k bs) up ∙ take_more bs (length bs - 1) 0 (omega arith)
 
 pub last_is : (bs : List ℕ) (c : ℕ) → c < 128 → IsUtf8 bs → 1 ≤ length bs → (get_or bs (length bs - 1) 0 == c) ≡ ends_with nat_eq (chars bs) (c ∷ [])
 last_is bs c lt u some = by (get_or bs (length bs - 1) 0 == c) refl
@@ -80,7 +70,3 @@ last_is bs c lt u some = by (get_or bs (length bs - 1) 0 == c) refl
         ends_so (c ∷ []) bs front low (IsUtf8-take bs _ u (IsCharBoundary-before_ascii bs _ (omega arith) (omega (arith, f))))
         (last_apart bs some ∙ ap (λ x. front ++ x ∷ []) f)
     by false e = ends_otherwise (c ∷ []) bs low u (λ front f. let g = no_end bs front c f in grind (arith, nat_tests))
-
-pub none_last : (bs : List ℕ) (c : ℕ) → length bs < 1 → false ≡ ends_with nat_eq (chars bs) (c ∷ [])
-none_last [] c n = ap (λ x. ends_with nat_eq x (c ∷ [])) (sym chars-nil)
-none_last (b ∷ bs) c n = absurd (omega arith)

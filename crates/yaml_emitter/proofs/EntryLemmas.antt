@@ -1,20 +1,16 @@
 -- The text of arrays and hashes, entry by entry.
-use Rattle.yaml_emitter.proofs.Common.{[], add-one, after_mark, ap, append_assoc, arith, array, before_entry, below, Bool, box, codes, complex_text, entries_text, false, hash, hung, hung_lower, if_none, if◌then◌else◌, indented, is_block, is_scalar, IsTrue, item, item_boxes, Items, items_of, levels, List, new_line, no_items, no_pairs, not, pair, pair_box, pair_boxes, pair_text, Pairs, pairs_of, placed, refl, spaces, spelling, stacked, string, suc, sym, Tree, true, zero, ℕ, ◌&&◌, ◌++◌, ◌+◌, ◌↔◌, ◌∙◌, ◌∷◌, ◌≡◌, ◌≤◌}
+use Rattle.yaml_emitter.proofs.Common.{[], add-one, after_mark, ap, append_assoc, arith, array, before_entry, below, Bool, box, codes, entries_text, false, hash, hung, hung_lower, if_none, if◌then◌else◌, indented, is_block, is_scalar, IsTrue, item, item_boxes, Items, levels, List, new_line, no_items, no_pairs, not, pair, pair_box, pair_boxes, pair_text, Pairs, placed, refl, spaces, spelling, stacked, string, suc, sym, Tree, true, zero, ℕ, ◌&&◌, ◌++◌, ◌+◌, ◌↔◌, ◌∙◌, ◌∷◌, ◌≡◌, ◌≤◌}
 use Rattle.yaml_tree.specs.Weight.{nodes}
 
 -- ---- arrays and hashes that aren't empty
 
-pub block_of_items : (b : Bool) (ts : List Tree) → (IsTrue b ↔ (ts ≡ [])) → not b ≡ is_block (array (items_of ts))
-block_of_items true [] h = refl
-block_of_items true (t ∷ ts) h = let e = h.0 refl in cc
-block_of_items false [] h = let e = h.1 refl in cc
-block_of_items false (t ∷ ts) h = refl
-
-pub block_of_pairs : (b : Bool) (ps : List (Tree × Tree)) → (IsTrue b ↔ (ps ≡ [])) → not b ≡ is_block (hash (pairs_of ps))
-block_of_pairs true [] h = refl
-block_of_pairs true (p ∷ ps) h = let e = h.0 refl in cc
-block_of_pairs false [] h = let e = h.1 refl in cc
-block_of_pairs false (p ∷ ps) h = refl
+-- what the test `is_empty` tells
+pub by_empty : {X : Type 0} (holds : Bool → List X → Type 0) → holds false [] → ((x : X) (xs : List X) → holds true (x ∷ xs))
+    → (b : Bool) (xs : List X) → (IsTrue b ↔ (xs ≡ [])) → holds (not b) xs
+by_empty holds none some true [] h = none
+by_empty holds none some false (x ∷ xs) h = some x xs
+by_empty holds none some true (x ∷ xs) h = let e = h.0 refl in cc
+by_empty holds none some false [] h = let e = h.1 refl in cc
 
 -- ---- lines two columns further to the right
 
@@ -27,14 +23,11 @@ deeper_line n x = ap (λ t. 10 ∷ t) (spaces_end n x) ∙ ap (λ k. new_line k 
 
 below_indented : (n : ℕ) (ls : List (List ℕ)) → below n (indented ls) ≡ below (n + 1) ls
 below_indented n [] = refl
-below_indented n (l ∷ ls) = ap (λ t. new_line n ++ 32 ∷ 32 ∷ (l ++ t)) (below_indented n ls) ∙ deeper_line n (l ++ below (n + 1) ls)
+below_indented n (l ∷ ls) = rw (below_indented n ls) (deeper_line n (l ++ below (n + 1) ls))
 
 below_append : (n : ℕ) (a b : List (List ℕ)) → below n (a ++ b) ≡ below n a ++ below n b
 below_append n [] b = refl
-below_append n (l ∷ a) b =
-    ap (λ t. new_line n ++ (l ++ t)) (below_append n a b)
-    ∙ ap (λ t. new_line n ++ t) (sym (append_assoc l (below n a) (below n b)))
-    ∙ sym (append_assoc (new_line n) (l ++ below n a) (below n b))
+below_append n (l ∷ a) b = rw (below_append n a b) (simp append_assoc)
 
 -- ---- boxes, which all have a line
 
@@ -76,10 +69,8 @@ placed_at lower mark level t (lines l ls) = by (lower && is_block t)
 -- those that are left, the first one apart
 next_entry : (first : Bool) (level : ℕ) {a : List (List ℕ)} {text : List ℕ} (b : List (List ℕ)) → HasLines a → stacked level a ≡ text
     → entries_text first level (a ++ b) ≡ before_entry first level ++ (text ++ below level b)
-next_entry true level b h e = stacked_append level b h ∙ ap (λ t. t ++ below level b) e
-next_entry false level {a} {text} b h e =
-    below_append level a b ∙ ap (λ t. t ++ below level b) (below_stacked level h ∙ ap (λ t. new_line level ++ t) e)
-    ∙ append_assoc (new_line level) text (below level b)
+next_entry true level b h e = rw (stacked_append level b h, e) refl
+next_entry false level {a} b h e = rw (below_append level a b, below_stacked level h, e) (append_assoc (new_line level) _ _)
 
 pub next_item : (c m first : Bool) (level : ℕ) (t : Tree) (ts : Items)
     → entries_text first level (item_boxes c m (item t ts))
@@ -98,20 +89,16 @@ pair_lines c m k v =
     longer b (lines l ls) = lines l (ls ++ b)
 
 pair_at : (c m : Bool) (level : ℕ) (k v : Tree) → stacked level (pair_box c k (box c m false k) v (box c m false v)) ≡ pair_text c m level k v
-pair_at c m level k v = by (is_scalar k)
+pair_at c m level k v = by (is_scalar k) refl
   where
-    by : (x : Bool) → stacked level (if x then placed true (spelling k ++ codes ":") v (box c m false v)
-        else placed (not c) (codes "?") k (box c m false k) ++ placed (not c) (codes ":") v (box c m false v))
-        ≡ (if x then spelling k ++ (codes ":" ++ after_mark true level v (box c m false v)) else complex_text c m level k v)
-    by true =
-        placed_at true (spelling k ++ codes ":") level v (box_lines c m false v)
-        ∙ append_assoc (spelling k) (codes ":") (after_mark true level v (box c m false v))
-    by false =
+    by : (x : Bool) → is_scalar k ≡ x → stacked level (pair_box c k (box c m false k) v (box c m false v)) ≡ pair_text c m level k v
+    by true e = rw (e, placed_at true (spelling k ++ codes ":") level v (box_lines c m false v)) (append_assoc (spelling k) (codes ":") _)
+    by false e =
         let key = box_lines c m false k in
         let value = box_lines c m false v in
-        stacked_append level (placed (not c) (codes ":") v (box c m false v)) (placed_lines (not c) (codes "?") k key)
-        ∙ (λ i. placed_at (not c) (codes "?") level k key i ++ (below_stacked level (placed_lines (not c) (codes ":") v value)
-        ∙ ap (λ t. new_line level ++ t) (placed_at (not c) (codes ":") level v value)) i)
+        let after = placed_lines (not c) (codes ":") v value in
+        let apart = stacked_append level (placed (not c) (codes ":") v (box c m false v)) (placed_lines (not c) (codes "?") k key) in
+        rw (e, apart, placed_at (not c) (codes "?") level k key, below_stacked level after, placed_at (not c) (codes ":") level v value)
 
 pub next_pair : (c m first : Bool) (level : ℕ) (k v : Tree) (ps : Pairs)
     → entries_text first level (pair_boxes c m (pair k v ps))
@@ -133,11 +120,8 @@ pairs_text c m level (pair k v ps) h = not_empty level (codes "{}") (pair_boxes 
 
 -- ---- levels and nodes
 
-pub at_least_one : (t : Tree) → (1 ≤ levels t) × (1 ≤ nodes t)
-at_least_one (array ts) = (omega arith, omega arith)
-at_least_one t = (omega arith, omega arith)
+pub at_least_one : (t : Tree) → 1 ≤ nodes t
+at_least_one a = grind arith
 
 pub two_levels : (t : Tree) → is_block t ≡ true → 2 ≤ levels t
-two_levels (array (item t ts)) h = omega (arith, (at_least_one t).0)
-two_levels (hash (pair k v ps)) h = omega (arith, (at_least_one k).0)
-two_levels t h = cc
+two_levels a h = grind arith

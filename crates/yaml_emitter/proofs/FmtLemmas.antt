@@ -1,7 +1,6 @@
 -- What a formatter has taken after calls in a row.
-use Rattle.std.specs.Str.{encode_utf8_all}
 use Rattle.std.specs.declared.fmt.Formatter.{Formatter}
-use Rattle.yaml_emitter.proofs.Common.{[], ap, concat, encodes-append, FoldsTo, has_written_append, has_written_of_eq, HasWritten, List, subst, sym, writes_in_calls_nil, Wrote, ℕ, ◌∷◌}
+use Rattle.yaml_emitter.proofs.Common.{[], ap, concat, encode_utf8_all, encodes-append, FoldsTo, has_written_append, has_written_of_eq, HasWritten, List, subst, sym, writes_in_calls_nil, Wrote, ℕ, ◌∷◌}
 use Rattle.yaml_emitter.specs.FmtText.{TakesPlain}
 
 took_parts : {W : Type 0} (takes : W → List ℕ → W → Type 0) (f : Formatter W) (parts : List (List ℕ)) (g : Formatter W)

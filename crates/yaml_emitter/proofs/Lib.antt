@@ -1,8 +1,5 @@
-pub mod EscapeLemmas
 pub mod FmtLemmas
 pub mod RunLemmas
-pub mod PrintableLemmas
-pub mod TextLemmas
 pub mod WritingLemmas
 pub mod LineLemmas
 pub mod NumberLemmas
@@ -14,5 +11,5 @@ pub mod EntryLemmas
 pub mod ValidLemmas
 pub mod ListLemmas
 pub mod NodeLemmas
-pub mod DeepLemmas
 mod Common
+mod Answering

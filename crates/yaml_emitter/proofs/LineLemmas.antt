@@ -1,6 +1,6 @@
 -- Lines and the spaces with which they begin.
-use Rattle.yaml_emitter.proofs.Common.{ap, arith, is_low, IsCharBoundary, IsCharBoundary-from_ascii, length, List, refl, replicate, replicate-append-replicate, spaces, subst, suc, sym, take, take-replicate, true, zero, ℕ, ◌*◌, ◌++◌, ◌+◌, ◌-◌, ◌<◌, ◌∙◌, ◌∷◌, ◌≡◌, ◌≤◌}
-use Rattle.yaml_emitter.proofs.TextLemmas.{low_at}
+use Rattle.yaml_emitter.proofs.Common.{ap, arith, is_low, IsCharBoundary, IsCharBoundary-from_ascii, List, refl, replicate, replicate-append-replicate, spaces, subst, suc, sym, take, take-replicate, true, zero, ℕ, ◌*◌, ◌++◌, ◌+◌, ◌-◌, ◌<◌, ◌∙◌, ◌∷◌, ◌≡◌, ◌≤◌}
+use Rattle.yaml_emitter.proofs.ByteLemmas.{low_at}
 
 -- so many spaces
 abbrev pub blanks : ℕ → List ℕ
@@ -14,10 +14,7 @@ pub line_of : (n : ℕ) → n ≤ 64 → take (1 + n) (10 ∷ blanks 64) ≡ 10 
 line_of n h = let e : 1 + n ≡ suc n = omega arith in ap (λ k. take k (10 ∷ blanks 64)) e ∙ ap (λ t. 10 ∷ t) (take-replicate n 64 32 h)
 
 pub line_boundary : (n : ℕ) → n ≤ 64 → IsCharBoundary (10 ∷ blanks 64) (1 + n)
-line_boundary n h = IsCharBoundary-from_ascii (10 ∷ blanks 64) (1 + n) (low_at (10 ∷ blanks 64) refl) (fits (1 + n) (omega arith))
-  where
-    fits : (k : ℕ) → k ≤ 65 → k ≤ length (10 ∷ blanks 64)
-    fits k h = omega arith
+line_boundary n h = IsCharBoundary-from_ascii (10 ∷ blanks 64) (1 + n) (low_at (10 ∷ blanks 64) refl) (omega arith)
 
 -- 64 spaces, and the rest
 pub deep_blanks : (n : ℕ) → 64 < n → blanks n ≡ blanks 64 ++ blanks (n - 64)

@@ -1,5 +1,5 @@
 -- Valid trees, part by part.
-use Rattle.yaml_emitter.proofs.Common.{[], ap, ArePairsValid, AreValid, arith, array, depth, false, hash, hash_tree, is_block, is_scalar, IsValid, item, items_depth, items_of, List, max, no_items, no_pairs, OnErr, OnOk, pair, pair_list_of, pairs_depth, pairs_of, refl, Result, subst, sym, Tree, true, true≢false, ◌∷◌, ◌≡◌}
+use Rattle.yaml_emitter.proofs.Common.{ArePairsValid, AreValid, arith, array, depth, false, hash, hash_tree, is_block, is_scalar, IsValid, items_depth, items_of, List, max, no_items, no_pairs, OnErr, OnOk, pair_list_of, pair_list_of_pairs, pairs_depth, pairs_of, refl, Result, subst, sym, Tree, true, ◌≡◌}
 use Rattle.defs_tree.specs.Pairs.{AreDistinct}
 use Rattle.yaml_emitter.proofs.ListLemmas.{Members}
 
@@ -16,10 +16,8 @@ on_err a p = grind arith
 -- an array or hash with no part, or a scalar
 pub flat_valid : (t : Tree) → is_block t ≡ false → (is_scalar t ≡ true → IsValid t) → IsValid t
 flat_valid (array no_items) b h = (tt, tt)
-flat_valid (array (item t ts)) b h = absurd (true≢false b)
 flat_valid (hash no_pairs) b h = ((tt, tt), tt)
-flat_valid (hash (pair k v ps)) b h = absurd (true≢false b)
-flat_valid t b h = h refl
+flat_valid t b h = search (b, h)
 
 -- ---- arrays and hashes, part by part
 
@@ -46,11 +44,7 @@ nodes_in_pairs = record {
 }
 
 pub distinct_pairs : (ps : List (Tree × Tree)) → AreDistinct ps → AreDistinct (pair_list_of (pairs_of ps))
-distinct_pairs ps d = subst AreDistinct (sym (same ps)) d
-  where
-    same : (ps : List (Tree × Tree)) → pair_list_of (pairs_of ps) ≡ ps
-    same [] = refl
-    same (p ∷ ps) = ap (λ xs. p ∷ xs) (same ps)
+distinct_pairs ps d = subst AreDistinct (sym (pair_list_of_pairs ps)) d
 
 pub valid_hash : (ps : List (Tree × Tree)) → AreDistinct ps → ArePairsValid (pairs_of ps) → IsValid (hash_tree ps)
 valid_hash ps d v = ((distinct_pairs ps d, v.0), v.1)

@@ -1,17 +1,13 @@
 -- The words that are quoted.
-use Rattle.yaml_emitter.proofs.Common.{[], all_upto, ap, arith, begins_plainly, begins_with, bit_or, Bool, bytes_eq-Decides, chars, chars-nil, chars_past_char, codes, each_upto, encode_ascii, encode_utf8_all, encodes-chars, ends_with, false, float_names, has_indicator_first, has_outer_space, if◌then◌else◌, is_empty, is_float_word, is_in, is_name, is_plain_letter, is_plain_small, is_quoted, is_sign, is_string, is_unfit, is_unfit_for_plain, is_word, IsUtf8, length, List, list_any, map, nat_eq, nat_lt, nat_tests, not, refl, reserved_words, same, same_is, subst, suc, sym, T, to_ascii_lowercase, true, true≢false, typing, ℕ, ◌&&◌, ◌++◌, ◌<◌, ◌==◌, ◌||◌, ◌∙◌, ◌∷◌, ◌≡◌, ◌≤◌}
+use Rattle.yaml_emitter.proofs.Common.{[], after_one, all_upto, ap, arith, begins_plainly, begins_with, bit_or, Bool, bytes_eq-Decides, chars, chars-nil, chars_past_char, codes, each_upto, encode_ascii, encodes-chars, ends_with, false, false_from_ne_true, float_names, followed_by-empty, has_indicator_first, has_outer_space, if◌then◌else◌, is_empty, is_float_word, is_in, is_name, is_plain_letter, is_plain_small, is_quoted, is_sign, is_string, is_unfit, is_unfit_for_plain, is_word, IsUtf8, length, List, list_any, map, nat_eq, nat_tests, not, optional_one-after, refl, reserved_words, same, same_is, subst, sym, T, to_ascii_lowercase, true, true≢false, typing, ℕ, ◌&&◌, ◌++◌, ◌<◌, ◌==◌, ◌||◌, ◌∙◌, ◌∷◌, ◌≡◌, ◌≤◌}
 use Rattle.defs_tree.specs.Grammar.{is_among, followed_by}
-use Rattle.defs_tree.proofs.GrammarLaws.{after_one, Rejects, optional_one-after, followed_by-empty}
 use Rattle.yaml_tree.proofs.FirstByte.{typing_itself}
 use Rattle.yaml_tree.specs.Values.{begins_value}
 use Rattle.yaml_tree.proofs.TypingLemmas.{not_among}
 use Rattle.yaml_tree.proofs.WideTexts.{low, low_bytes}
-use Rattle.yaml_emitter.proofs.TextLemmas.{ascii_low, low_chars}
+use Rattle.yaml_emitter.proofs.ByteLemmas.{ascii_low, low_chars}
 
 -- ---- names of numbers
-
-rejects : Rejects is_sign (λ t. followed_by (is_among float_names) is_empty t)
-rejects c cs e = followed_by-empty (is_among float_names) (c ∷ cs) ∙ grind (arith, nat_tests)
 
 same_sign : (c : ℕ) → is_sign (to_ascii_lowercase c) ≡ is_sign c
 same_sign c = grind (arith, nat_tests)
@@ -21,21 +17,16 @@ lower_after a = grind (arith, same_sign)
 
 pub float_word : (t : List ℕ) → is_float_word t ≡ is_among float_names (map to_ascii_lowercase (after_one is_sign t))
 float_word t =
-    optional_one-after is_sign (λ x. followed_by (is_among float_names) is_empty x) rejects (map to_ascii_lowercase t)
+    optional_one-after is_sign (λ x. followed_by (is_among float_names) is_empty x)
+    (λ c cs e. followed_by-empty (is_among float_names) (c ∷ cs) ∙ grind (arith, nat_tests)) (map to_ascii_lowercase t)
     ∙ followed_by-empty (is_among float_names) (after_one is_sign (map to_ascii_lowercase t))
     ∙ ap (is_among float_names) (lower_after t)
 
 -- ---- texts that aren't ASCII
 
-not_true : (b : Bool) → (b ≡ true → ⊥) → b ≡ false
-not_true a n = grind arith
-
-same_low : (c : ℕ) → nat_lt (to_ascii_lowercase c) 128 ≡ nat_lt c 128
-same_low c = grind (arith, nat_tests)
-
 lower_low : (t : List ℕ) → low (map to_ascii_lowercase t) ≡ low t
 lower_low [] = refl
-lower_low (c ∷ cs) = (λ i. same_low c i && lower_low cs i)
+lower_low (c ∷ cs) = grind (arith, nat_tests, lower_low cs)
 
 after_low : (t : List ℕ) → low (after_one is_sign t) ≡ low t
 after_low a = grind (arith, nat_tests)
@@ -54,7 +45,8 @@ name_of_bytes bs u = by (low bs) refl
 
     by : (b : Bool) → low bs ≡ b → is_name bs ≡ is_name (chars bs)
     by true e = ap is_name (sym (low_chars bs e))
-    by false e = wide_name bs e ∙ sym (wide_name (chars bs) (not_true _ (λ h. true≢false (sym (ascii_low bs (low_bytes bs u h)) ∙ e))))
+    by false e =
+        wide_name bs e ∙ sym (wide_name (chars bs) (false_from_ne_true _ (λ h. true≢false (sym (ascii_low bs (low_bytes bs u h)) ∙ e))))
 
 pub word_of_bytes : (bs : List ℕ) → IsUtf8 bs → (is_name bs || not (is_string (typing (chars bs)))) ≡ is_word (chars bs)
 word_of_bytes bs u = ap (λ b. b || not (is_string (typing (chars bs)))) (name_of_bytes bs u)
@@ -70,11 +62,7 @@ quoted t = sym (regroup (is_empty t) (has_outer_space t) (has_indicator_first t)
 
 pub empty_text : (bs : List ℕ) → IsUtf8 bs → (length bs == 0) ≡ is_empty (chars bs)
 empty_text [] u = ap is_empty (sym chars-nil)
-empty_text (b ∷ bs) u = by (chars (b ∷ bs)) refl
-  where
-    by : (cs : List ℕ) → chars (b ∷ bs) ≡ cs → (suc (length bs) == 0) ≡ is_empty cs
-    by [] e = let f : b ∷ bs ≡ [] = sym (encodes-chars (b ∷ bs) u) ∙ ap encode_utf8_all e in cc
-    by (c ∷ cs) e = grind (arith, nat_tests)
+empty_text (b ∷ bs) u = grind (arith, nat_tests, encodes-chars (b ∷ bs) u)
 
 pub wide_fits : (c : ℕ) → 128 ≤ c → is_unfit_for_plain c ≡ false
 unfolding is_unfit_for_plain
@@ -98,15 +86,10 @@ letter_small c e = grind (arith, nat_tests)
 
 -- a test that no plain letter passes
 letter_fails : (q : ℕ → Bool) → T (all_upto (λ x. not (is_plain_letter x && q x)) 123) → (c : ℕ) → is_plain_letter c ≡ true → q c ≡ false
-letter_fails q all c e = by (is_plain_letter c) (q c) e (each_upto (λ x. not (is_plain_letter x && q x)) 123 all c (letter_small c e))
-  where
-    by : (a b : Bool) → a ≡ true → T (not (a && b)) → b ≡ false
-    by true true e t = absurd t
-    by true false e t = refl
-    by false b e t = cc
+letter_fails q all c e = let t = each_upto (λ x. not (is_plain_letter x && q x)) 123 all c (letter_small c e) in grind arith
 
 no_front : (d c : ℕ) (ds cs : List ℕ) → is_in (d ∷ []) c ≡ false → begins_with (d ∷ ds) (c ∷ cs) ≡ false
-no_front d c ds cs f = grind (arith, not_true, same, bytes_eq-Decides)
+no_front d c ds cs f = grind (arith, false_from_ne_true, same, bytes_eq-Decides)
 
 only_two : (e b s i x l r f n : Bool) → e ≡ false → b ≡ false → i ≡ false → x ≡ false → r ≡ false → f ≡ false → n ≡ false
     → (e || (b || s) || i || x || l || r || f || n) ≡ (s || l)

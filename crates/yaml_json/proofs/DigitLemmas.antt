@@ -1,27 +1,18 @@
 -- The digits of a number.
 use Rattle.std.proofs.Math.Seq.{take-length}
-use Rattle.yaml_json.proofs.Common.{[], ap, append_assoc, arith, Bool, decimal, decimal_digit, decimal_step, drop, eq-zero-or-pos, eqb, eqb→eq, false, FitsSigned, get_or, inl, inr, int_le, IsAscii, IsAscii-signed, length, length-append, length-drop, List, nat_tests, negsuc, pos, signed_decimal, suc, sym, T, take, true, unsigned_abs, w64, zero, ℕ, ℤ, ◌%◌, ◌&&◌, ◌*◌, ◌++◌, ◌+◌, ◌-◌, ◌/◌, ◌<◌, ◌^◌, ◌∙◌, ◌∷◌, ◌≡◌, ◌≤◌}
+use Rattle.yaml_json.proofs.Common.{[], ap, append_assoc, arith, decimal, decimal_digit, decimal_step, drop, eqb, eqb→eq, false, FitsSigned, get_or, int_le, IsAscii, IsAscii-signed, length, length-append, length-drop, List, nat_tests, negsuc, pos, signed_decimal, sym, take, unsigned_abs, w64, ℕ, ℤ, ◌%◌, ◌&&◌, ◌*◌, ◌++◌, ◌+◌, ◌-◌, ◌/◌, ◌<◌, ◌^◌, ◌∙◌, ◌∷◌, ◌≡◌, ◌≤◌}
 use lib.Ieee.Fits.{and_l, and_r}
+use Rattle.yaml_chars.proofs.MaskLemmas.{each_upto}
 use Rattle.yaml_json.specs.declared.integer.TheConstants.{PAIRS}
 
-abbrev are_pairs : ℕ → Bool
-are_pairs zero = true
-are_pairs (suc p) = (eqb (get_or PAIRS (2 * p) 0) (48 + p / 10) && eqb (get_or PAIRS (2 * p + 1) 0) (48 + p % 10)) && are_pairs p
-
-pub pairs_below : (n p : ℕ) → T (are_pairs n) → p < n → (get_or PAIRS (2 * p) 0 ≡ 48 + p / 10) × (get_or PAIRS (2 * p + 1) 0 ≡ 48 + p % 10)
-pairs_below zero p t h = absurd (omega arith)
-pairs_below (suc n) p t h =
-    elim (eq-zero-or-pos (n - p)) [
-      | inl z ↦ let e : p ≡ n = omega arith in let a = and_l _ (are_pairs n) t in rw e (eqb→eq _ _ (and_l _ _ a), eqb→eq _ _ (and_r _ _ a))
-      | inr g ↦ pairs_below n p (and_r _ (are_pairs n) t) (omega arith)
-    ]
+pub pairs_below : (p : ℕ) → p < 100 → (get_or PAIRS (2 * p) 0 ≡ 48 + p / 10) × (get_or PAIRS (2 * p + 1) 0 ≡ 48 + p % 10)
+pairs_below p h =
+    let t = each_upto (λ p. eqb (get_or PAIRS (2 * p) 0) (48 + p / 10) && eqb (get_or PAIRS (2 * p + 1) 0) (48 + p % 10)) 100 tt p h in
+    (eqb→eq _ _ (and_l _ _ t), eqb→eq _ _ (and_r _ _ t))
 
 -- the two digits of a number below 100
 abbrev pub pair : ℕ → List ℕ
 pair p = (48 + p / 10) ∷ (48 + p % 10) ∷ []
-
-pub one_digit : (n : ℕ) → n < 10 → length (decimal n) ≡ 1
-one_digit n h = ap length (decimal_digit n h)
 
 pub two_digits : (n : ℕ) → 10 ≤ n → n < 100 → decimal n ≡ pair n
 two_digits n lo hi = rw (decimal_step n lo (omega arith), decimal_digit (n / 10) (omega arith))
@@ -33,8 +24,18 @@ two_more n lo hi =
     let c : n % 10 ≡ n % 100 % 10 = omega arith in
     rw (decimal_step n (omega arith) hi, decimal_step (n / 10) (omega arith) (omega arith), append_assoc, a, b, ← c)
 
-pub longer_by_two : (n : ℕ) → 100 ≤ n → n < 2 ^ 64 → length (decimal n) ≡ length (decimal (n / 100)) + 2
-longer_by_two n lo hi = ap length (two_more n lo hi) ∙ length-append _ _
+-- how many digits there are
+pub record HasDigits (n : ℕ) : Type 0 where
+  pub one : n < 10 → length (decimal n) ≡ 1
+  pub two : 10 ≤ n → n < 100 → length (decimal n) ≡ 2
+  pub more : 100 ≤ n → length (decimal n) ≡ length (decimal (n / 100)) + 2
+
+pub has_digits : (n : ℕ) → n < 2 ^ 64 → HasDigits n
+has_digits n h = record {
+  one = λ l. ap length (decimal_digit n l);
+  two = λ l m. ap length (two_digits n l m);
+  more = λ l. ap length (two_more n l h) ∙ length-append _ _;
+}
 
 -- a negative number
 pub minus_first : (z : ℤ) → int_le (pos 0) z ≡ false → 45 ∷ decimal (unsigned_abs z) ≡ signed_decimal z

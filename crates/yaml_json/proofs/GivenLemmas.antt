@@ -1,17 +1,13 @@
 -- What every tree of the library meets, part by part.
-use Rattle.std.specs.Str.{chars}
-use Rattle.yaml_json.proofs.Common.{[], all_scalars, AllHaveJson, and_from, and_parts, are_characters, are_strings, AreGiven, AreMembers, ArePairsGiven, arith, array, below, Bool, boolean, false, Fault, first_fault, first_item_fault, first_member_fault, first_of, flat_text, has_other_key, hash, hash_tree, HasJson, here, if◌then◌else◌, index, integer, is_block, is_character, is_json_real, is_no_number, is_string, IsFlatGiven, IsGiven, IsKey, IsKeyGiven, IsScalar, IsUtf8, item, Items, json_text, List, nat_tests, no_items, no_pairs, None, null, Option, pair, Pairs, pairs_of, real, refl, scalars-chars, Step, step_of, string, Tree, true, true≢false, ℕ, ◌+◌, ◌∷◌, ◌≡◌}
+use Rattle.yaml_json.proofs.Common.{[], all_scalars, AllHaveJson, and_from, and_parts, are_characters, are_strings, AreGiven, AreMembers, ArePairsGiven, arith, array, below, boolean, chars, false, Fault, first_fault, first_item_fault, first_member_fault, first_of, flat_text, hash, hash_tree, HasJson, index, integer, is_block, is_string, IsFlatGiven, IsGiven, IsKey, IsKeyGiven, IsUtf8, item, Items, json_text, List, nat_tests, no_items, no_pairs, None, null, Option, pair, Pairs, pairs_of, real, refl, scalars-chars, Step, step_of, string, Tree, true, true≢false, ℕ, ◌+◌, ◌∷◌, ◌≡◌}
 use Rattle.defs_tree.specs.Pairs.{AreDistinct}
 use Rattle.yaml_emitter.proofs.ValidLemmas.{distinct_pairs}
 
 -- ---- texts
 
-scalar_is : (c : ℕ) → IsScalar c → is_character c ≡ true
-scalar_is c h = grind (arith, nat_tests)
-
 scalars_are : (cs : List ℕ) → all_scalars cs ≡ true → are_characters cs ≡ true
 scalars_are [] h = refl
-scalars_are (c ∷ cs) h = let p = and_parts _ (all_scalars cs) h in and_from _ _ (scalar_is c p.0) (scalars_are cs p.1)
+scalars_are (c ∷ cs) h = let p = and_parts _ (all_scalars cs) h in and_from _ _ (grind (arith, nat_tests, p.0)) (scalars_are cs p.1)
 
 pub text_given : (bs : List ℕ) → IsUtf8 bs → are_characters (chars bs) ≡ true
 text_given bs u = scalars_are (chars bs) (scalars-chars bs u)
@@ -27,11 +23,7 @@ flat_given (hash (pair k v ps)) b g = absurd (true≢false b)
 flat_given t b g = g
 
 pub flat_text_is : (t : Tree) (i : Option ℕ) (m : ℕ) → is_block t ≡ false → flat_text t ≡ json_text i m t
-flat_text_is (array no_items) i m b = refl
-flat_text_is (array (item t ts)) i m b = absurd (true≢false b)
-flat_text_is (hash no_pairs) i m b = refl
-flat_text_is (hash (pair k v ps)) i m b = absurd (true≢false b)
-flat_text_is t i m b = refl
+flat_text_is a i m b = grind arith
 
 pub given_hash : (ps : List (Tree × Tree)) → AreDistinct ps → ArePairsGiven (pairs_of ps) → IsGiven (hash_tree ps)
 given_hash ps d v = (distinct_pairs ps d, v)
@@ -42,23 +34,16 @@ none_first : (s : Step) (o q : Option Fault) → first_of (below s o) q ≡ None
 none_first s a q e = grind arith
 
 key_has : (k : Tree) → is_string k ≡ true → IsKeyGiven k → IsKey k
-key_has (string s) e g = g
-key_has k e g = cc
-
-real_has : (b : Bool) → (if b then None else here is_no_number) ≡ None → b ≡ true
-real_has a e = grind arith
-
-keys_have : (b : Bool) (o : Option Fault) → (if b then o else here has_other_key) ≡ None → (b ≡ true) × (o ≡ None)
-keys_have a o e = grind arith
+key_has a e g = grind arith
 
 mutual
   pub has_json : (t : Tree) → first_fault t ≡ None → IsGiven t → HasJson t
-  has_json (real s) e g = real_has (is_json_real s) e
+  has_json (real s) e g = grind arith
   has_json (integer z) e g = g
   has_json (string s) e g = g
   has_json (boolean b) e g = tt
   has_json (array ts) e g = items_have 0 ts e g
-  has_json (hash ps) e g = let h = keys_have (are_strings ps) (first_member_fault ps) e in (g.0, members_have ps h.0 h.1 g.1)
+  has_json (hash ps) e g = (g.0, members_have ps (grind arith) (grind arith) g.1)
   has_json null e g = tt
   has_json t e g = cc
 

@@ -1,7 +1,7 @@
--- What is left to write of arrays and objects.
-use Rattle.yaml_json.proofs.ReadCommon.{Result}
-use Rattle.yaml_json.proofs.Common.{ap, append_assoc, AreGiven, ArePairsGiven, ArePartsGiven, arith, array, before_entry, Bool, closing, deeper, depth, drop, Entries, false, get_or, hash, is_block, is_low, IsGiven, IsKeyGiven, IsTooWide, item, item_nesting, Items, items_depth, items_left, items_of, items_view, json_text, key_end, key_text, left_in, length, List, max, member_nesting, members_left, more_items, more_members, mul-le-mul_left, nesting, new_line, nodes, opening, Option, pair, paired, Pairs, pairs_depth, pairs_of, part_nesting, part_nodes, parts_left, refl, subst, suc, sym, Tree, true, unwrap_or, view, WritesUnless, Yaml, ℕ, ◌++◌, ◌+◌, ◌<◌, ◌^◌, ◌∙◌, ◌≡◌, ◌≤◌}
-use Rattle.yaml_json.proofs.RowLemmas.{item_left, member_left}
+-- What is left to write and to search of arrays and objects, and of levels one in another.
+use Rattle.yaml_json.proofs.Common.{[], ap, append_assoc, AreGiven, ArePairsGiven, ArePartsGiven, arith, array, before_entry, below, Bool, closing, deeper, depth, drop, drop_more, Ends, Entries, false, fault_left, first_fault, first_of, flat_text, get_or, hash, hash_tree, is_block, is_low, IsFlatGiven, IsGiven, IsKeyGiven, IsLeft, IsTooWide, item, item_nesting, Items, items_depth, items_left, items_of, items_view, json_text, key_end, key_text, left_after, left_as, left_in, left_none, left_stopped, length, length-drop, length-map, length-reverse, length-take-le, Level, List, map, max, member_nesting, members_left, more_items, more_members, mul-le-mul_left, nesting, new_line, no_pairs, nodes, null, OnErr, opening, Option, pair, paired, Pairs, pairs_depth, pairs_of, part_nesting, part_nodes, parts_left, refl, Result, reverse, reverse-append, set, Step, step_in, Stopped, stopped_as, stopped_early, stopped_late, Stops, subst, suc, sym, take, take-set_at, take_more, Tree, tree_left, true, unwrap_or, view, Wrote, Yaml, ℕ, ◌*◌, ◌++◌, ◌+◌, ◌-◌, ◌<◌, ◌∙◌, ◌∷◌, ◌≡◌, ◌≢◌, ◌≤◌}
+use Rattle.std.proofs.lemmas.List.{get_or-map}
+use Rattle.yaml_json.proofs.GivenLemmas.{flat_given, flat_text_is}
 
 -- ---- how wide
 
@@ -9,23 +9,8 @@ use Rattle.yaml_json.proofs.RowLemmas.{item_left, member_left}
 pub wide_within : (i : Option ℕ) (m n k : ℕ) → n ≤ k → IsTooWide i m n → IsTooWide i m k
 wide_within i m n k h w = let grown = mul-le-mul_left (unwrap_or i 0) h in omega arith
 
-pub wide_inside : (i : Option ℕ) (m inner n : ℕ) → inner ≡ deeper i m → IsTooWide i inner n → IsTooWide i m (suc n)
-wide_inside i m inner n e w = omega arith
-
-pub wide_margin : (i : Option ℕ) (m n : ℕ) → 2 ^ 64 ≤ deeper i m → IsTooWide i m (suc n)
-wide_margin i m n w = omega arith
-
 pub part_wide : (t : Tree) → is_block t ≡ true → nesting t ≡ suc (part_nesting t)
-part_wide (array ts) b = refl
-part_wide (hash ps) b = refl
-part_wide t b = cc
-
--- of a node that has parts
-pub part_inside : (i : Option ℕ) (m inner : ℕ) (t : Tree) → is_block t ≡ true → inner ≡ deeper i m → IsTooWide i inner (part_nesting t) → IsTooWide i m (nesting t)
-part_inside i m inner t b e w = subst (IsTooWide i m) (sym (part_wide t b)) (wide_inside i m inner (part_nesting t) e w)
-
-pub part_margin : (i : Option ℕ) (m : ℕ) (t : Tree) → is_block t ≡ true → 2 ^ 64 ≤ deeper i m → IsTooWide i m (nesting t)
-part_margin i m t b w = subst (IsTooWide i m) (sym (part_wide t b)) (wide_margin i m (part_nesting t) w)
+part_wide a b = grind arith
 
 -- ---- arrays and objects with parts
 
@@ -34,81 +19,86 @@ low_brackets (array ts) = (refl, refl)
 low_brackets t = (refl, refl)
 
 -- the text between the brackets, and they
-abbrev around : Option ℕ → ℕ → Tree → ℕ → List ℕ
-around i m t n = opening t ++ (parts_left true i n t ++ (new_line i m ++ closing t))
-
 pub in_brackets : (i : Option ℕ) (m inner : ℕ) (t : Tree) → inner ≡ deeper i m → is_block t ≡ true
     → opening t ++ (parts_left true i inner t ++ (new_line i m ++ closing t)) ≡ json_text i m t
-in_brackets i m inner (array (item t ts)) e b = ap (around i m (array (item t ts))) e ∙ simp append_assoc
-in_brackets i m inner (hash (pair k v ps)) e b = ap (around i m (hash (pair k v ps))) e ∙ simp append_assoc
+in_brackets i m inner (array (item t ts)) e b = rw e (simp append_assoc)
+in_brackets i m inner (hash (pair k v ps)) e b = rw e (simp append_assoc)
 in_brackets i m inner t e b = cc
 
 -- the brackets as they are written
-pub put_in_brackets : {before after : List ℕ} (i : Option ℕ) (m inner : ℕ) (t : Tree) → before ≡ opening t → after ≡ closing t → inner ≡ deeper i m → is_block t ≡ true
-    → before ++ (parts_left true i inner t ++ (new_line i m ++ after)) ≡ json_text i m t
-put_in_brackets {after = after} i m inner t o c e b =
-    ap (λ x. x ++ (parts_left true i inner t ++ (new_line i m ++ after))) o ∙ ap (λ x. opening t ++ (parts_left true i inner t ++ (new_line i m ++ x))) c ∙ in_brackets i m inner t e b
-
--- the parts of the same tree
-pub parts_as : {W E : Type 0} {gives leaves : W → List ℕ → W → Type 0} {w v : W} {r : Result (Unit {0}) E} (i : Option ℕ) (m : ℕ) (t s : Tree)
-    → t ≡ s → WritesUnless (IsTooWide i m (part_nesting s)) gives leaves w r (parts_left true i m s) v → WritesUnless (IsTooWide i m (part_nesting t)) gives leaves w r (parts_left true i m t) v
-parts_as {gives = gives} {leaves} {w} {v} {r} i m t s e q = subst (λ x. WritesUnless (IsTooWide i m (part_nesting x)) gives leaves w r (parts_left true i m x) v) (sym e) q
+pub put_in_brackets : {before after : List ℕ} (i : Option ℕ) (m inner : ℕ) (t : Tree) → before ≡ opening t → after ≡ closing t
+    → inner ≡ deeper i m → is_block t ≡ true → before ++ (parts_left true i inner t ++ (new_line i m ++ after)) ≡ json_text i m t
+put_in_brackets i m inner t o c e b = rw (o, c) (in_brackets i m inner t e b)
 
 -- ---- what is left of a level, part by part
 
--- What stands before the first part of what is left, that part, and what is left after it. `K` is what is given of its key.
-pub record IsNext (i : Option ℕ) (m : ℕ) (first : Bool) (t : Tree) (before : List ℕ) (K : Type 0) (part : Tree) (u : Tree) : Type 0 where
-  pub text : parts_left first i m t ≡ before ++ (json_text i m part ++ parts_left false i m u)
+pub later_items : (i : Option ℕ) (m : ℕ) (ts : Items) → more_items i m ts ≡ items_left false i m ts
+later_items i m a = grind arith
+
+pub later_members : (i : Option ℕ) (m : ℕ) (ps : Pairs) → more_members i m ps ≡ members_left false i m ps
+later_members i m a = grind arith
+
+-- The first part of what is left, where so many nodes were passed: what stands before it, the step to it, and what is left after it, with
+-- so many nodes passed. `K` is what is given of its key.
+pub record IsNext (t : Tree) (passed : ℕ) (before : Bool → Option ℕ → ℕ → List ℕ) (K : Type 0) (s : Step) (part u : Tree)
+    (more : ℕ) : Type 0 where
+  pub text : (first : Bool) (i : Option ℕ) (m : ℕ)
+      → parts_left first i m t ≡ before first i m ++ (json_text i m part ++ parts_left false i m u)
+  pub fault : fault_left passed t ≡ first_of (below s (first_fault part)) (fault_left more u)
   pub deepest : part_nesting t ≡ max (nesting part) (part_nesting u)
   pub fewer : nodes part + part_nodes u ≤ part_nodes t
   pub given : K → IsGiven part → ArePartsGiven u → ArePartsGiven t
   pub same : closing u ≡ closing t
 
-later_items : (i : Option ℕ) (m : ℕ) (ts : Items) → more_items i m ts ≡ items_left false i m ts
-later_items i m a = grind arith
+next_node : (ys : List Yaml) (n : ℕ) (y : Yaml) → n < length ys → y ≡ get_or ys n y → items_view (drop n ys) ≡ view y ∷ items_view (drop (n + 1) ys)
+next_node ys n y h is = ap items_view (drop_more ys n y h) ∙ ap (λ x. view x ∷ items_view (drop (n + 1) ys)) (sym is)
 
-item_is_next : (i : Option ℕ) (m : ℕ) (first : Bool) (t : Tree) (ts : Items) → IsNext i m first (array (item t ts)) (before_entry first i m) (Unit {0}) t (array ts)
-item_is_next i m first t ts = record {
-  text = ap (λ r. before_entry first i m ++ (json_text i m t ++ r)) (later_items i m ts);
-  deepest = refl;
-  fewer = omega arith;
-  given = λ _ g gs. (g, gs);
-  same = refl;
-}
-
-pub item_next : (i : Option ℕ) (m : ℕ) (first : Bool) (row : List Yaml) (n q : ℕ) (y : Yaml) → n < length row → y ≡ get_or row n y → q ≡ n + 1
-    → IsNext i m first (left_in false row n) (before_entry first i m) (Unit {0}) (view y) (left_in false row q)
-item_next i m first row n q y h is e =
-    subst (λ t. IsNext i m first t (before_entry first i m) (Unit {0}) (view y) (left_in false row q)) (sym (item_left row n q y h is e))
-    (item_is_next i m first (view y) (items_of (items_view (drop q row))))
-
-later_members : (i : Option ℕ) (m : ℕ) (ps : Pairs) → more_members i m ps ≡ members_left false i m ps
-later_members i m a = grind arith
+pub item_next : (row : List Yaml) (n : ℕ) (y : Yaml) → n < length row → y ≡ get_or row n y
+    → IsNext (left_in false row n) n before_entry (Unit {0}) (step_in false row (n + 1)) (view y) (left_in false row (n + 1)) (n + 1)
+item_next row n y h is =
+    let at : n + 1 - 1 ≡ n = omega arith in
+    rw (next_node row n y h is) (record {
+      text = λ first i m. ap (λ r. before_entry first i m ++ (json_text i m (view y) ++ r)) (later_items i m _);
+      fault = rw at refl;
+      deepest = refl;
+      fewer = omega arith;
+      given = λ _ g gs. (g, gs);
+      same = refl;
+    })
 
 -- what stands before a value
-abbrev pub before_value : Bool → Option ℕ → ℕ → Tree → List ℕ
-before_value first i m k = before_entry first i m ++ (key_text k ++ key_end i)
+abbrev pub before_value : Tree → Bool → Option ℕ → ℕ → List ℕ
+before_value k first i m = before_entry first i m ++ (key_text k ++ key_end i)
 
-member_is_next : (i : Option ℕ) (m : ℕ) (first : Bool) (k v : Tree) (ps : Pairs) → IsNext i m first (hash (pair k v ps)) (before_value first i m k) (IsKeyGiven k) v (hash ps)
-member_is_next i m first k v ps = record {
-  text = ap (λ r. before_entry first i m ++ (key_text k ++ (key_end i ++ (json_text i m v ++ r)))) (later_members i m ps) ∙ simp append_assoc;
-  deepest = refl;
-  fewer = omega arith;
-  given = λ g f fs. (g, f, fs);
-  same = refl;
-}
+member_left : (row : List Yaml) (n : ℕ) (k v : Yaml) → n + 1 < length row → k ≡ get_or row n k → v ≡ get_or row (n + 1) v
+    → left_in true row n ≡ hash (pair (view k) (view v) (pairs_of (paired (items_view (drop (n + 2) row)))))
+member_left row n k v h ks vs = grind (arith, next_node)
 
-pub member_next : (i : Option ℕ) (m : ℕ) (first : Bool) (row : List Yaml) (n q : ℕ) (k v : Yaml) → n + 1 < length row → k ≡ get_or row n k → v ≡ get_or row (n + 1) v → q ≡ n + 2
-    → IsNext i m first (left_in true row n) (before_value first i m (view k)) (IsKeyGiven (view k)) (view v) (left_in true row q)
-member_next i m first row n q k v h ks vs e =
-    subst (λ t. IsNext i m first t (before_value first i m (view k)) (IsKeyGiven (view k)) (view v) (left_in true row q)) (sym (member_left row n q k v h ks vs e))
-    (member_is_next i m first (view k) (view v) (pairs_of (paired (items_view (drop q row)))))
+pub member_next : (row : List Yaml) (n : ℕ) (k v : Yaml) → n + 1 < length row → k ≡ get_or row n k → v ≡ get_or row (n + 1) v
+    → IsNext (left_in true row n) n (before_value (view k)) (IsKeyGiven (view k)) (step_in true row (n + 2)) (view v)
+    (left_in true row (n + 2)) (n + 2)
+member_next row n k v h ks vs =
+    let at : n + 2 - 2 ≡ n = omega arith in
+    let key : get_or (items_view row) n null ≡ view k = get_or-map view row n k null (omega arith) ∙ ap view (sym ks) in
+    rw (member_left row n k v h ks vs) (record {
+      text = λ first i m. simp (later_members, append_assoc);
+      fault = rw (at, key) refl;
+      deepest = refl;
+      fewer = omega arith;
+      given = λ g f fs. (g, f, fs);
+      same = refl;
+    })
+
+few_paired : (ts : List Tree) → length ts ≤ 1 → paired ts ≡ []
+few_paired a h = grind arith
+
+-- a key alone has no value
+pub no_member_left : (row : List Yaml) (n : ℕ) → length row ≤ n + 1 → left_in true row n ≡ hash no_pairs
+no_member_left row n h =
+    let e = length-map (drop n row) view ∙ length-drop n row in
+    ap hash_tree (few_paired (items_view (drop n row)) (omega (arith, e)))
 
 -- ---- what is written of an array or object, part by part
-
--- an item, and the items after it
-pub next_item : (i : Option ℕ) (m : ℕ) (first : Bool) (t : Tree) (ts : Items) → items_left first i m (item t ts) ≡ (before_entry first i m ++ json_text i m t) ++ items_left false i m ts
-next_item i m first t ts = (item_is_next i m first t ts).text ∙ sym (append_assoc (before_entry first i m) (json_text i m t) (items_left false i m ts))
 
 abbrev pub item_entries : Option ℕ → ℕ → Entries Tree
 item_entries i m = record {
@@ -124,19 +114,12 @@ item_entries i m = record {
   own_levels = nesting;
   levels = λ ts. item_nesting (items_of ts);
   highest = record { greatest = λ t ts. refl };
-  entry = λ first t. before_entry first i m ++ json_text i m t;
+  before = λ first. before_entry first i m;
+  part = λ t. json_text i m t;
   text = λ first ts. items_left first i m (items_of ts);
   none_text = λ first. refl;
-  more_text = λ first t ts. next_item i m first t (items_of ts);
+  more_text = λ first t ts. simp later_items;
 }
-
--- a member
-abbrev pub member_text : Bool → Option ℕ → ℕ → Tree → Tree → List ℕ
-member_text first i m k v = before_entry first i m ++ (key_text k ++ (key_end i ++ json_text i m v))
-
--- a member, and the members after it
-pub next_member : (i : Option ℕ) (m : ℕ) (first : Bool) (k v : Tree) (ps : Pairs) → members_left first i m (pair k v ps) ≡ member_text first i m k v ++ members_left false i m ps
-next_member i m first k v ps = ap (λ r. before_entry first i m ++ (key_text k ++ (key_end i ++ (json_text i m v ++ r)))) (later_members i m ps) ∙ simp append_assoc
 
 abbrev pub member_entries : Option ℕ → ℕ → Entries (Tree × Tree)
 member_entries i m = record {
@@ -152,8 +135,108 @@ member_entries i m = record {
   own_levels = λ p. nesting p.1;
   levels = λ ps. member_nesting (pairs_of ps);
   highest = record { greatest = λ p ps. refl };
-  entry = λ first p. member_text first i m p.0 p.1;
+  before = λ first. before_entry first i m;
+  part = λ p. key_text p.0 ++ (key_end i ++ json_text i m p.1);
   text = λ first ps. members_left first i m (pairs_of ps);
   none_text = λ first. refl;
-  more_text = λ first p ps. next_member i m first p.0 p.1 (pairs_of ps);
+  more_text = λ first p ps. simp (later_members, append_assoc);
 }
+
+-- ---- what was written of a level's parts
+
+pub when_err : {A E P : Type 0} (r : Result A E) → P → OnErr r P
+when_err a p = grind arith
+
+-- some parts that have no parts were written
+pub record Goes {W : Type 0} (gives : W → List ℕ → W → Type 0) (i : Option ℕ) (m : ℕ) (w : W) (first : Bool) (t : Tree) (v : W) (now : Bool) (u : Tree) : Type 0 where
+  pub left : IsLeft gives w (parts_left first i m t) v (parts_left now i m u)
+  pub no_higher : part_nesting u ≤ part_nesting t
+  pub fewer : part_nodes u ≤ part_nodes t
+  pub given : ArePartsGiven u → ArePartsGiven t
+  pub same : closing u ≡ closing t
+
+module _ {W : Type 0} {gives : W → List ℕ → W → Type 0} {i : Option ℕ} {m : ℕ} {w : W} {first : Bool} {t : Tree} {v : W} {now : Bool} {u : Tree} (h : Goes gives i m w first t v now u) where
+  module _ {before : Bool → Option ℕ → ℕ → List ℕ} {K : Type 0} {s : Step} {part x : Tree} {p q : ℕ}
+      (n : IsNext u p before K s part x q) where
+    -- a part without parts
+    pub goes_on : {a b : W} → K → Wrote gives v (before now i m) a → is_block part ≡ false → Wrote gives a (flat_text part) b
+        → IsFlatGiven part → Goes gives i m w first t b false x
+    goes_on k before flat part_is g = record {
+      left = left_after (left_after (left_as (n.text now i m) h.left) before) (rw (flat_text_is part i m flat) at part_is);
+      no_higher = omega (arith, h.no_higher, n.deepest);
+      fewer = omega (arith, h.fewer, n.fewer);
+      given = λ gs. h.given (n.given k (flat_given part flat g) gs);
+      same = n.same ∙ h.same;
+    }
+
+    -- what stands before a part with parts
+    pub goes_in : {a : W} → K → Wrote gives v (before now i m) a → is_block part ≡ true → Stops gives i m w first t a part x
+    goes_in k before b = record {
+      left = left_after (left_as (n.text now i m) h.left) before;
+      has_parts = b;
+      no_higher = omega (arith, h.no_higher, n.deepest);
+      fewer = omega (arith, h.fewer, n.fewer);
+      given = λ g gs. h.given (n.given k g gs);
+      same = n.same ∙ h.same;
+    }
+
+    -- a call was refused before the part, or in one without parts
+    pub stopped_before : {leaves : W → List ℕ → W → Type 0} {reason : Type 0} {a : W} → Stopped gives leaves reason v (before now i m) a
+        → Stopped gives leaves reason w (parts_left first i m t) a
+    stopped_before q = left_stopped (left_as (n.text now i m) h.left) (stopped_early _ q)
+
+    pub stopped_in : {leaves : W → List ℕ → W → Type 0} {reason : Type 0} {a b : W} → Wrote gives v (before now i m) a
+        → is_block part ≡ false → Stopped gives leaves reason a (flat_text part) b
+        → Stopped gives leaves reason w (parts_left first i m t) b
+    stopped_in before flat q =
+        left_stopped (left_as (n.text now i m) h.left) (stopped_late before (stopped_early _ (stopped_as (flat_text_is part i m flat) q)))
+
+  -- no part is left
+  pub members_end : u ≡ hash no_pairs → Ends gives i m w first t v
+  members_end e =
+      record { wrote = left_none (left_as (ap (parts_left now i m) e) h.left); given = h.given (subst ArePartsGiven (sym e) tt) }
+
+-- ---- levels one in another, the innermost first
+
+-- what is left of levels
+abbrev pub trees : List Level → List Tree
+trees ls = map tree_left ls
+
+-- a level, where so many nodes were passed
+abbrev pub passed_to : Level → ℕ → Level
+passed_to l n = record { row = l.row; passed = n; is_hash = l.is_hash }
+
+-- how deep the deepest part of some levels stands
+abbrev pub reach : List Tree → ℕ
+reach [] = 0
+reach (t ∷ ts) = max (suc (length ts) + part_nesting t) (reach ts)
+
+-- It falls where a part is passed, where a level is opened, and where one is done.
+abbrev pub weight : List Tree → ℕ
+weight [] = 0
+weight (t ∷ ts) = suc (2 * part_nodes t) + weight ts
+
+-- a node that has parts
+pub part_count : (t : Tree) → is_block t ≡ true → nodes t ≡ suc (part_nodes t)
+part_count a b = grind arith
+
+-- ---- levels in places made before
+
+-- the levels that wait in the first places
+abbrev pub waiting : ℕ → List Level → List Level
+waiting n places = reverse (take n places)
+
+pub one_more : (places : List Level) (n : ℕ) (l : Level) → n < length places → waiting (n + 1) (set places n l) ≡ l ∷ waiting n places
+one_more places n l h = ap reverse (take-set_at places n (n + 1) l refl h) ∙ reverse-append (take n places) (l ∷ [])
+
+pub one_less : (places : List Level) (n : ℕ) (l : Level) → n ≤ length places → n ≢ 0 → l ≡ get_or places (n - 1) l
+    → trees (waiting n places) ≡ tree_left l ∷ trees (waiting (n - 1) places)
+one_less places n l h z is =
+    let up : n ≡ n - 1 + 1 = omega arith in
+    ap (λ k. trees (waiting k places)) up
+    ∙ ap (λ ls. trees (reverse ls)) (take_more places (n - 1) l (omega arith))
+    ∙ ap trees (reverse-append (take (n - 1) places) (get_or places (n - 1) l ∷ []))
+    ∙ ap (λ x. tree_left x ∷ trees (waiting (n - 1) places)) (sym is)
+
+pub so_many : (places : List Level) (n : ℕ) → n ≤ length places → length (trees (waiting n places)) ≡ n
+so_many places n h = length-map (waiting n places) tree_left ∙ length-reverse (take n places) ∙ length-take-le n places h

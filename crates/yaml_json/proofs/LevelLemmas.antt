@@ -1,8 +1,6 @@
 -- What is left to write of levels, the innermost first.
-use Rattle.std.proofs.lemmas.List.{length-set}
-use Rattle.yaml_json.proofs.Common.{[], ap, append-nil, append_assoc, ArePartsGiven, arith, Bool, closing, deeper, Ends, false, get_or, is_block, IsGiven, IsLeft, IsTooWide, json_text, left_after, left_all, left_as, left_none, left_stopped, left_then, length, Level, List, mul-le-mul_left, nesting, new_line, opening, Option, part_nodes, parts_left, refl, set, shallower, Stopped, stopped_as, stopped_early, stopped_for, Stops, subst, suc, sym, Tree, tree_left, true, unwrap_or, Wrote, ℕ, ◌*◌, ◌++◌, ◌+◌, ◌-◌, ◌<◌, ◌^◌, ◌∙◌, ◌∷◌, ◌≡◌, ◌≢◌, ◌≤◌}
-use Rattle.yaml_json.proofs.LeftLemmas.{in_brackets, part_wide}
-use Rattle.yaml_json.proofs.OpenLevels.{trees, reach, weight, part_count, waiting, one_more, one_less, so_many}
+use Rattle.yaml_json.proofs.Common.{[], add-one, ap, append-nil, append_assoc, ArePartsGiven, arith, Bool, closing, codes, deeper, depth, Ends, false, get_or, is_block, IsGiven, IsLeft, IsOnlyItem, IsTooWide, json_text, left_after, left_all, left_as, left_none, left_stopped, left_then, length, length-set, Level, List, max, mul-le-mul_left, nest_end, nesting, new_line, opening, Opens, Option, part_nodes, parts_left, refl, set, shallower, Stopped, stopped_at, stopped_early, stopped_for, Stops, suc, sym, Tree, tree_left, true, unwrap_or, Wrote, zero, ℕ, ◌*◌, ◌++◌, ◌+◌, ◌-◌, ◌<◌, ◌^◌, ◌∙◌, ◌∷◌, ◌≡◌, ◌≢◌, ◌≤◌}
+use Rattle.yaml_json.proofs.LeftLemmas.{in_brackets, one_less, one_more, part_count, part_wide, passed_to, reach, so_many, trees, waiting, weight}
 
 -- the text that is left: parts of the innermost level, its end, and what is left of the levels around it
 abbrev pub levels_left : (first : Bool) → Option ℕ → ℕ → List Tree → List ℕ
@@ -24,134 +22,158 @@ pub record Stands {W : Type 0} (gives : W → List ℕ → W → Type 0) (i : Op
 in_part : (i : Option ℕ) (m inner : ℕ) (t : Tree) (ts : List Tree) → is_block t ≡ true → inner ≡ deeper i m
     → json_text i m t ++ levels_left false i m ts ≡ opening t ++ levels_left true i inner (t ∷ ts)
 in_part i m inner t ts b e =
-    let up : m ≡ shallower i inner = omega (arith, e) in
-    let flat : (opening t ++ (parts_left true i inner t ++ (new_line i m ++ closing t))) ++ levels_left false i m ts
-    ≡ opening t ++ (parts_left true i inner t ++ ((new_line i m ++ closing t) ++ levels_left false i m ts)) = simp append_assoc in
-    ap (λ x. x ++ levels_left false i m ts) (sym (in_brackets i m inner t e b))
-    ∙ flat
-    ∙ ap (λ k. opening t ++ (parts_left true i inner t ++ ((new_line i k ++ closing t) ++ levels_left false i k ts))) up
-
-pub stands_first : {W : Type 0} {gives : W → List ℕ → W → Type 0} {i : Option ℕ} {w v : W} {m : ℕ} {root t : Tree} → is_block root ≡ true → t ≡ root → (ArePartsGiven root → IsGiven root)
-    → m ≡ deeper i 0 → Wrote gives w (opening t) v → Stands gives i w root v true m (t ∷ [])
-stands_first {gives = gives} {i} {w} {v} {m} {root} {t} b e g c p =
-    subst (λ x. Stands gives i w root v true m (x ∷ [])) (sym e) (record {
-      left = left_after (left_as (sym (append-nil (json_text i 0 root)) ∙ in_part i 0 m root [] b c) left_all) (subst (λ x. Wrote gives w (opening x) v) e p);
-      margin = omega (arith, c);
-      no_higher = omega (arith, part_wide root b);
-      given = λ gs. g gs.0;
-    })
-
--- the margin that would be too wide
-pub too_wide_first : (i : Option ℕ) (root : Tree) → is_block root ≡ true → 2 ^ 64 ≤ deeper i 0 → IsTooWide i 0 (nesting root)
-too_wide_first i root b h =
-    let own = part_wide root b in
-    let one : 1 ≤ nesting root = omega (arith, own) in
-    let more = mul-le-mul_left (unwrap_or i 0) one in
-    omega (arith, h, more)
-
--- its bracket was refused
-pub first_stopped : {W : Type 0} {gives leaves : W → List ℕ → W → Type 0} {w v : W} (i : Option ℕ) (root t : Tree) → is_block root ≡ true → t ≡ root
-    → Stopped gives leaves (2 ^ 64 ≤ deeper i 0) w (opening t) v → Stopped gives leaves (IsTooWide i 0 (nesting root)) w (json_text i 0 root) v
-first_stopped {gives = gives} {leaves} {w} {v} i root t b e q =
-    stopped_as (in_brackets i 0 (deeper i 0) root refl b)
-    (stopped_early _ (stopped_for (too_wide_first i root b) (subst (λ x. Stopped gives leaves (2 ^ 64 ≤ deeper i 0) w (opening x) v) e q)))
+    let up : shallower i inner ≡ m = omega (arith, e) in
+    rw (up, ← in_brackets i m inner t e b) (simp append_assoc)
 
 -- a beginning of what is left was written in part
 left_within : {W : Type 0} {gives : W → List ℕ → W → Type 0} {w v a : W} {text x more : List ℕ} (rest : List ℕ) → IsLeft gives w text v (x ++ rest) → IsLeft gives v x a more
     → IsLeft gives w text a (more ++ rest)
-left_within {more = more} rest p q = left_then p (record {
-  written = q.written;
-  wrote = q.wrote;
-  whole = sym (append_assoc q.written more rest) ∙ ap (λ y. y ++ rest) q.whole;
-})
+left_within {more = more} rest p q =
+    left_then p (record { written = q.written; wrote = q.wrote; whole = cc (append_assoc q.written more rest) })
+
+-- A part that has parts stands next, and behind it what is left of these levels.
+pub record IsBefore {W : Type 0} (gives : W → List ℕ → W → Type 0) (i : Option ℕ) (w : W) (root : Tree) (v : W) (m : ℕ) (part : Tree)
+    (ts : List Tree) : Type 0 where
+  pub left : IsLeft gives w (json_text i 0 root) v (json_text i m part ++ levels_left false i m ts)
+  pub has_parts : is_block part ≡ true
+  pub margin : m ≡ unwrap_or i 0 * length ts
+  pub no_higher : max (length ts + nesting part) (reach ts) ≤ nesting root
+  pub given : IsGiven part → AllGiven ts → IsGiven root
+
+-- the root, where nothing was written
+pub root_next : {W : Type 0} {gives : W → List ℕ → W → Type 0} {i : Option ℕ} {w : W} (root : Tree) → is_block root ≡ true
+    → IsBefore gives i w root w 0 root []
+root_next root b = record {
+  left = left_as (sym (append-nil _)) left_all;
+  has_parts = b;
+  margin = omega arith;
+  no_higher = omega arith;
+  given = λ g gs. g;
+}
+
+module _ {W : Type 0} {gives : W → List ℕ → W → Type 0} {i : Option ℕ} {w v : W} {root part : Tree} {m : ℕ} {ts : List Tree}
+    (h : IsBefore gives i w root v m part ts) where
+  -- its bracket was written
+  pub stands_in : {b : W} {inner : ℕ} → (ArePartsGiven part → IsGiven part) → inner ≡ deeper i m → Wrote gives v (opening part) b
+      → Stands gives i w root b true inner (part ∷ ts)
+  stands_in g c p = record {
+    left = left_after (left_as (in_part i m _ part ts h.has_parts c) h.left) p;
+    margin = omega (arith, c, h.margin);
+    no_higher = omega (arith, part_wide part h.has_parts, h.no_higher);
+    given = λ gs. h.given (g gs.0) gs.1;
+  }
+
+  -- or refused
+  pub opening_stopped : {leaves : W → List ℕ → W → Type 0} {b : W} → Stopped gives leaves (2 ^ 64 ≤ deeper i m) v (opening part) b
+      → Stopped gives leaves (IsTooWide i 0 (nesting root)) w (json_text i 0 root) b
+  opening_stopped q = left_stopped (left_as (in_part i m _ part ts h.has_parts refl) h.left) (stopped_early _ (stopped_for too_wide q))
+    where
+      too_wide : 2 ^ 64 ≤ deeper i m → IsTooWide i 0 (nesting root)
+      too_wide wide =
+          let levels : suc (length ts) ≤ nesting root = omega (arith, part_wide part h.has_parts, h.no_higher) in
+          let more = mul-le-mul_left (unwrap_or i 0) levels in
+          omega (arith, wide, h.margin, more)
 
 module _ {W : Type 0} {gives : W → List ℕ → W → Type 0} {i : Option ℕ} {w v : W} {root t : Tree} {first : Bool} {m : ℕ} {ts : List Tree} (h : Stands gives i w root v first m (t ∷ ts)) where
-  module _ {a : W} {part u : Tree} (s : Stops gives i m v first t a part u) where
-    -- what is left from the part on
-    from_part : IsLeft gives w (json_text i 0 root) a (json_text i m part ++ levels_left false i m (u ∷ ts))
-    from_part =
-        let flat = append_assoc (json_text i m part) (parts_left false i m u) ((new_line i (shallower i m) ++ closing t) ++ levels_left false i (shallower i m) ts) in
-        let end = ap (λ x. json_text i m part ++ (parts_left false i m u ++ ((new_line i (shallower i m) ++ x) ++ levels_left false i (shallower i m) ts))) (sym s.same) in
-        left_as (flat ∙ end) (left_within ((new_line i (shallower i m) ++ closing t) ++ levels_left false i (shallower i m) ts) h.left s.left)
+  pub part_next : {a : W} {part u : Tree} → Stops gives i m v first t a part u → IsBefore gives i w root a m part (u ∷ ts)
+  part_next {part = part} {u} s =
+      let end = (new_line i (shallower i m) ++ closing t) ++ levels_left false i (shallower i m) ts in
+      record {
+        left = rw s.same (left_as (append_assoc (json_text i m part) (parts_left false i m u) end) (left_within end h.left s.left));
+        has_parts = s.has_parts;
+        margin = h.margin;
+        no_higher = omega (arith, s.no_higher, h.no_higher);
+        given = λ g gs. h.given (s.given g gs.0, gs.1);
+      }
 
-    -- the part's own bracket was written
-    pub stands_in : {b : W} {inner : ℕ} {x : Tree} → x ≡ part → (ArePartsGiven part → IsGiven part) → inner ≡ deeper i m → Wrote gives a (opening x) b
-        → Stands gives i w root b true inner (x ∷ u ∷ ts)
-    stands_in {b} {inner} {x} e g c p =
-        subst (λ y. Stands gives i w root b true inner (y ∷ u ∷ ts)) (sym e) (record {
-          left = left_after (left_as (in_part i m inner part (u ∷ ts) s.has_parts c) from_part) (subst (λ y. Wrote gives a (opening y) b) e p);
-          margin = omega (arith, c, h.margin);
-          no_higher = omega (arith, part_wide part s.has_parts, s.no_higher, h.no_higher);
-          given = λ gs. h.given (s.given (g gs.0) gs.1.0, gs.1.1);
-        })
-
-    -- or refused
-    pub opening_stopped : {leaves : W → List ℕ → W → Type 0} {b : W} {x : Tree} → x ≡ part → Stopped gives leaves (2 ^ 64 ≤ deeper i m) a (opening x) b
-        → Stopped gives leaves (IsTooWide i 0 (nesting root)) w (json_text i 0 root) b
-    opening_stopped {leaves} {b} {x} e q =
-        left_stopped (left_as (in_part i m (deeper i m) part (u ∷ ts) s.has_parts refl) from_part)
-        (stopped_early _ (stopped_for too_wide (subst (λ y. Stopped gives leaves (2 ^ 64 ≤ deeper i m) a (opening y) b) e q)))
-      where
-        levels : suc (suc (length ts)) ≤ nesting root
-        levels = omega (arith, part_wide part s.has_parts, s.no_higher, h.no_higher)
-
-        too_wide : 2 ^ 64 ≤ deeper i m → IsTooWide i 0 (nesting root)
-        too_wide wide = let more = mul-le-mul_left (unwrap_or i 0) levels in omega (arith, wide, h.margin, more)
-
-    -- there is a place for the level that waits
-    pub has_place : (n places : ℕ) → length ts ≡ n → nesting root ≤ places + 1 → n < places
-    has_place n places c r = omega (arith, c, r, part_wide part s.has_parts, s.no_higher, h.no_higher)
-
-    pub smaller_in : (x : Tree) → x ≡ part → weight (x ∷ u ∷ ts) < weight (t ∷ ts)
-    smaller_in x e = omega (arith, s.fewer, part_count part s.has_parts, ap part_nodes e)
-
-  module _ {a : W} (s : Ends gives i m v first t a) where
-    -- what is left from the level's end on
-    pub from_end : IsLeft gives w (json_text i 0 root) a ((new_line i (shallower i m) ++ closing t) ++ levels_left false i (shallower i m) ts)
-    from_end = left_after h.left s.wrote
-
-    pub stands_out : {b : W} {outer : ℕ} → outer ≡ shallower i m → Wrote gives a (new_line i (shallower i m) ++ closing t) b → Stands gives i w root b false outer ts
-    stands_out {b} {outer} c p =
-        subst (λ k. Stands gives i w root b false k ts) (sym c) (record {
-          left = left_after from_end p;
-          margin = omega (arith, h.margin);
-          no_higher = omega (arith, h.no_higher);
-          given = λ gs. h.given (s.given, gs);
-        })
-
-pub stands_done : {W : Type 0} {gives : W → List ℕ → W → Type 0} {i : Option ℕ} {w v : W} {root : Tree} {first : Bool} {m : ℕ} {ts : List Tree} → Stands gives i w root v first m ts → ts ≡ []
-    → Wrote gives w (json_text i 0 root) v × IsGiven root
-stands_done {first = first} {m} {ts} h e = (left_none (left_as (ap (levels_left first _ m) e) h.left), h.given (subst AllGiven (sym e) tt))
+  -- the level's end was written
+  pub stands_out : {a b : W} {outer : ℕ} → Ends gives i m v first t a → outer ≡ shallower i m
+      → Wrote gives a (new_line i (shallower i m) ++ closing t) b → Stands gives i w root b false outer ts
+  stands_out s c p = rw c (record {
+    left = left_after (left_after h.left s.wrote) p;
+    margin = omega (arith, h.margin);
+    no_higher = omega (arith, h.no_higher);
+    given = λ gs. h.given (s.given, gs);
+  })
 
 -- ---- levels that wait in places
 
-module _ {W : Type 0} {gives : W → List ℕ → W → Type 0} {i : Option ℕ} {w v : W} {root : Tree} {first : Bool} {m : ℕ} (l : Level) (n : ℕ) (places : List Level) (h : Stands gives i w root v first m (trees (l ∷ waiting n places)))
-    (within : n ≤ length places) where
+-- how the writer stands, where so many levels wait in the first places
+pub record Holds {W : Type 0} (gives : W → List ℕ → W → Type 0) (i : Option ℕ) (w : W) (root : Tree) (v : W) (first : Bool) (m : ℕ)
+    (l : Level) (n : ℕ) (places : List Level) : Type 0 where
+  pub stands : Stands gives i w root v first m (trees (l ∷ waiting n places))
+  pub within : n ≤ length places
+
+module _ {W : Type 0} {gives : W → List ℕ → W → Type 0} {i : Option ℕ} {w v : W} {root : Tree} {first : Bool} {m : ℕ} {l : Level} {n : ℕ}
+    {places : List Level}
+    (h : Holds gives i w root v first m l n places) where
   -- the level waits, while the part is written
-  module _ {a : W} {part : Tree} (k : Level) (s : Stops gives i m v first (tree_left l) a part (tree_left k)) (room : nesting root ≤ length places + 1) where
+  module _ {a : W} {part : Tree} (p : ℕ) (s : Stops gives i m v first (tree_left l) a part (tree_left (passed_to l p)))
+      (room : nesting root ≤ length places + 1) where
     pub place : n < length places
-    place = has_place h s n (length places) (so_many places n within) room
+    place = omega (arith, (part_next h.stands s).no_higher, part_wide part s.has_parts, so_many places n h.within, room)
 
     pub opened : {b : W} {inner : ℕ} (o : Level) → tree_left o ≡ part → (ArePartsGiven part → IsGiven part) → inner ≡ deeper i m → Wrote gives a (opening (tree_left o)) b
-        → Stands gives i w root b true inner (trees (o ∷ waiting (n + 1) (set places n k)))
-    opened {b} {inner} o e g c p = subst (λ ls. Stands gives i w root b true inner (trees (o ∷ ls))) (sym (one_more places n (n + 1) k place refl)) (stands_in h s e g c p)
+        → Holds gives i w root b true inner o (n + 1) (set places n (passed_to l p))
+    opened o e g c wrote = record {
+      stands = rw (one_more places n (passed_to l p) place, e) (stands_in (part_next h.stands s) g c (rw e at wrote));
+      within = omega (arith, place, length-set places n (passed_to l p));
+    }
 
-    pub opened_smaller : (o : Level) → tree_left o ≡ part → weight (trees (o ∷ waiting (n + 1) (set places n k))) < weight (trees (l ∷ waiting n places))
-    opened_smaller o e = subst (λ ls. weight (trees (o ∷ ls)) < weight (trees (l ∷ waiting n places))) (sym (one_more places n (n + 1) k place refl)) (smaller_in h s (tree_left o) e)
-
-    pub within_more : n + 1 ≤ length (set places n k)
-    within_more = omega (arith, place, length-set places n k)
+    pub opened_smaller : (o : Level) → tree_left o ≡ part
+        → weight (trees (o ∷ waiting (n + 1) (set places n (passed_to l p)))) < weight (trees (l ∷ waiting n places))
+    opened_smaller o e = rw (one_more places n (passed_to l p) place) (omega (arith, s.fewer, part_count part s.has_parts, ap part_nodes e))
 
   -- the level was written, and goes on with the one around it
   module _ (o : Level) (some : n ≢ 0) (is : o ≡ get_or places (n - 1) o) where
     pub resumed : {a b : W} {outer : ℕ} → Ends gives i m v first (tree_left l) a → outer ≡ shallower i m → Wrote gives a (new_line i (shallower i m) ++ closing (tree_left l)) b
-        → Stands gives i w root b false outer (trees (o ∷ waiting (n - 1) places))
-    resumed {b = b} {outer} s c p = subst (λ ls. Stands gives i w root b false outer (trees ls)) (one_less places n (n - 1) o within some refl is) (stands_out h s c p)
+        → Holds gives i w root b false outer o (n - 1) places
+    resumed s c p =
+        record { stands = rw (← one_less places n o h.within some is) (stands_out h.stands s c p); within = omega (arith, h.within) }
 
     pub resumed_smaller : weight (trees (o ∷ waiting (n - 1) places)) < weight (trees (l ∷ waiting n places))
-    resumed_smaller = omega (arith, ap (λ ls. weight (trees ls)) (one_less places n (n - 1) o within some refl is))
+    resumed_smaller = omega (arith, ap weight (one_less places n o h.within some is))
 
   -- it was the outermost
-  pub finished : {a b : W} {outer : ℕ} → n ≡ 0 → Ends gives i m v first (tree_left l) a → outer ≡ shallower i m → Wrote gives a (new_line i (shallower i m) ++ closing (tree_left l)) b
-      → Wrote gives w (json_text i 0 root) b × IsGiven root
-  finished none s c p = stands_done (stands_out h s c p) (ap (λ x. trees (waiting x places)) none)
+  pub finished : {a b : W} → n ≡ 0 → Ends gives i m v first (tree_left l) a
+      → Wrote gives a (new_line i (shallower i m) ++ closing (tree_left l)) b → Wrote gives w (json_text i 0 root) b × IsGiven root
+  finished none s p = let out = rw none at (stands_out h.stands s refl p) in (left_none out.left, out.given tt)
+
+-- ---- arrays of one item each, one within the other
+
+up : (i : Option ℕ) (m : ℕ) → shallower i (deeper i m) ≡ m
+up i m = omega arith
+
+-- one array more
+pub next_level : (i : Option ℕ) (m inner n : ℕ) (t s : Tree) → inner ≡ deeper i m → IsOnlyItem t s
+    → json_text i m s ++ nest_end i m n ≡ codes "[" ++ (new_line i inner ++ (json_text i inner t ++ nest_end i inner (n + 1)))
+next_level i m inner n t s e o = rw (o, e, add-one) (simp (up, append_assoc))
+
+only_nesting : (t s : Tree) → IsOnlyItem t s → nesting s ≡ suc (nesting t)
+only_nesting t s o = ap nesting o ∙ omega arith
+
+module _ {W : Type 0} {gives : W → List ℕ → W → Type 0} {i : Option ℕ} {m : ℕ} {w v : W} {outer : Tree} {n d : ℕ} {s : Tree} where
+  -- what is left, with the array that is opened next
+  pub level_left : (inner : ℕ) (t : Tree) → inner ≡ deeper i d → IsOnlyItem t s → Opens gives i m w outer v n d s
+      → IsLeft gives w (json_text i m outer) v (codes "[" ++ (new_line i inner ++ (json_text i inner t ++ nest_end i inner (n + 1))))
+  level_left inner t e o p = left_as (next_level i d inner n t s e o) p.left
+
+  -- it was opened
+  pub opens_more : {u x : W} (inner : ℕ) (t : Tree) → inner ≡ deeper i d → IsOnlyItem t s → Opens gives i m w outer v n d s
+      → Wrote gives v (codes "[") u → Wrote gives u (new_line i inner) x → Opens gives i m w outer x (n + 1) inner t
+  opens_more inner t e o p a b = record {
+    left = left_after (left_after (level_left inner t e o p) a) b;
+    no_wider = λ h. p.no_wider (rw (only_nesting t s o) (omega arith));
+    no_deeper = omega (arith, ap depth o, p.no_deeper);
+    given = λ g. p.given (rw o (g, tt));
+  }
+
+  -- a line of it would be too wide
+  pub margin_stops : {leaves : W → List ℕ → W → Type 0} (t : Tree) → 2 ^ 64 ≤ deeper i d → IsOnlyItem t s → Opens gives i m w outer v n d s
+      → Stopped gives leaves (IsTooWide i m (nesting outer)) w (json_text i m outer) v
+  margin_stops t h o p = stopped_at (p.no_wider (rw (only_nesting t s o) (omega arith))) p.left
+
+-- the end of the innermost array, and those further out
+pub next_end : (i : Option ℕ) (m n outer : ℕ) → 0 < n → outer ≡ shallower i m → nest_end i m n ≡ new_line i outer ++ (codes "]" ++ nest_end i outer (n - 1))
+next_end i m zero outer h e = absurd (omega arith)
+next_end i m (suc n) outer h e = let same : suc n - 1 ≡ n = omega arith in rw (e, same) refl

@@ -1,7 +1,6 @@
 -- JSON numbers on the bytes of a text.
-use Rattle.std.specs.Prelude.{chars, IsUtf8}
 use Rattle.std.specs.List.{list_all}
-use Rattle.yaml_json.proofs.Common.{[], and_from, and_parts, ap, arith, Bool, chars-IsAscii, encodes-chars, encodes-IsAscii, false, is_ascii_digit, is_err, is_exponent, is_exponent_mark, is_frac, is_json_number, is_json_number-read, is_json_real, is_minus, is_none, is_sign, List, MatchResult, nat_lt, nat_tests, None, reads_number, refl, Result, Some, sym, true, ℕ, ℤ, ◌&&◌, ◌==◌, ◌∙◌, ◌∷◌, ◌≡◌}
+use Rattle.yaml_json.proofs.Common.{[], and_from, and_parts, ap, arith, Bool, chars, chars-IsAscii, encodes-chars, encodes-IsAscii, false, is_ascii_digit, is_err, is_exponent, is_exponent_mark, is_frac, is_json_number, is_json_number-read, is_json_real, is_minus, is_none, is_sign, IsUtf8, List, MatchResult, nat_lt, nat_tests, None, reads_number, refl, Result, Some, sym, true, ℕ, ℤ, ◌&&◌, ◌==◌, ◌∙◌, ◌∷◌, ◌≡◌}
 use Rattle.defs_tree.specs.Grammar.{one, at_least_one, optional, in_order}
 use Rattle.defs_tree.specs.Typing.{signed_decimal}
 use Rattle.defs_tree.proofs.GrammarLaws.{IsWithin, IsWithin-followed_by, IsWithin-empty, IsWithin-one, IsWithin-at_least_one, IsWithin-optional, list_all-more}

@@ -1,58 +1,20 @@
 -- The search for the first node that has no JSON text.
-use Rattle.std.proofs.lemmas.List.{get_or-map}
-use Rattle.yaml_json.proofs.Common.{[], ap, ArePlain, arith, array, below, drop, false, Fault, fault_in, fault_left, first_fault, first_item_fault, first_member_fault, first_of, get_or, get_or_default, hash, index, is_block, IsMet, IsSoundAtRoot, item, Items, items_of, items_view, last_step, left_in, length, Level, List, max, Meets, nesting, no_items, no_pairs, nodes, None, null, Option, pair, paired, Pairs, pairs_of, part_nesting, part_nodes, refl, Some, step_in, step_of, subst, suc, sym, Tree, tree_left, true, view, Yaml, ℕ, ◌+◌, ◌-◌, ◌<◌, ◌∙◌, ◌∷◌, ◌≡◌, ◌≤◌}
+use Rattle.yaml_json.proofs.Common.{[], ap, ArePlain, arith, array, below, Bool, false, Fault, fault_in, fault_left, first_fault, first_item_fault, first_member_fault, first_of, get_or, get_or-eq_default, get_or-map, get_or_default, Global, hash, index, is_block, IsKeyGiven, IsMet, IsSoundAtRoot, item, Items, items_view, last_step, left_in, length, Level, List, max, Meets, nesting, no_items, no_pairs, None, null, Option, pair, Pairs, part_nesting, part_nodes, refl, Some, step_in, step_of, String, suc, Tree, tree_left, true, view, Yaml, ℕ, ◌+◌, ◌<◌, ◌∙◌, ◌∷◌, ◌≡◌, ◌≤◌}
 use Rattle.defs_tree.specs.Path as tree_path
-use Rattle.yaml_json.proofs.LeftLemmas.{part_wide}
-use Rattle.yaml_json.proofs.OpenLevels.{trees, reach, weight, part_count}
-use Rattle.yaml_json.proofs.RowLemmas.{item_left, member_left}
+use Rattle.yaml_json.proofs.LeftLemmas.{before_value, IsNext, member_next, part_count, part_wide, passed_to, reach, trees, weight}
 use Rattle.yaml_json.specs.declared.error.Reason.{Reason}
+use Rattle.yaml_tree.specs.declared.yaml.Yaml.TheVariants as yamls
 
--- ---- one part
-
--- the first part of what is left, the step to it, and what is left after it
-pub record IsPart (t : Tree) (passed : ℕ) (s : tree_path.Step) (part : Tree) (u : Tree) (more : ℕ) : Type 0 where
-  pub fault : fault_left passed t ≡ first_of (below s (first_fault part)) (fault_left more u)
-  pub deepest : part_nesting t ≡ max (nesting part) (part_nesting u)
-  pub fewer : nodes part + part_nodes u ≤ part_nodes t
-
-item_is_part : (n q : ℕ) (t : Tree) (ts : Items) → q ≡ n + 1 → IsPart (array (item t ts)) n (index (q - 1)) t (array ts) q
-item_is_part n q t ts e =
-    let i : n ≡ q - 1 = omega arith in
-    record {
-      fault = ap (λ k. first_of (below (index k) (first_fault t)) (first_item_fault (n + 1) ts)) i
-          ∙ ap (λ k. first_of (below (index (q - 1)) (first_fault t)) (first_item_fault k ts)) (sym e);
-      deepest = refl;
-      fewer = omega arith;
-    }
-
-pub item_part : (row : List Yaml) (n q : ℕ) (y : Yaml) → n < length row → y ≡ get_or row n y → q ≡ n + 1
-    → IsPart (left_in false row n) n (step_in false row q) (view y) (left_in false row q) q
-item_part row n q y h is e =
-    subst (λ t. IsPart t n (step_in false row q) (view y) (left_in false row q) q) (sym (item_left row n q y h is e)) (item_is_part n q (view y) (items_of (items_view (drop q row))) e)
-
-member_is_part : (n q : ℕ) (s : tree_path.Step) (k v : Tree) (ps : Pairs) → s ≡ step_of k → IsPart (hash (pair k v ps)) n s v (hash ps) q
-member_is_part n q s k v ps e = record {
-  fault = ap (λ x. first_of (below x (first_fault v)) (first_member_fault ps)) (sym e);
-  deepest = refl;
-  fewer = omega arith;
-}
-
-pub member_part : (row : List Yaml) (n q : ℕ) (v : Yaml) → n + 1 < length row → v ≡ get_or row (n + 1) v → q ≡ n + 2
-    → IsPart (left_in true row n) n (step_in true row q) (view v) (left_in true row q) q
-member_part row n q v h is e =
-    let low : n < length row = omega arith in
-    let k = get_or row n v in
-    let at : q - 2 ≡ n = omega arith in
-    let step : step_in true row q ≡ step_of (view k) = ap (λ m. step_of (get_or (items_view row) m null)) at ∙ ap step_of (get_or-map view row n v null low) in
-    subst (λ t. IsPart t n (step_in true row q) (view v) (left_in true row q) q) (sym (member_left row n q k v h (get_or_default row n v k low) is e))
-    (member_is_part n q (step_in true row q) (view k) (view v) (pairs_of (paired (items_view (drop q row)))) step)
+-- the next value, by itself
+pub value_next : (row : List Yaml) (n : ℕ) (v : Yaml) → n + 1 < length row → v ≡ get_or row (n + 1) v
+    → IsNext (left_in true row n) n (before_value (view (get_or row n v))) (IsKeyGiven (view (get_or row n v))) (step_in true row (n + 2))
+    (view v) (left_in true row (n + 2)) (n + 2)
+value_next row n v h is = member_next row n (get_or row n v) v h (get_or_default row n v _ (omega arith)) is
 
 -- ---- a level
 
 pub flat_nesting : (t : Tree) → is_block t ≡ false → nesting t ≤ 1
-flat_nesting (array (item t ts)) b = cc
-flat_nesting (hash (pair k v ps)) b = cc
-flat_nesting t b = omega arith
+flat_nesting a b = grind arith
 
 -- nodes without a fault and without parts were passed
 pub record Passes (t : Tree) (passed : ℕ) (u : Tree) (more : ℕ) : Type 0 where
@@ -62,21 +24,23 @@ pub record Passes (t : Tree) (passed : ℕ) (u : Tree) (more : ℕ) : Type 0 whe
   pub fewer : part_nodes u ≤ part_nodes t
 
 module _ {t u : Tree} {p q : ℕ} (a : Passes t p u q) where
-  pub passes_more : {part x : Tree} {s : tree_path.Step} {r : ℕ} → IsPart u q s part x r → (first_fault part ≡ None) × (is_block part ≡ false) → Passes t p x r
-  passes_more {part} {x} {s} {r} b f = record {
-    fault = a.fault ∙ b.fault ∙ ap (λ o. first_of (below s o) (fault_left r x)) f.0;
-    no_deeper = omega (arith, a.no_deeper, b.deepest, flat_nesting part f.1);
-    no_higher = omega (arith, a.no_higher, b.deepest);
-    fewer = omega (arith, a.fewer, b.fewer);
-  }
+  module _ {before : Bool → Option ℕ → ℕ → List ℕ} {K : Type 0} {s : tree_path.Step} {part x : Tree} {r : ℕ}
+      (b : IsNext u q before K s part x r) where
+    pub passes_more : (first_fault part ≡ None) × (is_block part ≡ false) → Passes t p x r
+    passes_more f = record {
+      fault = a.fault ∙ b.fault ∙ ap (λ o. first_of (below s o) (fault_left r x)) f.0;
+      no_deeper = omega (arith, a.no_deeper, b.deepest, flat_nesting part f.1);
+      no_higher = omega (arith, a.no_higher, b.deepest);
+      fewer = omega (arith, a.fewer, b.fewer);
+    }
 
-  pub meets : {part x : Tree} {s : tree_path.Step} {r : ℕ} → IsPart u q s part x r → Meets t p s part x r
-  meets b = record {
-    fault = a.fault ∙ b.fault;
-    no_deeper = omega (arith, a.no_deeper, b.deepest);
-    no_higher = omega (arith, a.no_higher, b.deepest);
-    fewer = omega (arith, a.fewer, b.fewer);
-  }
+    pub meets : Meets t p s part x r
+    meets = record {
+      fault = a.fault ∙ b.fault;
+      no_deeper = omega (arith, a.no_deeper, b.deepest);
+      no_higher = omega (arith, a.no_higher, b.deepest);
+      fewer = omega (arith, a.fewer, b.fewer);
+    }
 
   pub no_more_members : u ≡ hash no_pairs → ArePlain p t
   no_more_members e = (a.fault ∙ ap (fault_left q) e, omega (arith, a.no_deeper, ap part_nesting e))
@@ -113,20 +77,17 @@ pub record Searches (root : Tree) (os : List Level) (l : Level) (depth deepest :
   pub most : depth ≤ deepest
   pub within : deepest ≤ nesting root
 
-same_fault : (t : Tree) (l : Level) → tree_left l ≡ t → l.passed ≡ 0 → fault_left 0 t ≡ fault_left l.passed (tree_left l)
-same_fault t l e z = ap (fault_left 0) (sym e) ∙ ap (λ n. fault_left n (tree_left l)) (sym z)
-
 module _ {root : Tree} {os : List Level} {l : Level} {d k : ℕ} (h : Searches root os l d k) where
   -- a part was met: the level with it passed
-  module _ {met : Tree} (m : Level) (p : Meets (tree_left l) l.passed (last_step m) met (tree_left m) m.passed) where
+  module _ {met : Tree} (m : ℕ) (p : Meets (tree_left l) l.passed (last_step (passed_to l m)) met (tree_left (passed_to l m)) m) where
     -- it has parts: the level of these
     pub searches_in : {e n : ℕ} (i : Level) → (first_fault met ≡ fault_left 0 met) × (is_block met ≡ true) → tree_left i ≡ met → i.passed ≡ 0 → e ≡ d + 1 → n ≡ max k e
-        → Searches root (m ∷ os) i e n
-    searches_in {e} {n} i f g z c x =
+        → Searches root (passed_to l m ∷ os) i e n
+    searches_in i f g z c x =
         let own = part_wide met f.1 in
         let same = ap part_nesting g in
         record {
-          fault = h.fault ∙ ap (fault_in os) (p.fault ∙ ap (λ o. first_of (below (last_step m) o) (fault_left m.passed (tree_left m))) (f.0 ∙ same_fault met i g z));
+          fault = rw (g, z, ← f.0, ← p.fault) h.fault;
           no_deeper = omega (arith, h.no_deeper, p.no_deeper, own, same, x);
           no_higher = omega (arith, h.no_higher, p.no_higher, own, same);
           count = omega (arith, c, h.count);
@@ -134,7 +95,8 @@ module _ {root : Tree} {os : List Level} {l : Level} {d k : ℕ} (h : Searches r
           within = omega (arith, x, c, h.within, h.count, h.no_higher, p.no_higher, own);
         }
 
-    pub smaller_in : (i : Level) → is_block met ≡ true → tree_left i ≡ met → weight (trees (i ∷ m ∷ os)) < weight (trees (l ∷ os))
+    pub smaller_in : (i : Level) → is_block met ≡ true → tree_left i ≡ met
+        → weight (trees (i ∷ passed_to l m ∷ os)) < weight (trees (l ∷ os))
     smaller_in i b g = omega (arith, p.fewer, part_count met b, ap part_nodes g)
 
   -- all levels are done
@@ -143,3 +105,19 @@ module _ {root : Tree} {os : List Level} {l : Level} {d k : ℕ} (h : Searches r
       let none = ap (λ x. length (trees x)) e in
       let low = ap (λ x. reach (trees (l ∷ x))) e in
       (h.fault ∙ ap (λ x. fault_in x (fault_left l.passed (tree_left l))) e ∙ p.0, omega (arith, low, p.1, h.no_deeper, h.count, h.most), h.within)
+
+-- ---- the path to it
+
+-- a path with a step
+pub is_below : (ls : List Level) (f : Fault) → (f.path ≡ [] → ⊥) → IsSoundAtRoot (fault_in ls (Some f))
+is_below [] f h = h
+is_below (l ∷ ls) f h = is_below ls (record { path = last_step l ∷ f.path; reason = f.reason }) (λ e. cc)
+
+-- the step to the value of a key that is no string
+pub other_step : (y : Yaml) → ((x : String Global) → y ≡ yamls.String x → ⊥) → step_of (view y) ≡ tree_path.key []
+other_step (yamls.String s) h = absurd (h s refl)
+other_step y h = refl
+
+-- where there is no such key
+pub no_step : (row : List Yaml) (n m : ℕ) → m ≡ n → length row ≤ m → step_of (get_or (items_view row) n null) ≡ tree_path.key []
+no_step row n m e h = ap step_of (get_or-map view row n yamls.Null ∙ ap view (get_or-eq_default row yamls.Null {n = n} (omega (arith, e, h))))

@@ -1,12 +1,8 @@
 -- Shallow trees, each node of which has a JSON text.
-use Rattle.yaml_json.proofs.Common.{and_parts, ap, are_items_shallow, are_items_whole, are_pairs_whole, are_strings, arith, array, below, Bool, false, Fault, first_fault, first_item_fault, first_member_fault, first_of, has_other_key, hash, here, if◌then◌else◌, index, is_json_real, is_no_number, is_shallow, is_some, is_string, IsOnlyItem, item, item_nesting, Items, max, member_nesting, nat_le, nat_tests, nesting, no_items, no_pairs, None, not, Option, pair, Pairs, real, refl, Step, step_of, suc, sym, Tree, true, ℕ, ◌&&◌, ◌+◌, ◌-◌, ◌<◌, ◌∙◌, ◌≡◌, ◌≢◌}
+use Rattle.yaml_json.proofs.Common.{are_items_shallow, are_items_whole, are_pairs_whole, are_strings, arith, array, below, Bool, false, Fault, first_fault, first_item_fault, first_member_fault, first_of, hash, index, is_shallow, is_some, is_string, is_whole, IsOnlyItem, item, item_nesting, Items, max, member_nesting, nat_le, nat_tests, nesting, no_items, no_pairs, None, not, Option, pair, Pairs, real, refl, Step, step_of, suc, Tree, true, ℕ, ◌&&◌, ◌+◌, ◌-◌, ◌<◌, ◌≡◌, ◌≢◌}
 use Rattle.std.proofs.Math.Bool.{and-true}
-use Rattle.yaml_json.specs.Shallow.{is_whole}
 
 -- ---- one node and the rest
-
-real_same : (b : Bool) → b ≡ not (is_some (if b then None else here is_no_number))
-real_same a = grind arith
 
 item_same : (s : Step) (a b : Bool) (o q : Option Fault) → a ≡ not (is_some o) → b ≡ not (is_some q) → (a && b) ≡ not (is_some (first_of (below s o) q))
 item_same s a b o q h k = grind arith
@@ -15,16 +11,13 @@ pair_same : (s : Step) (k strings a b : Bool) (o q : Option Fault) → a ≡ not
     → (k && (a && b)) ≡ ((k && strings) && not (is_some (first_of (below s o) q)))
 pair_same s k strings a b o q h g = grind arith
 
-hash_same : (strings : Bool) (o : Option Fault) → (strings && not (is_some o)) ≡ not (is_some (if strings then o else here has_other_key))
-hash_same a o = grind arith
-
 -- ---- a tree is whole just where it has no fault
 
 mutual
   whole_same : (t : Tree) → is_whole t ≡ not (is_some (first_fault t))
-  whole_same (real s) = real_same (is_json_real s)
+  whole_same (real s) = grind arith
   whole_same (array ts) = items_same 0 ts
-  whole_same (hash ps) = pairs_same ps ∙ hash_same (are_strings ps) (first_member_fault ps)
+  whole_same (hash ps) = grind (arith, pairs_same ps)
   whole_same t = refl
 
   items_same : (n : ℕ) (ts : Items) → are_items_whole ts ≡ not (is_some (first_item_fault n ts))
@@ -38,17 +31,11 @@ mutual
 
 -- ---- what the answer tells
 
-is_none : (o : Option Fault) → not (is_some o) ≡ true → o ≡ None
-is_none a h = grind arith
-
 pub shallow : (n : ℕ) (t : Tree) → is_shallow n t ≡ true → first_fault t ≡ None
-shallow n t h = is_none (first_fault t) (sym (whole_same t) ∙ (and_parts (is_whole t) (nat_le (nesting t) n) h).0)
+shallow n t h = grind (arith, whole_same t)
 
 pub not_shallow : (n : ℕ) (t : Tree) → is_shallow n t ≡ false → first_fault t ≡ None → n < nesting t
-not_shallow n t h e =
-    let whole : is_whole t ≡ true = whole_same t ∙ ap (λ o. not (is_some o)) e in
-    let low : nat_le (nesting t) n ≡ false = sym (ap (λ b. b && nat_le (nesting t) n) whole) ∙ h in
-    grind (arith, nat_tests)
+not_shallow n t h e = grind (arith, nat_tests, whole_same t)
 
 -- ---- part by part
 
@@ -59,9 +46,7 @@ dealt : (a b x y : Bool) → ((a && b) && (x && y)) ≡ ((a && x) && (b && y))
 dealt d b x y = grind arith
 
 pub next_item : (n : ℕ) (t : Tree) (ts : Items) → are_items_shallow n (item t ts) ≡ (is_shallow n t && are_items_shallow n ts)
-next_item n t ts =
-    ap (λ x. (is_whole t && are_items_whole ts) && x) (max_within (nesting t) (item_nesting ts) n)
-    ∙ dealt (is_whole t) (are_items_whole ts) (nat_le (nesting t) n) (nat_le (item_nesting ts) n)
+next_item n t ts = rw (max_within (nesting t) (item_nesting ts) n) (dealt (is_whole t) (are_items_whole ts) _ _)
 
 -- ---- level by level
 
@@ -80,16 +65,11 @@ pub no_pairs_within : (n : ℕ) (ps : Pairs) → n ≡ 0 → is_shallow n (hash 
 no_pairs_within n ps e = none_within (are_pairs_whole ps) (member_nesting ps) n e
 
 pub nothing_within : (n : ℕ) (t s : Tree) → IsOnlyItem t s → n ≡ 0 → is_shallow n s ≡ false
-nothing_within n t s o e = ap (is_shallow n) o ∙ no_items_within n (item t no_items) e
+nothing_within n t s o e = rw o (no_items_within n (item t no_items) e)
 
 -- one less for the parts
-one_less : (b : Bool) (m n : ℕ) → n ≢ 0 → (b && nat_le (suc m) n) ≡ (b && nat_le m (n - 1))
-one_less b m n h = grind (arith, nat_tests)
-
 pub items_within : (n : ℕ) (ts : Items) → n ≢ 0 → is_shallow n (array ts) ≡ are_items_shallow (n - 1) ts
-items_within n ts h = one_less (are_items_whole ts) (item_nesting ts) n h
+items_within n ts h = grind (arith, nat_tests)
 
 pub only_within : (n : ℕ) (t s : Tree) → IsOnlyItem t s → n ≢ 0 → is_shallow n s ≡ is_shallow (n - 1) t
-only_within n t s o h =
-    ap (is_shallow n) o ∙ items_within n (item t no_items) h ∙ next_item (n - 1) t no_items
-    ∙ ap (λ b. is_shallow (n - 1) t && b) (scalar_within true (n - 1)) ∙ and-true (is_shallow (n - 1) t)
+only_within n t s o h = rw (o, items_within n (item t no_items) h, next_item (n - 1) t no_items, scalar_within true (n - 1), and-true)

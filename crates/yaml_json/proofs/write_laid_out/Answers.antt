@@ -1,6 +1,4 @@
-use Rattle.yaml_json.proofs.Common.{refl, stopped_for, sym, view, ◌∙◌}
-use Rattle.yaml_json.proofs.GivenLemmas.{has_json}
-use Rattle.yaml_json.proofs.ShallowLemmas.{not_shallow, shallow}
+use Rattle.yaml_json.proofs.Answering.{has_json, not_shallow, refl, shallow, stopped_for, sym, view, ◌∙◌}
 use Rattle.yaml_json.proofs.write_laid_out.Goals as goal
 
 pub write_deep-requires : goal.write_deep-requires

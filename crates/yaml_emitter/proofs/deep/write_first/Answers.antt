@@ -1,5 +1,4 @@
-use Rattle.yaml_emitter.proofs.Common.{append_assoc, arith, left_after, left_all, left_as, new_line, refl}
-use Rattle.yaml_emitter.proofs.DeepLemmas.{goes_late, goes_refused}
+use Rattle.yaml_emitter.proofs.Answering.{append_assoc, arith, goes_late, goes_refused, left_after, left_all, left_as, new_line, refl}
 use Rattle.yaml_emitter.proofs.deep.write_first.Goals as goal
 
 pub returns-in-Items : goal.returns-in-Items

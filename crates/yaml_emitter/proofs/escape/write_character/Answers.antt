@@ -1,5 +1,4 @@
-use Rattle.yaml_emitter.proofs.Common.{arith}
-use Rattle.yaml_emitter.proofs.EscapeLemmas.{other_character}
+use Rattle.yaml_emitter.proofs.Answering.{arith, other_character}
 use Rattle.yaml_emitter.proofs.escape.write_character.Goals as goal
 
 pub returns-in_default : goal.returns-in_default

@@ -1,5 +1,4 @@
-use Rattle.yaml_emitter.proofs.Common.{◌∙◌}
-use Rattle.yaml_emitter.proofs.LineLemmas.{line_of, line_boundary}
+use Rattle.yaml_emitter.proofs.Answering.{line_boundary, line_of, ◌∙◌}
 use Rattle.yaml_emitter.proofs.line.line.Goals as goal
 
 pub split_at-requires : goal.split_at-requires

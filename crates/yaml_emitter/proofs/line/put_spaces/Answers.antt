@@ -1,5 +1,4 @@
-use Rattle.yaml_emitter.proofs.Common.{ap, arith, is_low, left_after, left_as, left_stopped, left_writes, refl, stopped_early, sym, writes_err, ◌∙◌}
-use Rattle.yaml_emitter.proofs.LineLemmas.{deep_blanks, low_blanks}
+use Rattle.yaml_emitter.proofs.Answering.{ap, arith, deep_blanks, is_low, left_after, left_as, left_stopped, left_writes, low_blanks, refl, stopped_early, sym, writes_err, ◌∙◌}
 use Rattle.yaml_emitter.proofs.line.put_spaces.Goals as goal
 
 pub put_ascii-requires : goal.put_ascii-requires

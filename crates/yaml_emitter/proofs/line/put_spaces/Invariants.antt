@@ -1,5 +1,4 @@
-use Rattle.yaml_emitter.proofs.Common.{IsLeft}
-use Rattle.yaml_emitter.proofs.LineLemmas.{blanks}
+use Rattle.yaml_emitter.proofs.Answering.{blanks, IsLeft}
 use Rattle.yaml_emitter.proofs.line.put_spaces.Given as goal
 
 abbrev pub invariant-left : goal.invariant-left

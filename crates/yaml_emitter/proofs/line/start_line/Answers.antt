@@ -1,5 +1,4 @@
-use Rattle.yaml_emitter.proofs.Common.{ap, arith, is_low, refl, stopped_as, stopped_early, writes_as, writes_err, writes_late, ◌∙◌}
-use Rattle.yaml_emitter.proofs.LineLemmas.{deep_line, low_blanks}
+use Rattle.yaml_emitter.proofs.Answering.{ap, arith, deep_line, is_low, low_blanks, refl, stopped_as, stopped_early, writes_as, writes_err, writes_late, ◌∙◌}
 use Rattle.yaml_emitter.proofs.line.start_line.Goals as goal
 
 pub put_ascii-requires : goal.put_ascii-requires

@@ -1,29 +1,23 @@
-use Rattle.yaml_emitter.proofs.Common.{ap, arith, drop, IsCharBoundary, IsFirstCut, prefix_len, prefix_len-le-length, subst, sym, take, ◌∙◌}
-use Rattle.yaml_emitter.proofs.LiteralLemmas.{runs_on, unbroken, break_boundary, break_passed, first_cut}
+use Rattle.yaml_emitter.proofs.Answering.{break_boundary, break_passed, first_cut, unbroken}
 use Rattle.yaml_emitter.proofs.literal.first_cut.Goals as goal
 
 pub returns-then-end-text : goal.returns-then-end-text
 returns-then-end-text c =
-    let run = c.run_length-end.ensures ∙ ap (prefix_len runs_on) c.as_bytes.ensures.value in
-    unbroken c.args.text.now c.utf8.text (sym run ∙ c.if-end-text.true)
+    let all = rw (c.run_length-end.ensures, c.as_bytes.ensures.value) at c.if-end-text.true in
+    unbroken c.args.text.now c.utf8.text all
 
 pub split_at-requires : goal.split_at-requires
 split_at-requires c =
-    let s = c.args.text.now in
-    let run = c.run_length-end.ensures ∙ ap (prefix_len runs_on) c.as_bytes.ensures.value in
-    break_boundary s c.utf8.text c.run_length-end.result run (omega (arith, run, prefix_len-le-length runs_on s))
+    let some = rw (c.run_length-end.ensures, c.as_bytes.ensures.value) at c.if-end-text.false in
+    rw (c.run_length-end.ensures, c.as_bytes.ensures.value) (break_boundary c.args.text.now c.utf8.text some)
 
 pub split_at-requires-2 : goal.split_at-requires-2
 split_at-requires-2 c =
-    let s = c.args.text.now in
-    let run = c.run_length-end.ensures ∙ ap (prefix_len runs_on) c.as_bytes.ensures.value in
-    subst (λ x. IsCharBoundary x 1) (sym c.split_at.ensures.back) (break_passed s c.utf8.text c.run_length-end.result run (omega (arith, run, prefix_len-le-length runs_on s)))
+    let some = rw (c.run_length-end.ensures, c.as_bytes.ensures.value) at c.if-end-text.false in
+    rw (c.split_at.ensures.back, c.run_length-end.ensures, c.as_bytes.ensures.value) (break_passed c.args.text.now c.utf8.text some)
 
 pub returns : goal.returns
 returns c =
-    let s = c.args.text.now in
-    let run = c.run_length-end.ensures ∙ ap (prefix_len runs_on) c.as_bytes.ensures.value in
-    let after = c.split_at-2.ensures.back ∙ ap (drop 1) c.split_at.ensures.back in
-    subst (λ x. IsFirstCut s x c.split_at-2.result.1.now) (sym c.split_at.ensures.front)
-    (subst (λ x. IsFirstCut s (take c.run_length-end.result s) x) (sym after)
-    (first_cut s c.utf8.text c.run_length-end.result run (omega (arith, run, prefix_len-le-length runs_on s))))
+    let some = rw (c.run_length-end.ensures, c.as_bytes.ensures.value) at c.if-end-text.false in
+    rw (c.split_at-2.ensures.back, c.split_at.ensures.front, c.split_at.ensures.back, c.run_length-end.ensures, c.as_bytes.ensures.value)
+    (first_cut c.args.text.now c.utf8.text some)

@@ -1,5 +1,4 @@
-use Rattle.yaml_emitter.proofs.Common.{◌∙◌}
-use Rattle.yaml_emitter.proofs.PrintableLemmas.{feed_by}
+use Rattle.yaml_emitter.proofs.Answering.{feed_by, ◌∙◌}
 use Rattle.yaml_emitter.proofs.literal.has_line_feed.Goals as goal
 
 pub returns : goal.returns

@@ -1,5 +1,4 @@
-use Rattle.yaml_emitter.proofs.Common.{false, is_empty, refl, sym, true, writes_as, writes_ok, wrote_none, ◌∙◌}
-use Rattle.yaml_emitter.proofs.LiteralLemmas.{last_line_is}
+use Rattle.yaml_emitter.proofs.Answering.{false, last_line_is, refl, sym, true, writes_as, writes_ok, wrote_none, ◌∙◌}
 use Rattle.yaml_emitter.proofs.literal.write_last_line.Goals as goal
 
 pub returns-then-is_empty : goal.returns-then-is_empty

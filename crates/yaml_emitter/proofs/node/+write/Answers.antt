@@ -1,14 +1,11 @@
-use Rattle.yaml_emitter.proofs.Common.{arith, mark_text, refl, stopped_early, stopped_for, stopped_late, sym, view, writes_as, writes_err, writes_for, writes_late, writes_ok, wrote_then, ◌∙◌}
-use Rattle.yaml_emitter.proofs.EntryLemmas.{items_text, pairs_text, two_levels}
-use Rattle.yaml_emitter.proofs.ListLemmas.{all_left, rest_left, entry_stopped, none_left, own_no_higher, none_decide, first_within}
-use Rattle.yaml_emitter.proofs.NodeLemmas.{flat_after, block_after, block_writes, item_entries, pair_entries, scalar_pair, complex_pair}
-use Rattle.yaml_emitter.proofs.ValidLemmas.{in_any, flat_valid, valid_hash, nodes, nodes_in_pairs}
+use Rattle.yaml_emitter.proofs.Answering.{append_assoc, all_left, arith, block_writes, entry_stopped, first_within, flat_after, flat_valid, in_any, items_text, mark_text, none_decide, none_left, own_no_higher, pairs_text, refl, rest_left, stopped_early, stopped_first, stopped_for, stopped_late, sym, two_levels, valid_hash, view, writes_as, writes_err, writes_for, writes_late, writes_ok, wrote_then, ◌∙◌}
+use Rattle.std.proofs.Math.Bool.{and-true}
 use Rattle.yaml_emitter.proofs.node.+write.Goals as goal
 
 pub write_value-returns-in_err-put_spaced-clause-text : goal.write_value-returns-in_err-put_spaced-clause-text
 write_value-returns-in_err-put_spaced-clause-text g t c =
     writes_as (flat_after _ _ c.args.blocks_lower c.args.level (mark_text c.args.mark) (view c.args.node.now) (sym (c.if-not-has_parts.ensures {u = tt})))
-    (writes_err c.from_residual.ensures.0 (stopped_early _ (stopped_for (λ b. absurd b) (c.in_err-put_spaced.ensures.err refl))))
+    (writes_err c.from_residual.ensures.0 (stopped_first _ (c.in_err-put_spaced.ensures.err refl)))
 
 pub write_value-returns-then-not-has_parts-clause-text : goal.write_value-returns-then-not-has_parts-clause-text
 write_value-returns-then-not-has_parts-clause-text g t c =
@@ -17,12 +14,12 @@ write_value-returns-then-not-has_parts-clause-text g t c =
 
 pub write_value-returns-in_err-begin_block-clause-text : goal.write_value-returns-in_err-begin_block-clause-text
 write_value-returns-in_err-begin_block-clause-text g t c =
-    writes_as (block_after _ _ c.args.blocks_lower c.args.level (mark_text c.args.mark) (view c.args.node.now) (sym (c.if-not-has_parts.ensures {u = tt})))
-    (writes_err c.from_residual-in_err-begin_block.ensures.0 (stopped_early _ (stopped_for (λ b. absurd b) (c.in_err-begin_block.ensures.err refl))))
+    rw (← (c.if-not-has_parts.ensures {u = tt}), and-true, ← append_assoc (mark_text c.args.mark))
+    (writes_err c.from_residual-in_err-begin_block.ensures.0 (stopped_first _ (c.in_err-begin_block.ensures.err refl)))
 
 pub write_value-returns-clause-text : goal.write_value-returns-clause-text
 write_value-returns-clause-text g t c =
-    writes_as (block_after _ _ c.args.blocks_lower c.args.level (mark_text c.args.mark) (view c.args.node.now) (sym (c.if-not-has_parts.ensures {u = tt})))
+    rw (← (c.if-not-has_parts.ensures {u = tt}), and-true, ← append_assoc (mark_text c.args.mark))
     (writes_late (c.in_ok-begin_block.ensures.ok refl) c.write_block.ensures.text)
 
 pub write_block-returns-then-level-ge-SHALLOW-clause-text : goal.write_block-returns-then-level-ge-SHALLOW-clause-text
@@ -43,76 +40,74 @@ write_value-returns-then-not-has_parts-clause-valid g t c =
 -- ---- entries
 
 pub write_items-items-init : goal.write_items-items-init
-write_items-items-init g t c = all_left (item_entries c.args.settings.now.compact c.args.settings.now.multiline c.args.level) c.into_iter-item-iterator.ensures.into_iter_gives
+write_items-items-init g t c = all_left c.into_iter-item-iterator.ensures.into_iter_gives
 
 pub write_items-items-preserved : goal.write_items-items-preserved
 write_items-items-preserved g t c =
-    rest_left (item_entries c.args.settings.now.compact c.args.settings.now.multiline c.args.level) c.items.invariant c.in-Some.ensures.steps
+    rest_left c.items.invariant c.in-Some.ensures.steps
     (wrote_then (c.in_ok-begin_entry.ensures.ok refl) (c.in_ok-write_value.ensures.text.ok refl)) c.in_ok-write_value.ensures.valid
 
 pub write_items-write_value-requires : goal.write_items-write_value-requires
-write_items-write_value-requires g t c = λ κs s. (omega (arith, first_within nodes c.items.invariant.decide c.in-Some.ensures.steps), (s, omega arith))
+write_items-write_value-requires g t c =
+    λ κs s. (omega (arith, first_within c.items.invariant.decide c.in-Some.ensures.steps), (s, omega arith))
 
 pub write_items-returns-in_err-begin_entry-clause-text : goal.write_items-returns-in_err-begin_entry-clause-text
 write_items-returns-in_err-begin_entry-clause-text g t c =
-    writes_err c.from_residual.ensures.0
-    (entry_stopped (item_entries c.args.settings.now.compact c.args.settings.now.multiline c.args.level) c.items.invariant c.in-Some.ensures.steps
-    (stopped_early _ (stopped_for (λ b. absurd b) (c.in_err-begin_entry.ensures.err refl))))
+    entry_stopped c.items.invariant c.in-Some.ensures.steps c.from_residual.ensures.0
+    (stopped_first _ (c.in_err-begin_entry.ensures.err refl))
 
 pub write_items-returns-in_err-write_value-clause-text : goal.write_items-returns-in_err-write_value-clause-text
 write_items-returns-in_err-write_value-clause-text g t c =
-    let s = item_entries c.args.settings.now.compact c.args.settings.now.multiline c.args.level in
-    let own = own_no_higher s c.items.invariant c.in-Some.ensures.steps in
-    writes_err c.from_residual-in_err-write_value.ensures.0
-    (entry_stopped s c.items.invariant c.in-Some.ensures.steps
-    (stopped_late (c.in_ok-begin_entry.ensures.ok refl) (stopped_for (λ b. omega (arith, b, own)) (c.in_err-write_value.ensures.text.err refl))))
+    let own = own_no_higher c.items.invariant c.in-Some.ensures.steps in
+    entry_stopped c.items.invariant c.in-Some.ensures.steps c.from_residual-in_err-write_value.ensures.0
+    (stopped_late (c.in_ok-begin_entry.ensures.ok refl) (stopped_for (λ b. omega (arith, b, own))
+    (c.in_err-write_value.ensures.text.err refl)))
 
 pub write_items-returns-clause-text : goal.write_items-returns-clause-text
 write_items-returns-clause-text g t c =
-    writes_ok refl (none_left (item_entries c.args.settings.now.compact c.args.settings.now.multiline c.args.level) c.items.invariant c.in-None.ensures.steps.0)
+    writes_ok refl (none_left c.items.invariant c.in-None.ensures.steps.0)
 
 pub write_pairs-pairs-init : goal.write_pairs-pairs-init
 write_pairs-pairs-init g t c =
-    all_left (pair_entries c.args.settings.now.compact c.args.settings.now.multiline c.args.level) (c.into_iter-key-iterator.ensures.into_iter_gives ∙ c.iter-key-items.ensures.pairs)
+    all_left (c.into_iter-key-iterator.ensures.into_iter_gives ∙ c.iter-key-items.ensures.pairs)
 
 pub write_pairs-pairs-preserved : goal.write_pairs-pairs-preserved
 write_pairs-pairs-preserved g t c =
-    rest_left (pair_entries c.args.settings.now.compact c.args.settings.now.multiline c.args.level) c.pairs.invariant c.in-Some.ensures.steps
+    rest_left c.pairs.invariant c.in-Some.ensures.steps
     (wrote_then (c.in_ok-begin_entry.ensures.ok refl) (c.in_ok-write_pair.ensures.text.ok refl)) c.in_ok-write_pair.ensures.valid
 
 pub write_pairs-write_pair-requires : goal.write_pairs-write_pair-requires
-write_pairs-write_pair-requires g t c = λ κs s. (omega (arith, first_within nodes_in_pairs c.pairs.invariant.decide c.in-Some.ensures.steps), (s, omega arith))
+write_pairs-write_pair-requires g t c =
+    λ κs s. (omega (arith, first_within c.pairs.invariant.decide c.in-Some.ensures.steps), (s, omega arith))
 
 pub write_pairs-returns-in_err-begin_entry-clause-text : goal.write_pairs-returns-in_err-begin_entry-clause-text
 write_pairs-returns-in_err-begin_entry-clause-text g t c =
-    writes_err c.from_residual.ensures.0
-    (entry_stopped (pair_entries c.args.settings.now.compact c.args.settings.now.multiline c.args.level) c.pairs.invariant c.in-Some.ensures.steps
-    (stopped_early _ (stopped_for (λ b. absurd b) (c.in_err-begin_entry.ensures.err refl))))
+    entry_stopped c.pairs.invariant c.in-Some.ensures.steps c.from_residual.ensures.0
+    (stopped_first _ (c.in_err-begin_entry.ensures.err refl))
 
 pub write_pairs-returns-in_err-write_pair-clause-text : goal.write_pairs-returns-in_err-write_pair-clause-text
 write_pairs-returns-in_err-write_pair-clause-text g t c =
-    let s = pair_entries c.args.settings.now.compact c.args.settings.now.multiline c.args.level in
-    let own = own_no_higher s c.pairs.invariant c.in-Some.ensures.steps in
-    writes_err c.from_residual-in_err-write_pair.ensures.0
-    (entry_stopped s c.pairs.invariant c.in-Some.ensures.steps
-    (stopped_late (c.in_ok-begin_entry.ensures.ok refl) (stopped_for (λ b. omega (arith, b, own)) (c.in_err-write_pair.ensures.text.err refl))))
+    let own = own_no_higher c.pairs.invariant c.in-Some.ensures.steps in
+    entry_stopped c.pairs.invariant c.in-Some.ensures.steps c.from_residual-in_err-write_pair.ensures.0
+    (stopped_late (c.in_ok-begin_entry.ensures.ok refl) (stopped_for (λ b. omega (arith, b, own))
+    (c.in_err-write_pair.ensures.text.err refl)))
 
 pub write_pairs-returns-clause-text : goal.write_pairs-returns-clause-text
 write_pairs-returns-clause-text g t c =
-    writes_ok refl (none_left (pair_entries c.args.settings.now.compact c.args.settings.now.multiline c.args.level) c.pairs.invariant c.in-None.ensures.steps.0)
+    writes_ok refl (none_left c.pairs.invariant c.in-None.ensures.steps.0)
 
 pub write_pair-returns-in_err-write_spelling-clause-text : goal.write_pair-returns-in_err-write_spelling-clause-text
 write_pair-returns-in_err-write_spelling-clause-text g t c =
-    writes_as (scalar_pair _ _ c.args.level _ _ (c.if-is_scalar.ensures {u = tt}))
-    (writes_err c.from_residual.ensures.0 (stopped_early _ (stopped_for (λ b. absurd b) (c.in_err-write_spelling.ensures.text.err refl))))
+    rw (← (c.if-is_scalar.ensures {u = tt}))
+    (writes_err c.from_residual.ensures.0 (stopped_first _ (c.in_err-write_spelling.ensures.text.err refl)))
 
 pub write_pair-returns-then-is_scalar-clause-text : goal.write_pair-returns-then-is_scalar-clause-text
 write_pair-returns-then-is_scalar-clause-text g t c =
-    writes_as (scalar_pair _ _ c.args.level _ _ (c.if-is_scalar.ensures {u = tt}))
+    rw (← (c.if-is_scalar.ensures {u = tt}))
     (writes_late (c.in_ok-write_spelling.ensures.text.ok refl) (writes_for (λ b. omega (arith, b)) c.write_value.ensures.text))
 
 pub write_pair-returns-clause-text : goal.write_pair-returns-clause-text
-write_pair-returns-clause-text g t c = writes_as (complex_pair _ _ c.args.level _ _ (c.if-is_scalar.ensures {u = tt})) c.write_complex_pair.ensures.text
+write_pair-returns-clause-text g t c = rw (← (c.if-is_scalar.ensures {u = tt})) c.write_complex_pair.ensures.text
 
 pub write_complex_pair-returns-in_err-write_value-clause-text : goal.write_complex_pair-returns-in_err-write_value-clause-text
 write_complex_pair-returns-in_err-write_value-clause-text g t c =
@@ -121,7 +116,7 @@ write_complex_pair-returns-in_err-write_value-clause-text g t c =
 pub write_complex_pair-returns-in_err-break_line-clause-text : goal.write_complex_pair-returns-in_err-break_line-clause-text
 write_complex_pair-returns-in_err-break_line-clause-text g t c =
     writes_err c.from_residual-in_err-break_line.ensures.0
-    (stopped_late (c.in_ok-write_value.ensures.text.ok refl) (stopped_early _ (stopped_for (λ b. absurd b) (c.in_err-break_line.ensures.err refl))))
+    (stopped_late (c.in_ok-write_value.ensures.text.ok refl) (stopped_first _ (c.in_err-break_line.ensures.err refl)))
 
 pub write_complex_pair-returns-clause-text : goal.write_complex_pair-returns-clause-text
 write_complex_pair-returns-clause-text g t c =
@@ -131,4 +126,5 @@ write_complex_pair-returns-clause-text g t c =
 -- ---- valid trees
 
 pub write_pairs-returns-clause-valid : goal.write_pairs-returns-clause-valid
-write_pairs-returns-clause-valid g t c = valid_hash _ c.iter-key-items.ensures.distinct (none_decide nodes_in_pairs c.pairs.invariant.decide c.in-None.ensures.steps.0)
+write_pairs-returns-clause-valid g t c =
+    valid_hash _ c.iter-key-items.ensures.distinct (none_decide c.pairs.invariant.decide c.in-None.ensures.steps.0)

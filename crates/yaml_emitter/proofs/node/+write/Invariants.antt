@@ -1,6 +1,4 @@
-use Rattle.yaml_emitter.proofs.Common.{depth, items_depth, items_of, max, pairs_depth, pairs_of, view, ◌*◌, ◌+◌}
-use Rattle.yaml_emitter.proofs.ListLemmas.{AreLeft}
-use Rattle.yaml_emitter.proofs.NodeLemmas.{item_entries, pair_entries}
+use Rattle.yaml_emitter.proofs.Answering.{AreLeft, depth, item_entries, items_depth, items_of, max, pair_entries, pairs_depth, pairs_of, view, ◌*◌, ◌+◌}
 use Rattle.yaml_emitter.proofs.node.+write.Given as goal
 
 abbrev pub decreases-write_block : goal.decreases-write_block

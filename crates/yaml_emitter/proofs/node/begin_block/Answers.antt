@@ -1,4 +1,4 @@
-use Rattle.yaml_emitter.proofs.Common.{ap, before_block, mark_text, refl, stopped_early, sym, writes_as, writes_err, writes_late, ◌++◌}
+use Rattle.yaml_emitter.proofs.Common.{refl, stopped_early, writes_err, writes_late}
 use Rattle.yaml_emitter.proofs.node.begin_block.Goals as goal
 
 pub returns-in_err-put_mark : goal.returns-in_err-put_mark
@@ -6,5 +6,4 @@ returns-in_err-put_mark g c = writes_err c.from_residual.ensures.0 (stopped_earl
 
 pub returns : goal.returns
 returns g c =
-    writes_as (ap (λ b. mark_text c.args.mark ++ before_block b c.args.level) (sym c.if-not-blocks_lower.false))
-    (writes_late (c.in_ok-put_mark.ensures.ok refl) c.break_line.ensures)
+    rw c.if-not-blocks_lower.false (writes_late (c.in_ok-put_mark.ensures.ok refl) c.break_line.ensures)

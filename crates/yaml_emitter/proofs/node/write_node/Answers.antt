@@ -1,6 +1,4 @@
-use Rattle.yaml_emitter.proofs.Common.{ap, stacked, sym, view, writes_as, writes_for}
-use Rattle.yaml_emitter.proofs.NodeLemmas.{flat_box, root_block}
-use Rattle.yaml_emitter.proofs.ValidLemmas.{in_any, flat_valid}
+use Rattle.yaml_emitter.proofs.Answering.{ap, flat_box, flat_valid, in_any, root_block, stacked, sym, view, writes_as, writes_for}
 use Rattle.yaml_emitter.proofs.node.write_node.Goals as goal
 
 pub returns-then-has_parts-clause-text : goal.returns-then-has_parts-clause-text

@@ -1,6 +1,5 @@
 use Rattle.std.proofs.lemmas.Fmt.{decimal_digit}
-use Rattle.yaml_emitter.proofs.Common.{[], ap, refl, stopped_as, stopped_early, sym, writes_as, writes_err, writes_late, ◌∙◌, ◌∷◌}
-use Rattle.yaml_emitter.proofs.NumberLemmas.{last_digit}
+use Rattle.yaml_emitter.proofs.Answering.{[], ap, last_digit, refl, stopped_as, stopped_early, sym, writes_as, writes_err, writes_late, ◌∙◌, ◌∷◌}
 use Rattle.yaml_emitter.proofs.number.+write_digits.Goals as goal
 
 pub returns-then-number-lt10 : goal.returns-then-number-lt10

@@ -1,5 +1,4 @@
-use Rattle.yaml_emitter.proofs.Common.{refl, stopped_as, stopped_early, to_z-of_z, writes_as, writes_err, writes_late}
-use Rattle.yaml_emitter.proofs.NumberLemmas.{nonnegative, negative}
+use Rattle.yaml_emitter.proofs.Answering.{negative, nonnegative, refl, stopped_as, stopped_early, to_z-of_z, writes_as, writes_err, writes_late}
 use Rattle.yaml_emitter.proofs.number.write_integer.Goals as goal
 
 pub returns-then-number-ge0 : goal.returns-then-number-ge0

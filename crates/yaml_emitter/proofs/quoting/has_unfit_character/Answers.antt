@@ -1,6 +1,4 @@
-use Rattle.yaml_emitter.proofs.Common.{ap, is_unfit_for_plain, list_any, ◌∙◌}
-use Rattle.yaml_emitter.proofs.ByteLemmas.{bytes_tested}
-use Rattle.yaml_emitter.proofs.WordLemmas.{wide_fits}
+use Rattle.yaml_emitter.proofs.Answering.{ap, bytes_tested, is_unfit_for_plain, list_any, wide_fits, ◌∙◌}
 use Rattle.yaml_emitter.proofs.quoting.has_unfit_character.Goals as goal
 
 pub returns : goal.returns

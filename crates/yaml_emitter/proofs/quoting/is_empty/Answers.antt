@@ -1,5 +1,4 @@
-use Rattle.yaml_emitter.proofs.Common.{◌∙◌}
-use Rattle.yaml_emitter.proofs.WordLemmas.{empty_text}
+use Rattle.yaml_emitter.proofs.Answering.{empty_text, ◌∙◌}
 use Rattle.yaml_emitter.proofs.quoting.is_empty.Goals as goal
 
 pub returns : goal.returns

@@ -1,5 +1,4 @@
-use Rattle.yaml_emitter.proofs.Common.{arith, ◌∙◌}
-use Rattle.yaml_emitter.proofs.WordLemmas.{small_letter}
+use Rattle.yaml_emitter.proofs.Answering.{arith, small_letter, ◌∙◌}
 use Rattle.yaml_emitter.proofs.quoting.is_plain_letter.Goals as goal
 
 pub returns : goal.returns

@@ -1,5 +1,4 @@
-use Rattle.yaml_emitter.proofs.Common.{ap, begins_plainly, sym, ◌∙◌}
-use Rattle.yaml_emitter.proofs.WordLemmas.{plain_quoted}
+use Rattle.yaml_emitter.proofs.Answering.{ap, begins_plainly, plain_quoted, sym, ◌∙◌}
 use Rattle.yaml_emitter.proofs.quoting.needs_quotes.Goals as goal
 
 pub returns-then-begins_plainly : goal.returns-then-begins_plainly

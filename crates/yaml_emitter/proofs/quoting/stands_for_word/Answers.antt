@@ -1,6 +1,5 @@
 use Rattle.std.specs.Prelude.{chars}
-use Rattle.yaml_emitter.proofs.Common.{ap, is_name, is_string, not, typing, ◌||◌, ◌∙◌}
-use Rattle.yaml_emitter.proofs.WordLemmas.{word_of_bytes}
+use Rattle.yaml_emitter.proofs.Answering.{ap, is_name, is_string, not, typing, word_of_bytes, ◌||◌, ◌∙◌}
 use Rattle.yaml_emitter.proofs.quoting.stands_for_word.Goals as goal
 
 pub returns-then-is_name : goal.returns-then-is_name

@@ -1,5 +1,4 @@
-use Rattle.yaml_emitter.proofs.Common.{ap, arith, false, has_bit, is_ascii_lowercase, not, sym, true, ◌&&◌, ◌∙◌, ◌≡◌}
-use Rattle.yaml_emitter.proofs.ByteLemmas.{escaped_set, escaped_bits}
+use Rattle.yaml_emitter.proofs.Answering.{ap, arith, escaped_bits, escaped_set, false, has_bit, is_ascii_lowercase, not, sym, true, ◌&&◌, ◌∙◌, ◌≡◌}
 use Rattle.yaml_emitter.proofs.runs.is_escaped.Goals as goal
 
 pub returns-then-not-is_ascii_lowercase : goal.returns-then-not-is_ascii_lowercase

@@ -1,5 +1,4 @@
-use Rattle.yaml_emitter.proofs.Common.{ap, arith, false, has_bit, is_ascii_lowercase, not, sym, true, ◌&&◌, ◌∙◌, ◌≡◌}
-use Rattle.yaml_emitter.proofs.ByteLemmas.{unfit_set, unfit_bits}
+use Rattle.yaml_emitter.proofs.Answering.{ap, arith, false, has_bit, is_ascii_lowercase, not, sym, true, unfit_bits, unfit_set, ◌&&◌, ◌∙◌, ◌≡◌}
 use Rattle.yaml_emitter.proofs.runs.is_unfit_for_plain.Goals as goal
 
 pub returns-then-not-is_ascii_lowercase : goal.returns-then-not-is_ascii_lowercase

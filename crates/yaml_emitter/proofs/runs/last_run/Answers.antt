@@ -1,5 +1,4 @@
-use Rattle.yaml_emitter.proofs.Common.{ap, arith, length, not, prefix_len-le-length, run_from, run_stops, run_through, sym, ◌-◌, ◌∙◌}
-use lib.Count.{count_trailing_zeros}
+use Rattle.yaml_emitter.proofs.Common.{ap, arith, count_trailing_zeros, length, not, prefix_len-le-length, run_from, run_stops, run_through, sym, ◌-◌, ◌∙◌}
 use Rattle.yaml_emitter.proofs.runs.last_run.Goals as goal
 
 pub returns-then-found-eq0 : goal.returns-then-found-eq0

@@ -1,5 +1,4 @@
-use Rattle.yaml_emitter.proofs.Common.{ap, arith, run_stops, run_through, sym, ◌∙◌}
-use lib.Count.{count_trailing_zeros}
+use Rattle.yaml_emitter.proofs.Common.{ap, arith, count_trailing_zeros, run_stops, run_through, sym, ◌∙◌}
 use Rattle.yaml_emitter.proofs.runs.run_length.Goals as goal
 
 pub returns-then-found-ne0 : goal.returns-then-found-ne0

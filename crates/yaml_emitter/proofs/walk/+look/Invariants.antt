@@ -1,6 +1,4 @@
-use Rattle.yaml_emitter.proofs.Common.{depth, items_depth, items_of, pairs_depth, pairs_of, view, ◌*◌, ◌+◌}
-use Rattle.yaml_emitter.proofs.ListLemmas.{Decide}
-use Rattle.yaml_emitter.proofs.ValidLemmas.{nodes, nodes_in_pairs}
+use Rattle.yaml_emitter.proofs.Answering.{Decide, depth, items_depth, items_of, nodes, nodes_in_pairs, pairs_depth, pairs_of, view, ◌*◌, ◌+◌}
 use Rattle.yaml_emitter.proofs.walk.+look.Given as goal
 
 abbrev pub decreases-look : goal.decreases-look

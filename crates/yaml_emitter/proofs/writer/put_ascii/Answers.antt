@@ -1,5 +1,4 @@
-use Rattle.yaml_emitter.proofs.TextLemmas.{low_chars}
-use Rattle.yaml_emitter.proofs.Common.{writes_as}
+use Rattle.yaml_emitter.proofs.Answering.{low_chars, writes_as}
 use Rattle.yaml_emitter.proofs.writer.put_ascii.Goals as goal
 
 pub returns : goal.returns

@@ -1,5 +1,4 @@
-use Rattle.yaml_json.proofs.Common.{refl, stopped_for}
-use Rattle.yaml_json.proofs.GivenLemmas.{has_json}
+use Rattle.yaml_json.proofs.Answering.{has_json, refl, stopped_for}
 use Rattle.yaml_json.proofs.deep.write_deep.Goals as goal
 
 pub returns-in-Ok-write_levels-clause-has_json : goal.returns-in-Ok-write_levels-clause-has_json

@@ -1,5 +1,4 @@
-use Rattle.yaml_json.proofs.Common.{false, left_in, length, ◌-◌}
-use Rattle.yaml_json.proofs.PartLemmas.{Goes}
+use Rattle.yaml_json.proofs.Answering.{false, Goes, left_in, length, ◌-◌}
 use Rattle.yaml_json.proofs.deep.write_items_from.Given as goal
 
 abbrev pub invariant-at : goal.invariant-at

@@ -1,5 +1,4 @@
-use Rattle.yaml_json.proofs.Common.{left_in, length, true, ◌-◌}
-use Rattle.yaml_json.proofs.PartLemmas.{Goes}
+use Rattle.yaml_json.proofs.Answering.{Goes, left_in, length, true, ◌-◌}
 use Rattle.yaml_json.proofs.deep.write_members_from.Given as goal
 
 abbrev pub invariant-at : goal.invariant-at

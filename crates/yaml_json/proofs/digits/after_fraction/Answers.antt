@@ -1,5 +1,4 @@
-use Rattle.yaml_json.proofs.ReadCommon.{ap, arith, fraction, ◌∙◌, ◌∷◌}
-use Rattle.yaml_json.proofs.ReadNumberLemmas.{some_of, rest_of}
+use Rattle.yaml_json.proofs.Answering.{ap, arith, fraction, rest_of, some_of, ◌∙◌, ◌∷◌}
 use Rattle.yaml_json.proofs.digits.after_fraction.Goals as goal
 
 pub returns-in-46 : goal.returns-in-46

@@ -4,5 +4,5 @@ use Rattle.yaml_json.proofs.digits.after_number.Goals as goal
 pub returns : goal.returns
 returns c =
     some_of _ _ c.after_exponent.result
-    (λ x e. number_from c.args.text.now c.after_minus-whole.result.now c.in_ok-fraction.fraction.now c.in_ok-exponent.exponent.now x.now c.after_minus-whole.ensures (c.in_ok-fraction.ensures {u = tt}) (c.in_ok-exponent.ensures {u = tt}) e)
+    (λ x e. number_from c.after_minus-whole.ensures (c.in_ok-fraction.ensures {u = tt}) (c.in_ok-exponent.ensures {u = tt}) e)
     c.after_exponent.ensures

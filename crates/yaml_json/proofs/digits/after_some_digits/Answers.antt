@@ -1,5 +1,4 @@
-use Rattle.yaml_json.proofs.ReadCommon.{rules}
-use Rattle.yaml_json.proofs.ReadNumberLemmas.{digits_read}
+use Rattle.yaml_json.proofs.Answering.{digits_read, rules}
 use Rattle.yaml_json.proofs.digits.after_some_digits.Goals as goal
 
 pub returns : goal.returns

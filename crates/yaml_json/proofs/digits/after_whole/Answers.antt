@@ -1,5 +1,4 @@
-use Rattle.yaml_json.proofs.ReadCommon.{[], arith, get_or, refl, ◌∷◌}
-use Rattle.yaml_json.proofs.ReadNumberLemmas.{rest_of, digits_whole}
+use Rattle.yaml_json.proofs.Answering.{[], arith, digits_whole, get_or, refl, rest_of, ◌∷◌}
 use Rattle.yaml_json.proofs.digits.after_whole.Goals as goal
 
 pub returns-in-48 : goal.returns-in-48

@@ -1,6 +1,4 @@
-use Rattle.yaml_json.proofs.Common.{view, ◌∷◌}
-use Rattle.yaml_json.proofs.OpenLevels.{trees, weight}
-use Rattle.yaml_json.proofs.SearchLemmas.{Searches}
+use Rattle.yaml_json.proofs.Answering.{Searches, trees, view, weight, ◌∷◌}
 use Rattle.yaml_json.proofs.find.count_levels_in.Given as goal
 
 abbrev pub invariant-levels : goal.invariant-levels

@@ -1,11 +1,8 @@
 use Rattle.std.specs.Str.{chars}
-use Rattle.yaml_json.proofs.Common.{ap, key, step_in, string_chars, sym, ◌∙◌}
-use Rattle.yaml_json.proofs.FindLemmas.{no_step}
+use Rattle.yaml_json.proofs.Answering.{no_step, string_chars}
 use Rattle.yaml_json.proofs.find.last_step.Goals as goal
 
 pub returns-in-None : goal.returns-in-None
 unfolding string_chars chars
 returns-in-None c =
-    ap (λ bs. key (chars bs)) c.new.ensures.bytes
-    ∙ sym (no_step c.args.level.row.now _ _ c.saturating_sub-2.ensures c.in-None.ensures.lookup.3)
-    ∙ ap (λ b. step_in b c.args.level.row.now c.args.level.passed) (sym c.if-not-level.false)
+    rw (c.new.ensures.bytes, c.if-not-level.false, no_step c.args.level.row.now _ _ c.saturating_sub-2.ensures c.in-None.ensures.lookup.3)

@@ -1,5 +1,4 @@
-use Rattle.yaml_json.proofs.Common.{false, left_in, length, ◌-◌}
-use Rattle.yaml_json.proofs.SearchLemmas.{Passes}
+use Rattle.yaml_json.proofs.Answering.{false, left_in, length, Passes, ◌-◌}
 use Rattle.yaml_json.proofs.find.next_met_item.Given as goal
 
 abbrev pub invariant-at : goal.invariant-at

@@ -1,5 +1,4 @@
-use Rattle.yaml_json.proofs.Common.{left_in, length, true, ◌-◌}
-use Rattle.yaml_json.proofs.SearchLemmas.{Passes}
+use Rattle.yaml_json.proofs.Answering.{left_in, length, Passes, true, ◌-◌}
 use Rattle.yaml_json.proofs.find.next_met_value.Given as goal
 
 abbrev pub invariant-at : goal.invariant-at

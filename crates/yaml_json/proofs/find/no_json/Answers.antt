@@ -1,4 +1,4 @@
-use Rattle.yaml_json.proofs.FindLemmas.{is_below}
+use Rattle.yaml_json.proofs.SearchLemmas.{is_below}
 use Rattle.yaml_json.proofs.find.no_json.Goals as goal
 
 pub returns-in-Err : goal.returns-in-Err

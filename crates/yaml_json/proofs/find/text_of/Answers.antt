@@ -1,6 +1,5 @@
 use Rattle.std.specs.Str.{chars}
-use Rattle.yaml_json.proofs.Common.{ap, key, string_chars, sym, ◌∙◌}
-use Rattle.yaml_json.proofs.FindLemmas.{other_step}
+use Rattle.yaml_json.proofs.Answering.{ap, key, other_step, string_chars, sym, ◌∙◌}
 use Rattle.yaml_json.proofs.find.text_of.Goals as goal
 
 pub returns-in_default : goal.returns-in_default

@@ -1,10 +1,9 @@
-use Rattle.yaml_json.proofs.Common.{arith, drop-set, length-set, set, set_comm, ◌%◌, ◌+◌, ◌≡◌}
-use Rattle.yaml_json.proofs.DigitLemmas.{pairs_below}
+use Rattle.yaml_json.proofs.Answering.{arith, drop-set, length-set, pairs_below, set, set_comm, ◌%◌, ◌+◌, ◌≡◌}
 use Rattle.yaml_json.proofs.integer.put_pair.Goals as goal
 
 pub returns : goal.returns
 returns c =
-    let p = pairs_below 100 c.args.pair tt c.requires.pair in
+    let p = pairs_below c.args.pair c.requires.pair in
     let at = c.args.at in
     let buf = c.args.bytes.now in
     let e : at + 1 + 1 ≡ at + 2 = omega arith in

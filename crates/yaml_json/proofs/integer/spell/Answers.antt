@@ -1,5 +1,4 @@
-use Rattle.yaml_json.proofs.Common.{arith, drop-set, length-decimal-le, to_z-of_z, ◌+◌, ◌-◌, ◌≡◌}
-use Rattle.yaml_json.proofs.DigitLemmas.{minus_first}
+use Rattle.yaml_json.proofs.Answering.{arith, drop-set, length-decimal-le, minus_first, to_z-of_z, ◌+◌, ◌-◌, ◌≡◌}
 use Rattle.yaml_json.proofs.integer.spell.Goals as goal
 
 pub overflow_sub-bytes : goal.overflow_sub-bytes

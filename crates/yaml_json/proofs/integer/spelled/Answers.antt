@@ -1,5 +1,4 @@
-use Rattle.yaml_json.proofs.Common.{ap, IsAscii, IsUtf8, IsUtf8-from_ascii, signed_decimal, subst, sym, to_z-of_z, ◌∙◌}
-use Rattle.yaml_json.proofs.DigitLemmas.{end_text, signed_ascii}
+use Rattle.yaml_json.proofs.Answering.{ap, end_text, IsAscii, IsUtf8, IsUtf8-from_ascii, signed_ascii, signed_decimal, subst, sym, to_z-of_z, ◌∙◌}
 use Rattle.yaml_json.proofs.integer.spelled.Goals as goal
 
 pub from_utf8_unchecked-requires : goal.from_utf8_unchecked-requires

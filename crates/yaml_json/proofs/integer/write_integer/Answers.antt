@@ -1,4 +1,4 @@
-use Rattle.yaml_emitter.proofs.TextLemmas.{ascii_low}
+use Rattle.yaml_emitter.proofs.ByteLemmas.{ascii_low}
 use Rattle.yaml_json.proofs.integer.write_integer.Goals as goal
 
 pub put_ascii-requires : goal.put_ascii-requires

@@ -1,6 +1,5 @@
-use Rattle.yaml_json.proofs.Common.{ap, arith, reads_number, sym, true, ◌∙◌}
+use Rattle.yaml_json.proofs.Answering.{ap, arith, no_real, reads_number, real_is, sym, true, ◌∙◌}
 use Rattle.defs_tree.proofs.Parsing.{parsed_text}
-use Rattle.yaml_json.proofs.NumberLemmas.{real_is, no_real}
 use Rattle.yaml_json.proofs.number.is_json_real.Goals as goal
 
 pub returns-then-is_number : goal.returns-then-is_number

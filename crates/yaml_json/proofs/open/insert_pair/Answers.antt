@@ -1,5 +1,4 @@
-use Rattle.yaml_json.proofs.ReadCommon.{ap, option_map, sym, view, ◌∙◌}
-use Rattle.yaml_json.proofs.Collections.{pair_added}
+use Rattle.yaml_json.proofs.Answering.{ap, option_map, pair_added, sym, view, ◌∙◌}
 use Rattle.yaml_json.proofs.open.insert_pair.Goals as goal
 
 pub returns-in-Ok-None : goal.returns-in-Ok-None

@@ -1,20 +1,23 @@
-use Rattle.yaml_json.proofs.ReadCommon.{ap, arith, false, length, not_taken, taken}
-use Rattle.yaml_json.proofs.Longer.{gap_nearer}
-use Rattle.yaml_json.proofs.Places.{array_opened, array_whole}
+use Rattle.yaml_json.proofs.Answering.{ap, arith, array_begun, array_empty, gap_nearer, length, opened_in, ◌∷◌}
 use Rattle.yaml_json.proofs.reader.begin_array.Goals as goal
 
 pub returns-then-take : goal.returns-then-take
 returns-then-take c =
-    let closed = taken c.take.result 93 c.skip_gap.new.self c.take.new.self c.if-take.true c.take.ensures in
+    let closed = rw c.if-take.true at c.take.ensures in
     record {
-      begins = λ text o. array_whole c.args.opened.now.items c.new.result text c.args.cursor.now c.skip_gap.new.self c.take.new.self (omega arith) c.new.ensures c.skip_gap.ensures closed o;
-      nearer = omega (arith, gap_nearer false _ _ c.skip_gap.ensures, ap length closed);
+      begins = λ text o. record {
+        at = 91 ∷ c.args.cursor.now;
+        opened = o;
+        value = rw c.new.ensures (array_empty (omega arith) (rw closed at c.skip_gap.ensures));
+      };
+      nearer = omega (arith, gap_nearer c.skip_gap.ensures, ap length closed);
     }
 
 pub returns : goal.returns
 returns c =
-    let none = not_taken c.take.result 93 c.skip_gap.new.self c.take.new.self c.if-take.false c.take.ensures in
+    let none = rw c.if-take.false at c.take.ensures in
     record {
-      begins = λ text o. array_opened c.args.opened.now.items c.push_open.new.opened.items c.new-2.result text c.args.cursor.now c.skip_gap.new.self c.take.new.self (omega arith) c.new-2.ensures (c.in_ok-push_open.ensures {u = tt}) c.skip_gap.ensures none o;
-      nearer = omega (arith, gap_nearer false _ _ c.skip_gap.ensures, ap length none);
+      begins = λ text o. opened_in c.args.opened.now.items _ text _ _ (omega arith) (c.in_ok-push_open.ensures {u = tt}) o
+          (rw (c.new-2.ensures, none) (array_begun c.skip_gap.ensures));
+      nearer = omega (arith, gap_nearer c.skip_gap.ensures, ap length none);
     }

@@ -1,20 +1,27 @@
-use Rattle.yaml_json.proofs.ReadCommon.{ap, arith, false, length, not_taken, taken}
-use Rattle.yaml_json.proofs.Longer.{gap_nearer, key_nearer}
-use Rattle.yaml_json.proofs.Places.{object_opened, object_whole}
+use Rattle.yaml_json.proofs.Answering.{ap, arith, gap_nearer, key_nearer, length, object_begun, object_empty, opened_in, ◌∷◌}
 use Rattle.yaml_json.proofs.reader.begin_object.Goals as goal
 
 pub returns-then-take : goal.returns-then-take
 returns-then-take c =
-    let closed = taken c.take.result 125 c.skip_gap.new.self c.take.new.self c.if-take.true c.take.ensures in
+    let closed = rw c.if-take.true at c.take.ensures in
     record {
-      begins = λ text o. object_whole c.args.opened.now.items c.new.result text c.args.cursor.now c.skip_gap.new.self c.take.new.self (omega arith) c.new.ensures c.skip_gap.ensures closed o;
-      nearer = omega (arith, gap_nearer false _ _ c.skip_gap.ensures, ap length closed);
+      begins = λ text o. record {
+        at = 123 ∷ c.args.cursor.now;
+        opened = o;
+        value = rw c.new.ensures (object_empty (omega arith) (rw closed at c.skip_gap.ensures));
+      };
+      nearer = omega (arith, gap_nearer c.skip_gap.ensures, ap length closed);
     }
 
 pub returns : goal.returns
 returns c =
-    let none = not_taken c.take.result 125 c.skip_gap.new.self c.take.new.self c.if-take.false c.take.ensures in
+    let none = rw c.if-take.false at c.take.ensures in
+    let key = c.in_ok-key.ensures {u = tt} in
     record {
-      begins = λ text o. object_opened c.args.opened.now.items c.push_open.new.opened.items c.new-2.result c.in_ok-key.key text c.args.cursor.now c.skip_gap.new.self c.take.new.self c.read_key.new.cursor (omega arith) c.new-2.ensures (c.in_ok-push_open.ensures {u = tt}) c.skip_gap.ensures none (c.in_ok-key.ensures {u = tt}) o;
-      nearer = omega (arith, gap_nearer false _ _ c.skip_gap.ensures, ap length none, key_nearer _ _ (c.in_ok-key.ensures {u = tt}));
+      begins = λ text o. opened_in c.args.opened.now.items _ text _ _ (omega arith) (c.in_ok-push_open.ensures {u = tt}) o (record {
+        at = c.take.new.self;
+        before = rw (c.new-2.ensures, none) (object_begun c.skip_gap.ensures);
+        key_is = key;
+      });
+      nearer = omega (arith, gap_nearer c.skip_gap.ensures, ap length none, key_nearer key);
     }

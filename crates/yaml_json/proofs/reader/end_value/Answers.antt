@@ -1,17 +1,17 @@
-use Rattle.yaml_json.proofs.ReadCommon.{ap, arith, length, option_to_list, view, ◌++◌, ◌∙◌, ◌≡◌}
-use Rattle.yaml_json.proofs.Places.{open_on, ended_on, outermost, none_left}
+use Rattle.yaml_json.proofs.Answering.{ap, arith, ended_on, length, open_on, option_to_list, outermost, view, ◌++◌, ◌∙◌, ◌≡◌}
+use Rattle.yaml_json.proofs.Places.{none_left}
 use Rattle.yaml_json.proofs.reader.end_value.Goals as goal
 
 pub returns-then-not-branch-clause-ends : goal.returns-then-not-branch-clause-ends
 returns-then-not-branch-clause-ends c text h =
-    open_on c.levels.opened.items c.put_last.new.opened.items (view c.levels.value) c.in_ok-put_last.field-0 text c.levels.cursor c.put_last.new.cursor c.if-not-branch.true (c.in_ok-put_last.ensures {u = tt}).puts (c.levels.invariant.goes_on text h)
+    open_on c.if-not-branch.true (c.in_ok-put_last.ensures {u = tt}).puts (c.levels.invariant.goes_on text h)
 
 pub levels-preserved : goal.levels-preserved
 levels-preserved c =
     let popped = c.pop.ensures.items ∙ ap (λ x. c.pop.new.self.items ++ option_to_list x) c.in-Some.is in
     record {
-      goes_on = λ text h. ended_on c.levels.opened.items c.put_last.new.opened.items c.pop.new.self.items c.in-Some.collection (view c.levels.value) (view c.into_tree-value.result) c.in_ok-put_last.field-0 text c.levels.cursor c.put_last.new.cursor
-          c.if-not-branch.false popped c.into_tree-value.ensures (c.in_ok-put_last.ensures {u = tt}).puts (c.levels.invariant.goes_on text h);
+      goes_on = λ text h. ended_on c.in-Some.collection c.if-not-branch.false popped c.into_tree-value.ensures
+          (c.in_ok-put_last.ensures {u = tt}).puts (c.levels.invariant.goes_on text h);
       nearer = omega (arith, (c.in_ok-put_last.ensures {u = tt}).nearer, c.levels.invariant.nearer);
     }
 

@@ -1,5 +1,4 @@
-use Rattle.yaml_json.proofs.ReadCommon.{ap, arith, is_some, ok_of, vec_len, view}
-use Rattle.yaml_json.proofs.Places.{last_put}
+use Rattle.yaml_json.proofs.Answering.{ap, arith, is_some, last_put, ok_of, vec_len, view}
 use Rattle.yaml_json.proofs.reader.put_last.Goals as goal
 
 pub returns-in-Some-clause-puts : goal.returns-in-Some-clause-puts

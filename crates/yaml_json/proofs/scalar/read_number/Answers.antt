@@ -1,5 +1,4 @@
-use Rattle.yaml_json.proofs.ReadCommon.{chars, view}
-use Rattle.yaml_json.proofs.ReadNumberLemmas.{number_value}
+use Rattle.yaml_json.proofs.Answering.{chars, number_value, view}
 use Rattle.yaml_json.proofs.scalar.read_number.Goals as goal
 
 pub returns : goal.returns

@@ -1,6 +1,5 @@
-use Rattle.std.specs.Str.{chars}
-use Rattle.yaml_json.proofs.Common.{ap, are_items_shallow, arith, depth, is_json_real, is_shallow, items_depth, items_of, nat_lt, pairs_of, string_chars, sym, view, ◌&&◌, ◌∙◌, ◌≡◌}
-use Rattle.yaml_json.proofs.ShallowLemmas.{next_item, no_items_within, no_pairs_within, nothing_within, only_within, scalar_within}
+use Rattle.yaml_json.proofs.Answering.{ap, arith, depth, items_depth, items_of, next_item, no_items_within, no_pairs_within, nothing_within, only_within, pairs_of, scalar_within, string_chars, sym, view, ◌∙◌, ◌≡◌}
+use Rattle.yaml_json.proofs.Common.{refl}
 use Rattle.yaml_json.proofs.shallow.+shallow.Goals as goal
 
 -- ---- a nest
@@ -19,33 +18,29 @@ is_shallow-node-preserved t c = record {
 pub is_shallow-returns-in-Real : goal.is_shallow-returns-in-Real
 unfolding string_chars
 is_shallow-returns-in-Real t c =
-    c.is_json_real.ensures
-    ∙ ap (λ bs. is_json_real (chars bs)) c.as_str.ensures.value
-    ∙ sym (scalar_within _ c.node.left)
-    ∙ ap (λ y. is_shallow c.node.left (view y)) (sym c.in-Real.is)
-    ∙ sym c.node.invariant.same
+    rw (c.node.invariant.same, c.in-Real.is, c.is_json_real.ensures, c.as_str.ensures.value) (sym (scalar_within _ c.node.left))
 
 pub is_shallow-returns-else-left-gt0 : goal.is_shallow-returns-else-left-gt0
 is_shallow-returns-else-left-gt0 t c =
     let none : c.node.left ≡ 0 = omega (arith, c.if-left-gt0.false) in
-    ap (nat_lt 0) none ∙ sym (c.node.invariant.same ∙ ap (λ y. is_shallow c.node.left (view y)) c.in-Array.is ∙ no_items_within c.node.left (items_of c.in-Array.items) none)
+    rw (c.node.invariant.same, c.in-Array.is, no_items_within c.node.left (items_of c.in-Array.items) none, none) refl
 
 pub is_shallow-returns-else-left-gt0-2 : goal.is_shallow-returns-else-left-gt0-2
 is_shallow-returns-else-left-gt0-2 t c =
     let none : c.node.left ≡ 0 = omega (arith, c.if-left-gt0-2.false) in
-    ap (nat_lt 0) none ∙ sym (c.node.invariant.same ∙ ap (λ y. is_shallow c.node.left (view y)) c.in-Hash.is ∙ no_pairs_within c.node.left (pairs_of c.in-Hash.pairs) none)
+    rw (c.node.invariant.same, c.in-Hash.is, no_pairs_within c.node.left (pairs_of c.in-Hash.pairs) none, none) refl
 
 -- ---- the items
 
 pub are_items_shallow-returns-then-not-is_shallow : goal.are_items_shallow-returns-then-not-is_shallow
 are_items_shallow-returns-then-not-is_shallow t c =
-    let rest = ap (λ xs. are_items_shallow c.args.levels (items_of xs)) c.in-Some.ensures.steps ∙ next_item c.args.levels (view c.in-Some.item.now) (items_of c.next.new.self) in
-    sym (c.items.invariant.left ∙ rest ∙ ap (λ b. b && are_items_shallow c.args.levels (items_of c.next.new.self)) (sym c.is_shallow.ensures ∙ c.if-not-is_shallow.true))
+    let first = next_item c.args.levels (view c.in-Some.item.now) (items_of c.next.new.self) in
+    rw (c.items.invariant.left, c.in-Some.ensures.steps, first, ← c.is_shallow.ensures, c.if-not-is_shallow.true) refl
 
 pub are_items_shallow-items-preserved : goal.are_items_shallow-items-preserved
 are_items_shallow-items-preserved t c =
-    let rest = ap (λ xs. are_items_shallow c.args.levels (items_of xs)) c.in-Some.ensures.steps ∙ next_item c.args.levels (view c.in-Some.item.now) (items_of c.next.new.self) in
+    let first = next_item c.args.levels (view c.in-Some.item.now) (items_of c.next.new.self) in
     record {
-      left = c.items.invariant.left ∙ rest ∙ ap (λ b. b && are_items_shallow c.args.levels (items_of c.next.new.self)) (sym c.is_shallow.ensures ∙ c.if-not-is_shallow.false);
+      left = rw (c.items.invariant.left, c.in-Some.ensures.steps, first, ← c.is_shallow.ensures, c.if-not-is_shallow.false) refl;
       no_deeper = omega (arith, ap (λ xs. items_depth (items_of xs)) c.in-Some.ensures.steps, c.items.invariant.no_deeper);
     }

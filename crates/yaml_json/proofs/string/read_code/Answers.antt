@@ -4,5 +4,5 @@ use Rattle.yaml_json.proofs.string.read_code.Goals as goal
 pub returns : goal.returns
 returns c =
     let is = c.in-Some.ensures.value in
-    code_read c.in-Some.character c.in_ok-a.a c.in_ok-b.b c.in_ok-c.c c.in_ok-d.d c.args.cursor.now c.read_digit.new.cursor c.read_digit-2.new.cursor c.read_digit-3.new.cursor c.read_digit-4.new.cursor
-    (c.in_ok-a.ensures {u = tt}).digit (c.in_ok-b.ensures {u = tt}).digit (c.in_ok-c.ensures {u = tt}).digit (c.in_ok-d.ensures {u = tt}).digit is.0 is.1
+    code_read (c.in_ok-a.ensures {u = tt}).digit (c.in_ok-b.ensures {u = tt}).digit (c.in_ok-c.ensures {u = tt}).digit
+    (c.in_ok-d.ensures {u = tt}).digit is.0 is.1

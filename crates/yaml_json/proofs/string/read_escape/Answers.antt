@@ -1,6 +1,4 @@
-use Rattle.yaml_json.proofs.ReadCommon.{not_taken, sym, ◌∙◌}
-use Rattle.yaml_json.proofs.TextLemmas.{took}
-use Rattle.yaml_json.proofs.StringLemmas.{short_read, short_ascii}
+use Rattle.yaml_json.proofs.Answering.{short_ascii, short_read, sym, took, ◌∙◌}
 use Rattle.yaml_json.proofs.string.read_escape.Goals as goal
 
 pub skip-requires : goal.skip-requires
@@ -12,6 +10,6 @@ skip-requires c =
 pub returns : goal.returns
 returns c =
     let ascii = short_ascii c.peek-letter.result c.in-Some.character c.in-Some.ensures in
-    let same = not_taken _ 117 _ _ c.if-take.false c.take.ensures in
-    short_read c.peek-letter.result c.in-Some.character c.args.cursor.now c.skip.new.self c.in-Some.ensures
+    let same = rw c.if-take.false at c.take.ensures in
+    short_read c.in-Some.ensures
     (sym same ∙ took c.peek-letter.result c.take.new.self c.skip.new.self c.peek-letter.ensures ascii.0 ascii.1 c.skip.ensures)

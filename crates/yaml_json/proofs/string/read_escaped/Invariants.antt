@@ -1,4 +1,4 @@
-use Rattle.yaml_json.proofs.ReadCommon.{length, string_chars}
+use Rattle.yaml_json.proofs.Answering.{length, string_chars}
 use Rattle.yaml_json.proofs.StringLemmas.{Goes}
 use Rattle.yaml_json.proofs.string.read_escaped.Given as goal
 

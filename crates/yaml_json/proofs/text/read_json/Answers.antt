@@ -1,5 +1,4 @@
-use Rattle.yaml_json.proofs.ReadCommon.{chars, IsGap, subst, true, view}
-use Rattle.yaml_json.proofs.Whole.{json_text}
+use Rattle.yaml_json.proofs.Answering.{chars, IsGap, json_text, subst, true, view}
 use Rattle.yaml_json.proofs.text.read_json.Goals as goal
 
 pub returns-in-Ok : goal.returns-in-Ok

@@ -1,5 +1,4 @@
-use Rattle.yaml_json.proofs.Common.{AreLeft, depth, items_depth, items_of, pairs_depth, pairs_of, view, ◌*◌, ◌+◌}
-use Rattle.yaml_json.proofs.LeftLemmas.{item_entries, member_entries}
+use Rattle.yaml_json.proofs.Answering.{AreLeft, depth, item_entries, items_depth, items_of, member_entries, pairs_depth, pairs_of, view, ◌*◌, ◌+◌}
 use Rattle.yaml_json.proofs.value.+write.Given as goal
 
 abbrev pub decreases-write_value : goal.decreases-write_value

@@ -1,5 +1,4 @@
-use Rattle.yaml_emitter.proofs.Common.{refl, stopped_for}
-use Rattle.yaml_emitter.proofs.ValidLemmas.{on_err}
+use Rattle.yaml_emitter.proofs.Answering.{on_err, refl, stopped_for}
 use Rattle.yaml_emitter.proofs.emitter.YamlEmitter.dump.Goals as goal
 
 pub returns-in_err-write_document-clause-begun : goal.returns-in_err-write_document-clause-begun

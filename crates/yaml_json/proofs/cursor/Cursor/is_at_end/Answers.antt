@@ -1,5 +1,4 @@
-use Rattle.yaml_json.proofs.ReadCommon.{sym, ◌∙◌}
-use Rattle.yaml_json.proofs.TextLemmas.{nothing_left}
+use Rattle.yaml_json.proofs.Answering.{nothing_left, sym, ◌∙◌}
 use Rattle.yaml_json.proofs.cursor.Cursor.is_at_end.Goals as goal
 
 pub returns : goal.returns

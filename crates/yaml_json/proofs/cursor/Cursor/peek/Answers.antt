@@ -1,5 +1,4 @@
-use Rattle.yaml_json.proofs.ReadCommon.{ap, chars, get_or, IsFirst, refl, subst, ◌∙◌}
-use Rattle.yaml_json.proofs.TextLemmas.{first_is}
+use Rattle.yaml_json.proofs.Answering.{ap, chars, first_is, get_or, IsFirst, refl, subst, ◌∙◌}
 use Rattle.yaml_json.proofs.cursor.Cursor.peek.Goals as goal
 
 pub returns-in-len1-up : goal.returns-in-len1-up

@@ -1,5 +1,4 @@
-use Rattle.yaml_json.proofs.ReadCommon.{IsAsciiFirst, subst, sym, ◌∙◌}
-use Rattle.yaml_json.proofs.TextLemmas.{cut_first, skipped}
+use Rattle.yaml_json.proofs.Answering.{cut_first, IsAsciiFirst, skipped, subst, sym, ◌∙◌}
 use Rattle.yaml_json.proofs.cursor.Cursor.skip.Goals as goal
 
 pub split_at-requires : goal.split_at-requires
