@@ -108,13 +108,18 @@ pub data Meet (J K : Account → Account → Type 0) (R : Account → Account �
 pub moved : (w v : Step) → w.separation ≡ v.separation → w.piece ≡ v.piece → w.shown ≡ v.shown → w ≡ With v w.key
 moved w v f p t = grind arith
 
+-- what is kept by each step that two ways make
+abbrev pub Keeps : (R : Account → Account → List ℕ → Type 0) → Type 0
+Keeps R =
+    (x y a b : Account) (v : Step) (c : Bool) (next : List ℕ) → IsLike x y → R x y (v.separation ++ (v.piece ++ next)) → IsWritten x v next → IsWritten y (With v c) next → account_past x v next ≡ Some a → account_past y (With v c) next ≡ Some b → R a b next
+
 -- What is kept along two ways: where an account changes, and by each step that both make.
 pub record KeepsOn (J K : Account → Account → Type 0) (R : Account → Account → List ℕ → Type 0) : Type 0 where
   pub first_like : (x y z : Account) → J x z → IsLike x y → IsLike z y
   pub second_like : (x y z : Account) → K y z → IsLike x y → IsLike x z
   pub first : (x y z : Account) (after : List ℕ) → IsLike x y → J x z → R x y after → R z y after
   pub second : (x y z : Account) (after : List ℕ) → IsLike x y → K y z → R x y after → R x z after
-  pub both : (x y a b : Account) (v : Step) (c : Bool) (next : List ℕ) → IsLike x y → R x y (v.separation ++ (v.piece ++ next)) → IsWritten x v next → IsWritten y (With v c) next → account_past x v next ≡ Some a → account_past y (With v c) next ≡ Some b → R a b next
+  pub both : Keeps R
 
 module _ (J K : Account → Account → Type 0) (R : Account → Account → List ℕ → Type 0) (keeps : KeepsOn J K R) where
   pub meet : (vs ws : List Step) (after1 after2 : List ℕ) (x y a b : Account) → IsLike x y → R x y (spelled vs after1) → LeadsBy J (Some x) vs after1 a → LeadsBy K (Some y) ws after2 b → spelled vs after1 ≡ spelled ws after2 → Holds (has_no_nul (spelled vs after1)) → Meet J K R a b after1 after2

@@ -7,16 +7,11 @@ use Rattle.proof_scanner.proofs.Refusals.Nodes.{name_told, tag_told, quoted_told
 use Rattle.proof_scanner.proofs.Refusals.Plains.{plain_told}
 use Rattle.proof_scanner.proofs.Refusals.Blocks.{block_told}
 use Rattle.proof_scanner.proofs.Refusals.Indicators.{directive_told, marker_told, document_end_told, dash_told, question_told, colon_told, opening_told, closing_told, comma_told}
-use Rattle.proof_scanner.proofs.Refusals.KeysThatWait.{end_rowless}
+use Rattle.proof_scanner.proofs.Refusals.KeysThatWait.{end_rowless, first_stays}
 use Rattle.proof_scanner.specs.Failing as defs
 use Rattle.proof_scanner.specs.NoPiece as none
 
 -- ---- outside flow
-
--- collections that go on are not right of a column
-first_stays : (col : ℕ) (bs : List ℕ) → IsNotRight (innermost (not_ended col bs)) col
-first_stays col [] = tt
-first_stays col (n ∷ ns) = grind (arith, first_stays col ns)
 
 pub levels_end : (col : ℕ) (bs : List ℕ) (awaits : Bool) (i : ℕ) (ds : List Indent) → AreLevels i ds → not_ended col bs ≡ columns i ds → (awaits && is_deeper col bs) ≡ has_open_level ds → i ≤ col + 1
 levels_end col bs aw i [] a e o = omega (arith, a)

@@ -1,7 +1,7 @@
 -- A row of a text goes through each place that a beginning of a row leads to, at an account that is like the beginning's; and its next piece stands there.
-use Rattle.proof_scanner.proofs.Common.{[], Account, account_past, ap, append-nil, Begins, begins_free_line, begins_separation, Bool, false, first_account, further_lines_stand, has_no_nul, HasRow, if◌then◌else◌, is_deep_enough, is_empty, is_gap, is_in_flow, is_indented_by_spaces, is_renewed, is_separation, IsLike, IsPlace, IsRowFrom, IsWritten, least_for, line_past_separation, List, may_precede, no_nul_after, None, on_one_line, past_piece, plain_scalar, Position, position_after, refl, Row, separations, Some, spelled, Step, subst, sym, true, up_to_nul, ℕ, ◌&&◌, ◌++◌, ◌∙◌, ◌∷◌, ◌≡◌, arith, eqb-true, nat_tests, act_of, and_parts, ends_separation, inl, inr, is_break, is_in_column, line_past, longer, may_end, not, Option, same_head, Site, site_at, waits, ◌+◌, ◌==◌, ◌≤◌, ◌⊎◌}
+use Rattle.proof_scanner.proofs.Common.{[], Account, account_past, ap, append-nil, Begins, begins_free_line, begins_separation, Bool, false, first_account, further_lines_stand, has_no_nul, HasRow, if◌then◌else◌, is_deep_enough, is_empty, is_gap, is_in_flow, is_indented_by_spaces, is_separation, IsLike, IsPlace, IsRowFrom, IsWritten, least_for, List, may_precede, no_nul_after, None, plain_scalar, Position, position_after, refl, Row, separations, Some, spelled, Step, subst, sym, true, up_to_nul, ℕ, ◌&&◌, ◌++◌, ◌∙◌, ◌∷◌, ◌≡◌, arith, eqb-true, nat_tests, act_of, and_parts, ends_separation, inl, inr, is_break, is_in_column, line_past, longer, may_end, not, Option, same_head, Site, site_at, waits, ◌+◌, ◌==◌, ◌≤◌, ◌⊎◌}
 use Rattle.proof_row.proofs.Written.{At}
-use Rattle.proof_scanner.proofs.Refusals.Common.{KeepsOn, Made, Same, Walked, With, begins_at_start, begins_past, ends_before, gap_is_separation, index_after, inside, made, outside, row_walks, step_here, still_there, strict_way}
+use Rattle.proof_scanner.proofs.Refusals.Common.{Keeps, KeepsOn, Made, Same, Walked, With, begins_at_start, begins_past, ends_before, gap_is_separation, index_after, inside, made, outside, row_walks, step_here, still_there, strict_way}
 use Rattle.proof_row.proofs.Separations.{over}
 
 -- ---- a key that waits outside flow is near as long as a row goes on: its colon is still to come, on its line, at most 1024 characters after its start
@@ -65,10 +65,6 @@ begins_with_part b [] (d ∷ part) next rest h k f e = grind (arith, over)
 begins_with_part false (c ∷ whole) (d ∷ part) next rest h k f e = grind (arith, nat_tests, eqb-true, same_head, and_parts, longer, begins_with_part (c == 35) whole part next rest)
 begins_with_part true (c ∷ whole) (d ∷ part) next rest h k f e = grind (arith, nat_tests, eqb-true, same_head, longer, begins_with_part (not (is_break c)) whole part next rest h)
 
--- what is kept by each step of a beginning that the row makes too
-abbrev pub Keeps : (P : Account → Account → List ℕ → Type 0) → Type 0
-Keeps P = (x y a b : Account) (v : Step) (c : Bool) (next : List ℕ) → IsLike x y → P x y (v.separation ++ (v.piece ++ next)) → IsWritten y (With v c) next → account_past x v next ≡ Some a → account_past y (With v c) next ≡ Some b → P a b next
-
 pub keeps_on : (P : Account → Account → List ℕ → Type 0) → Keeps P → KeepsOn Same Same P
 keeps_on a keeps = grind (arith, nat_tests, eqb-true)
 
@@ -110,13 +106,19 @@ pub record RowAt (text : List ℕ) (a : Account) (separation rest : List ℕ) (h
   pub is_clear : IsClearAfter step_at
   pub begins : Begins text (separation ++ rest) step_at.account
 
--- a step that may stand has no TAB before it
-pub no_tab_before : (b : Account) (v : Step) (after : List ℕ) (c : Account) → account_past b v after ≡ Some c → is_indented_by_spaces b.site.before b.site.blocks b.site.awaits v.separation ≡ true
-no_tab_before b v after c e =
-    let by : (t : Bool) → is_indented_by_spaces b.site.before b.site.blocks b.site.awaits v.separation ≡ t → (if t && is_deep_enough (is_in_flow b.entries) v.shown (At b v after) && further_lines_stand (least_for v.shown (At b v after)) v.shown v.piece && may_precede (is_in_flow b.entries) (At b v after).blocks v.shown v.piece after then (on_one_line v.piece (past_piece (At b v after) v.piece v.shown after (is_renewed b.site.before v.separation) v.key (line_past_separation (is_in_flow b.entries) (begins_free_line b.site.before v.separation) b.line) b.entries)) else None) ≡ Some c
-    → is_indented_by_spaces b.site.before b.site.blocks b.site.awaits v.separation ≡ true =
-    λ a i f. grind (arith, nat_tests, eqb-true) in
-    by (is_indented_by_spaces b.site.before b.site.blocks b.site.awaits v.separation) refl e
+-- What a step that may stand says of its piece.
+pub record Stood (b : Account) (v : Step) (after : List ℕ) : Type 0 where
+  pub spaced : is_indented_by_spaces b.site.before b.site.blocks b.site.awaits v.separation ≡ true
+  pub deep : is_deep_enough (is_in_flow b.entries) v.shown (At b v after) ≡ true
+  pub further : further_lines_stand (least_for v.shown (At b v after)) v.shown v.piece ≡ true
+  pub precedes : may_precede (is_in_flow b.entries) (At b v after).blocks v.shown v.piece after ≡ true
+
+pub stood : (b : Account) (v : Step) (after : List ℕ) (c : Account) → account_past b v after ≡ Some c → Stood b v after
+stood b v after c e =
+    let parts : (x y z w : Bool) (o : Option Account) → (if x && y && z && w then o else None) ≡ Some c → (x ≡ true) × (y ≡ true) × (z ≡ true) × (w ≡ true) = λ x y z w o e. grind arith in
+    let p = parts (is_indented_by_spaces b.site.before b.site.blocks b.site.awaits v.separation) (is_deep_enough (is_in_flow b.entries) v.shown (At b v after))
+    (further_lines_stand (least_for v.shown (At b v after)) v.shown v.piece) (may_precede (is_in_flow b.entries) (At b v after).blocks v.shown v.piece after) _ e in
+    record { spaced = p.0; deep = p.1; further = p.2; precedes = p.3 }
 
 -- No TAB indents what comes after a step where steps lead on to the text's end.
 clear_on : (b : Account) (ws : List Step) (last gap content : List ℕ) → IsRowFrom (Some b) ws last → spelled ws last ≡ gap ++ content → is_separation false gap content ≡ true → begins_separation content ≡ false → is_empty content ≡ false → has_no_nul content ≡ true
@@ -124,7 +126,7 @@ clear_on : (b : Account) (ws : List Step) (last gap content : List ℕ) → IsRo
 clear_on b [] last gap content row e fills solid some clean = absurd (cc (some, ap is_empty (separations last gap [] content (row.0, refl) (fills, ends_before content solid clean) (append-nil last ∙ e)).1))
 clear_on b (v ∷ vs) last gap content row e fills solid some clean =
     let c = some_row (account_past b v (spelled vs last)) vs last row.1 in
-    subst (λ f. is_indented_by_spaces b.site.before b.site.blocks b.site.awaits f ≡ true) (step_here b v (spelled vs last) gap content row.0 e fills solid clean).0 (no_tab_before b v (spelled vs last) c.0 c.1)
+    subst (λ f. is_indented_by_spaces b.site.before b.site.blocks b.site.awaits f ≡ true) (step_here b v (spelled vs last) gap content row.0 e fills solid clean).0 (stood b v (spelled vs last) c.0 c.1).spaced
 
 -- The step of a row, or of a way, that goes on from a place.
 abbrev pub step_from : (a b c : Account) (separation rest next : List ℕ) (here : Position) (w : Step) → IsLike a b → IsWritten b w next → account_past b w next ≡ Some c → w.separation ++ (w.piece ++ next) ≡ separation ++ rest
@@ -151,7 +153,7 @@ pub row_at : (text separation rest : List ℕ) (a : Account) (here : Position) (
 row_at text separation rest a here r p solid some h = by g.steps g.is_row g.spells
   where
     g : Walked (λ x y next. Begins text next y) a (separation ++ rest)
-    g = row_begins (λ x y next. Begins text next y) (λ x y b c v k next i q w e f. begins_past text _ y c (With v k) next refl w f q) text (separation ++ rest) a r (begins_at_start text) p.begins h
+    g = row_begins (λ x y next. Begins text next y) (λ x y b c v k next i q u w e f. begins_past text _ y c (With v k) next refl w f q) text (separation ++ rest) a r (begins_at_start text) p.begins h
 
     clean : has_no_nul rest ≡ true
     clean = no_nul_after separation rest g.is_clean

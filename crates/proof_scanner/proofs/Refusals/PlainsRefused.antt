@@ -1,11 +1,11 @@
 -- Where a plain scalar begins and is none, no row of the text goes on.
-use Rattle.proof_scanner.proofs.Common.{[], splits, More, append-nil, stand_after, is_gap, ◌⊎◌, inl, inr, Account, act_of, after_blank, and_parts, ap, append_assoc, are_marks, arith, before_by, before_past, begins_flow, begins_plain, begins_token, Bool, comes_plain, context_of, dashes, ends_with_content, ends_with_dash, false, flow_solid, goes_on, goes_over, has_dash_before_flow, innermost, is_adjacent, is_apart, is_at_gap, is_blanks, is_deep_enough, is_document_marker, is_flow, is_in_flow, is_indented_by_spaces, is_nul, is_whole_plain, Kind, least_column, List, may_begin, may_precede, nat_le, nat_lt, not, on_line, Option, or_true, plain_lines_fit, Position, previous_by, refl, same_flow, scalar, Site, site_at_place, site_past, Stand, stops, subst, sym, true, Whole, ℕ, ◌&&◌, ◌++◌, ◌==◌, ◌∙◌, ◌∷◌, ◌≡◌, eqb-true, nat_tests, cases_Bool, and_false, zero, ◌-◌, ◌+◌, ◌<◌, suc, length, has_break, further_on, has_tab_within, last_line, or-true, begins_separation, is_empty, kind_at, is_break, is_blank, tab_blank}
+use Rattle.proof_scanner.proofs.Common.{[], IsPlainFault, Problem, splits, More, append-nil, stand_after, is_gap, ◌⊎◌, inl, inr, Account, act_of, after_blank, and_parts, ap, append_assoc, are_marks, arith, before_by, before_past, begins_flow, begins_plain, begins_token, Bool, comes_plain, context_of, dashes, ends_with_content, ends_with_dash, false, flow_solid, goes_on, goes_over, has_dash_before_flow, innermost, is_adjacent, is_apart, is_at_gap, is_blanks, is_deep_enough, is_document_marker, is_flow, is_in_flow, is_indented_by_spaces, is_nul, is_whole_plain, Kind, least_column, List, may_begin, may_precede, nat_lt, not, on_line, Option, or_true, plain_lines_fit, Position, previous_by, refl, same_flow, scalar, Site, site_at_place, site_past, Stand, stops, subst, sym, true, Whole, ℕ, ◌&&◌, ◌++◌, ◌==◌, ◌∙◌, ◌∷◌, ◌≡◌, eqb-true, nat_tests, and_false, zero, ◌-◌, ◌+◌, ◌<◌, suc, length, has_break, further_on, has_tab_within, last_line, or-true, begins_separation, is_empty, kind_at, is_break, is_blank, tab_blank}
 use Rattle.defs_token.specs.Plain.{inside, past}
 use Rattle.proof_row.specs.Ends.{plain_scalar}
 use Rattle.proof_row.proofs.Plains.{plains}
 use Rattle.proof_row.proofs.Written.{At}
 use Rattle.proof_scanner.proofs.Refusals.OtherRows.{StepAt, IsClearGapAfter}
-use Rattle.proof_scanner.proofs.Refusals.PiecesRefused.{acct, whole_at, node_site_past, flow_is, node_site, no_depth, no_lines, no_end}
+use Rattle.proof_scanner.proofs.Refusals.PiecesRefused.{acct, whole_at, node_site_past, flow_is, node_site, node_stands, here_stood}
 use Rattle.proof_scanner.proofs.Sound.PlainKeeps.{same_innermost, no_comment}
 use Rattle.proof_row.proofs.Runs.{joined, neither}
 use Rattle.proof_scanner.proofs.Refusals.Common.{break_append, last_first, last_whole}
@@ -14,6 +14,7 @@ use Rattle.defs_text.specs.Classes as classes
 use Rattle.defs_token.specs.Account as pieces
 use Rattle.defs_token.specs.Token as tokens
 use Rattle.defs_token.specs.Step as steps
+use Rattle.proof_scanner.specs.NoPiece as none
 
 -- ---- the gap after it
 
@@ -200,37 +201,36 @@ module _ {a : Account} {separation rest : List ℕ} {here : Position} (s : StepA
   site_is : At s.account s.step s.next ≡ site_at_place a here
   site_is = node_site s (ap act_of plain_here.2)
 
-  -- its column in flow
-  pub no_column : is_in_flow a.entries ≡ true → nat_le (least_column (site_at_place a here).blocks true) here.col ≡ false → ⊥
-  no_column flow left = no_depth s (scalar tokens.plain plain_here.0) plain_here.2 refl (ap (λ b. is_deep_enough b (scalar tokens.plain plain_here.0) (site_at_place a here)) flow ∙ left)
-
   -- its piece is whole
   whole : is_whole_plain (is_in_flow a.entries) (innermost (site_at_place a here).blocks) s.step.piece s.next ≡ true
   whole = grind (arith, flow_is, site_is, same_innermost, plain_here)
 
+  -- The row's plain scalar is one, if no TAB indents what comes after it.
+  pub no_plain_stands : IsClearGapAfter s → (why : Problem) (at : Position) → IsPlainFault (is_in_flow a.entries) (site_at_place a here).blocks here rest why at → ⊥
+  -- its column in flow
+  no_plain_stands is_clear why at (none.by_column flow left) =
+      cc (ap (λ b. is_deep_enough b (scalar tokens.plain plain_here.0) (site_at_place a here)) flow ∙ left, (node_stands s (scalar tokens.plain plain_here.0) plain_here.2 refl).0)
   -- a dash before a flow indicator
-  pub no_dash : (before more : List ℕ) → is_in_flow a.entries ≡ true → rest ≡ before ++ 45 ∷ more → begins_flow more ≡ true → goes_over (is_in_flow a.entries) (innermost (site_at_place a here).blocks) before (45 ∷ more) ≡ true → is_apart (stand_after after_blank before) ≡ true → ⊥
-  no_dash [] more flow cut begins over apart =
+  no_plain_stands is_clear why at (none.by_dash [] more flow cut begins over apart) =
       let may : may_begin true (is_adjacent seen_here.before) 45 more ≡ true =
       let all : begins_plain (pieces.is_in_flow seen_here) (is_adjacent seen_here.before) seen_here.position.col (45 ∷ more) ≡ true = ap (begins_plain (pieces.is_in_flow seen_here) (is_adjacent seen_here.before) seen_here.position.col) (sym (s.text_is ∙ cut)) ∙ plain_here.1.0 in
       ap (λ b. may_begin b (is_adjacent seen_here.before) 45 more) (sym (flow_is s ∙ flow)) ∙ (and_parts (may_begin (pieces.is_in_flow seen_here) (is_adjacent seen_here.before) 45 more) (not ((seen_here.position.col == 0) && is_document_marker (45 ∷ more))) all).0 in
-      cc (may, none)
+      cc (may, none_begins)
     where
-      none : may_begin true (is_adjacent seen_here.before) 45 more ≡ false
-      none = rw begins (and_false (not (is_at_gap more)))
-  no_dash (c ∷ p) more flow cut begins over apart =
+      none_begins : may_begin true (is_adjacent seen_here.before) 45 more ≡ false
+      none_begins = rw begins (and_false (not (is_at_gap more)))
+  no_plain_stands is_clear why at (none.by_dash (c ∷ p) more flow cut begins over apart) =
       let coll : Option ℕ = innermost (site_at_place a here).blocks in
       let own : is_whole_plain true coll (c ∷ (p ++ 45 ∷ [])) more ≡ true = rw (goes_both true coll inside p (45 ∷ []) more (ap (λ b. goes_on b coll inside p (45 ∷ more)) (sym flow) ∙ over) (dash_goes coll (stand_after inside p) more begins), content_end c p, flow_stops coll inside more begins) refl in
       let same : (s.step.piece ≡ c ∷ (p ++ 45 ∷ [])) × (s.next ≡ more) = plains true coll s.step.piece (c ∷ (p ++ 45 ∷ [])) s.next more (ap (λ b. is_whole_plain b coll s.step.piece s.next) (sym flow) ∙ whole) own (s.text_is ∙ (cut ∙ ap (λ r. c ∷ r) (sym (append_assoc p (45 ∷ []) more)))) in
       let dashed_there : has_dash_before_flow s.step.piece s.next ≡ true = ap (λ x. has_dash_before_flow x s.next) same.0 ∙ (ap (λ r. has_dash_before_flow (c ∷ (p ++ 45 ∷ [])) r) same.1 ∙ rw (ends_dashed after_blank c p apart, begins) refl) in
-      no_end s
-      (ap (λ t. may_precede (is_in_flow s.account.entries) (At s.account s.step s.next).blocks t s.step.piece s.next) plain_here.2 ∙
-      (ap (λ b. not (b && has_dash_before_flow s.step.piece s.next)) (sym (same_flow a.entries s.account.entries s.is_like.2) ∙ flow) ∙ ap not dashed_there))
-
+      cc (
+        (here_stood s).precedes,
+        ap (λ t. may_precede (is_in_flow s.account.entries) (At s.account s.step s.next).blocks t s.step.piece s.next) plain_here.2 ∙
+            (ap (λ b. not (b && has_dash_before_flow s.step.piece s.next)) (sym (same_flow a.entries s.account.entries s.is_like.2) ∙ flow) ∙ ap not dashed_there),
+      )
   -- a TAB that indents a line of it, or the one after it
-  pub no_tab : (before blanks more : List ℕ) (column : ℕ) → rest ≡ before ++ 9 ∷ (blanks ++ more) → goes_over (is_in_flow a.entries) (innermost (site_at_place a here).blocks) before (9 ∷ (blanks ++ more)) ≡ true → stand_after after_blank before ≡ on_line column
-      → nat_lt column (least_column (site_at_place a here).blocks true) ≡ true → is_blanks blanks ≡ true → begins_token more ≡ true → IsClearGapAfter s → ⊥
-  no_tab before blanks more column cut over stands low are token is_clear = by s.step.piece refl (splits s.step.piece before s.next (9 ∷ (blanks ++ more)) (s.text_is ∙ cut))
+  no_plain_stands is_clear why at (none.by_tab before blanks more column cut over stands low are token) = by s.step.piece refl (splits s.step.piece before s.next (9 ∷ (blanks ++ more)) (s.text_is ∙ cut))
     where
       least : ℕ
       least = least_column (site_at_place a here).blocks true
@@ -242,7 +242,7 @@ module _ {a : Account} {separation rest : List ℕ} {here : Position} (s : StepA
       coll = innermost (site_at_place a here).blocks
 
       lines : plain_lines_fit least s.step.piece ≡ true
-      lines = elim (cases_Bool (plain_lines_fit least s.step.piece)) [ inl e ↦ e | inr e ↦ absurd (no_lines s (scalar tokens.plain plain_here.0) plain_here.2 refl e) ]
+      lines = (node_stands s (scalar tokens.plain plain_here.0) plain_here.2 refl).1
 
       past_is : s.past.site ≡ site_past (is_in_flow s.account.entries) (At s.account s.step s.next) s.step.piece s.step.shown s.next (At s.account s.step s.next).blocks
       past_is = node_site_past s.account s.step s.next s.past (ap act_of plain_here.2) s.is_past
