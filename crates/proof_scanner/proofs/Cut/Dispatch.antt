@@ -93,15 +93,6 @@ module _ (Q : Result ScannerState Fault → Type 0) (t : ScannerState) (adjacent
   unfolding class_of
   colon more e = grind (arith, nat_tests, eqb-true, plain_here, value_is)
 
-  -- an indicator outside flow, which in flow begins a plain scalar
-  bar : Reads 124
-  unfolding class_of
-  bar more e = grind (arith, plain_here)
-
-  greater : Reads 62
-  unfolding class_of
-  greater more e = grind (arith, plain_here)
-
   is_plain : (c : ℕ) → IsNone told c → token_by (class_of c) t ≡ fetch_plain_scalar t
   unfolding class_of
   is_plain c o = grind arith
@@ -115,8 +106,8 @@ module _ (Q : Result ScannerState Fault → Type 0) (t : ScannerState) (adjacent
   each c =
       each_of Reads c told (also no_nul (also (no_separation 32 refl) (also (no_separation 9 refl) (also (no_separation 10 refl)
       (also (no_separation 13 refl) (also (no_separation 35 refl) (also dash (also question (also colon (also h.comma (also h.open_bracket
-      (also h.close_bracket (also h.open_brace (also h.close_brace (also (h.anchor Alias) (also (h.anchor Anchor) (also h.tag (also bar
-      (also greater (also (h.quoted Single) (also (h.quoted Double) (also h.percent (also h.at_sign (also h.backtick tt)))))))))))))))))))))))) (other c)
+      (also h.close_bracket (also h.open_brace (also h.close_brace (also (h.anchor Alias) (also (h.anchor Anchor) (also h.tag (also (grind (arith, plain_here))
+      (also (grind (arith, plain_here)) (also (h.quoted Single) (also (h.quoted Double) (also h.percent (also h.at_sign (also h.backtick tt)))))))))))))))))))))))) (other c)
 
   pub token_holds : is_empty t.rest ≡ false → Q (fetch_token t)
   unfolding fetch_token

@@ -428,14 +428,11 @@ module _ (s : Setting) (here : Position) (rest : List ℕ) where
   none_reason why at (none.headless style line next reason place out e one ends lacks n) f = (block_scalar, ap (λ r. kind_here s here.col r) e ∙ block_kind s here.col style (line ++ next) out, headless style line next reason place e one ends lacks n f)
   none_reason why at (none.undirected line next reason place col e one ends lacks r) f = (directive_line, ap (λ z. kind_here s here.col z) e, inr (line, next, col, e, one, ends, r))
 
-  block_begins_here : s.in_flow ≡ false → (piece next : List ℕ) → rest ≡ piece ++ next → begins_block piece ≡ true → kind_here s here.col rest ≡ block_scalar
-  block_begins_here out a next e h = grind (arith, block_scalar, eqb-true, block_kind, literal, folded)
-
   block_at : s.in_flow ≡ false → (why : Problem) (at : Position) → IsBlockFault s.blocks here rest why at → kind_here s here.col rest ≡ block_scalar
   block_at out why at (none.by_tab piece header more h cut one is) =
       let first = first_char piece header h (sym (line_is piece) ∙ ap (λ z. first_line z.complete z.last) one) is in
       ap (λ r. kind_here s here.col r) (cut ∙ ap (λ p. p ++ tab ∷ more) first.2) ∙ block_kind s here.col first.0 (first.1 ++ tab ∷ more) out
-  block_at out why at (none.by_column piece header next more b cut is further_text lines_are empty deep left) = block_begins_here out piece next cut (block_begins (innermost s.blocks) piece next b is)
+  block_at out why at (none.by_column piece header next more b cut is further_text lines_are empty deep left) = grind (arith, block_scalar, eqb-true, block_kind, literal, folded, out, cut, (block_begins (innermost s.blocks) piece next b is))
 
   followed_reason : (why : Problem) (at : Position) (n : IsFollowed s.in_flow here rest why at) → followed_first s.in_flow (least_column s.blocks s.awaits) s.taken s.full here rest why at n → OfKind why at
   unfolding is_blank_or_end is_blank is_break is_nul is_flow are_marks

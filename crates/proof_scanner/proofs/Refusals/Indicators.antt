@@ -269,12 +269,9 @@ module _ (text : List ℕ) (t : ScannerState) (a : Arrives text t) (some : is_em
     takes : takes_pair first.kind first.pair ≡ true
     had_is : first.had ≡ entry.waits k.position
 
-  single_key : (allowed again : Bool) (fs : List FlowLevel) (ks : List (Option Key)) (es : List Entry) (k : Key) → AreEntries allowed again fs ks es → opens_pair fs ≡ true → top_key ks ≡ Some k → SingleKey k (entries_by (true ∷ []) ks es)
-  single_key allowed again a ks es k h o e = grind arith
-
   misplaced : (more : List ℕ) → t.rest ≡ 58 ∷ more → colon_may_precede more ≡ true → is_value t ≡ true → (k : Key) → top_key t.held.keys ≡ Some k → opens_pair t.held.flow ≡ true → nat_lt k.position.line t.held.position.line ≡ true → Said text (At ColonMisplaced t.held.position)
   misplaced more e apart i k top opens late = λ _.
-      let s : SingleKey k (entries_by (true ∷ []) t.held.keys a.base.entries) = single_key t.held.key_allowed _ t.held.flow t.held.keys a.base.entries k a.are_entries opens top in
+      let s : SingleKey k (entries_by (true ∷ []) t.held.keys a.base.entries) = grind (arith, a.are_entries, opens, top) in
       stuck text t a some (true ∷ []) ColonMisplaced t.held.position (λ c may.
       record { fails = may_not_stand (defs.key_on_earlier_line more k.position s.first s.around e (value_here more e i c (true ∷ [])) s.are s.takes s.had_is (grind (arith, nat_tests, late))); is_first = (looked_at text t a some lies c (true ∷ []), apart) })
 

@@ -161,14 +161,10 @@ fetch_near t started = either t.held.started (λ _. next_near t) (λ n. absurd (
 
 -- ---- TABs
 
--- no key waits behind where it is near
-far_behind : (k p : Position) → is_far k p ≡ false → k.line < p.line → ⊥
-unfolding is_far
-far_behind k p h late = grind arith
-
 module _ (text : List ℕ) (t : ScannerState) (s : Stands text t) (near : HasNear t.held) where
   -- a TAB indents the line of what comes next
   tab_stuck : {f : Fault} → TabStands s.base.site.blocks s.base.site.awaits s.base.site.before s.separation t.rest t.held.position f → Said text f
+  unfolding is_far
   tab_stuck d = rw d.is_fault (λ _. by (where_is (outside_key s.base.entries t.held.keys) t.held.position t.rest d.is_some))
     where
       here : Position
@@ -208,7 +204,7 @@ module _ (text : List ℕ) (t : ScannerState) (s : Stands text t) (near : HasNea
       by (behind x e must late) = elim (cases_Bool (is_empty t.held.flow)) [
         | inl out ↦
             let none : s.base.entries ≡ [] = no_entries t.held.key_allowed (is_renewed s.base.site.before s.separation) t.held.flow t.held.keys s.base.entries out s.are_entries in
-            absurd (far_behind x.position t.held.position (near out x (ap (λ es. outside_key es t.held.keys) (sym none) ∙ e)) late)
+            absurd (grind (arith, (near out x (ap (λ es. outside_key es t.held.keys) (sym none) ∙ e)), late))
         | inr i ↦
             let later = (not_before_after t.held.position d.passed d.rest).0 in
             let inside : is_empty s.base.entries ≡ false = sym (same_flow t.held.key_allowed (is_renewed s.base.site.before s.separation) t.held.flow t.held.keys s.base.entries s.are_entries) ∙ i in

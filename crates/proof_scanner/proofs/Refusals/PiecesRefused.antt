@@ -60,11 +60,8 @@ no_tab_before more passed a on tab_there begins = grind (arith, nat_tests, eqb-t
 
 -- ---- the site after a part of a node
 
-made_site : (s : Site) (l : Line) (es : List Entry) (w : Step) (next : List ℕ) (b : Account) → act_of w.shown ≡ gives_node → Made s l es w next b → b.site ≡ site_past (is_in_flow es) (At (with_entries s l es) w next) w.piece w.shown next (At (with_entries s l es) w next).blocks
-made_site s l a w d b act e = grind arith
-
 pub node_site_past : (a : Account) (w : Step) (next : List ℕ) (b : Account) → act_of w.shown ≡ gives_node → account_past a w next ≡ Some b → b.site ≡ site_past (is_in_flow a.entries) (At a w next) w.piece w.shown next (At a w next).blocks
-node_site_past a w next b act e = made_site a.site a.line a.entries w next b act (made a.site a.line a.entries w next b e)
+node_site_past a w next b act e = grind (arith, act, (made a.site a.line a.entries w next b e))
 
 -- ---- lines and accounts
 
