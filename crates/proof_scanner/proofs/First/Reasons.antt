@@ -291,26 +291,6 @@ AreSame why1 why2 at1 at2 = (why1 ≡ why2) × (at1 ≡ at2)
 
 -- ---- what is passed on a line
 
--- ---- `-`
-
-abbrev pub DashReason : Setting → Position → List ℕ → Problem → Position → Type 0
-DashReason s here rest why at =
-    ((s.in_flow ≡ true) × (why ≡ BlockEntryInFlow) × (at ≡ here)) ⊎
-    (((s.in_flow ≡ false) × (s.taken ≡ true) × (why ≡ BlockEntryNotAllowed) × (at ≡ here)) ⊎
-    ((s.in_flow ≡ false) × (s.taken ≡ false) × (more : List ℕ) × (passed : List ℕ) × (content : List ℕ) × (rest ≡ 45 ∷ more) × GoesOn more passed content ×
-    (begins_entry content ≡ true) × (why ≡ TabAfterDash) × (at ≡ position_after (further 1 here) passed content)))
-
--- ---- `?`
-
-abbrev pub QuestionReason : Setting → Position → List ℕ → Problem → Position → Type 0
-QuestionReason s here rest why at =
-    ((may_ask s.in_flow s.taken ≡ false) × (why ≡ KeyNotAllowed) × (at ≡ here)) ⊎
-    (((may_ask s.in_flow s.taken ≡ true) × (more : List ℕ) × (rest ≡ 63 ∷ more) × (begins_with_space_or_break more ≡ false) × (why ≡ WhitespaceExpected) ×
-    (at ≡ further 1 here)) ⊎
-    ((may_ask s.in_flow s.taken ≡ true) × (more : List ℕ) × (passed : List ℕ) × (content : List ℕ) × (rest ≡ 63 ∷ more) × (begins_with_space_or_break more ≡ true) ×
-    (has_tab_before_piece false passed ≡ false) × (more ≡ passed ++ 9 ∷ content) × (is_separation false passed (9 ∷ content) ≡ true) ×
-    (why ≡ TabAfterKey) × (at ≡ position_after (further 1 here) passed (9 ∷ content))))
-
 -- the first TAB outside comments is one
 pub first_tab : (in_comment : Bool) (p q x y : List ℕ) → p ++ 9 ∷ x ≡ q ++ 9 ∷ y → is_separation in_comment p (9 ∷ x) ≡ true → is_separation in_comment q (9 ∷ y) ≡ true → has_tab_before_piece in_comment p ≡ false → has_tab_before_piece in_comment q ≡ false → (p ≡ q) × (x ≡ y)
 unfolding is_blank is_break is_nul
@@ -320,14 +300,6 @@ first_tab b (c ∷ p) [] x y e f g h k = grind arith
 first_tab true (c ∷ p) (d ∷ q) x y e f g h k = grind (arith, nat_tests, eqb-true, first_tab (not (is_break c)) p q x y)
 first_tab false (c ∷ p) (d ∷ q) x y e f g h k = grind (arith, nat_tests, eqb-true, first_tab (c == 35) p q x y)
 
--- ---- `:`
-
-abbrev pub ColonReason : Setting → Position → List ℕ → Problem → Position → Type 0
-ColonReason s here rest why at =
-    ((more : List ℕ) × (s.in_flow ≡ true) × (rest ≡ 58 ∷ more) × (colon_may_precede more ≡ true) × (why ≡ ColonMisplaced) × (at ≡ here)) ⊎
-    ((more : List ℕ) × (passed : List ℕ) × (content : List ℕ) × (rest ≡ 58 ∷ more) × (colon_may_precede more ≡ false) × GoesOn more passed content ×
-    (begins_with_alpha content ≡ true) × (why ≡ TabAfterColon) × (at ≡ position_after (further 1 here) passed content))
-
 -- ---- brackets and commas
 
 abbrev pub BracketReason : Setting → Position → List ℕ → Problem → Position → Type 0
@@ -335,44 +307,40 @@ BracketReason s here rest why at =
     (c : ℕ) × (more : List ℕ) × (rest ≡ c ∷ more) × ((((opens c && s.full) ≡ true) × (why ≡ FlowTooDeep) × (at ≡ here)) ⊎
     (((opens c && s.full) ≡ false) × (why ≡ CommentNotSeparated) × (at ≡ further 1 here)))
 
--- ---- `...`
-
-abbrev pub DotsReason : Position → List ℕ → Problem → Position → Type 0
-DotsReason here rest why at =
-    (more : List ℕ) × (passed : List ℕ) × (content : List ℕ) × (rest ≡ 46 ∷ 46 ∷ 46 ∷ more) × GoesOn more passed content × (begins_separation content ≡ false) ×
-    (why ≡ ContentAfterDocumentEnd) × (at ≡ position_after (further 3 here) passed content)
-
 -- ---- the reasons at one kind of piece
 
--- a name is missing
-abbrev pub NameReason : Position → Problem → Position → Type 0
-NameReason here why at = (why ≡ AnchorName) × (at ≡ here)
-
-abbrev pub TagReason : (in_flow : Bool) → Position → List ℕ → Problem → Position → Type 0
-TagReason in_flow here rest why at = (more : List ℕ) × (rest ≡ 33 ∷ more) × IsTagRefusal in_flow more why × (at ≡ here)
-
-abbrev pub DirectiveReason : Position → List ℕ → Problem → Position → Type 0
-DirectiveReason here rest why at =
+abbrev pub InKind : Kind → Setting → Position → List ℕ → Problem → Position → Type 0
+-- a reserved indicator
+InKind nothing s here rest why at =
+    (more : List ℕ) × (at ≡ here) × (((rest ≡ 64 ∷ more) × (why ≡ UnexpectedAt)) ⊎ ((rest ≡ 96 ∷ more) × (why ≡ UnexpectedBacktick)))
+InKind plain_scalar s here rest why at = PlainReason s.in_flow s.blocks here rest why at
+InKind question s here rest why at =
+    ((may_ask s.in_flow s.taken ≡ false) × (why ≡ KeyNotAllowed) × (at ≡ here)) ⊎
+    (((may_ask s.in_flow s.taken ≡ true) × (more : List ℕ) × (rest ≡ 63 ∷ more) × (begins_with_space_or_break more ≡ false) × (why ≡ WhitespaceExpected) ×
+    (at ≡ further 1 here)) ⊎
+    ((may_ask s.in_flow s.taken ≡ true) × (more : List ℕ) × (passed : List ℕ) × (content : List ℕ) × (rest ≡ 63 ∷ more) × (begins_with_space_or_break more ≡ true) ×
+    (has_tab_before_piece false passed ≡ false) × (more ≡ passed ++ 9 ∷ content) × (is_separation false passed (9 ∷ content) ≡ true) ×
+    (why ≡ TabAfterKey) × (at ≡ position_after (further 1 here) passed (9 ∷ content))))
+InKind colon s here rest why at =
+    ((more : List ℕ) × (s.in_flow ≡ true) × (rest ≡ 58 ∷ more) × (colon_may_precede more ≡ true) × (why ≡ ColonMisplaced) × (at ≡ here)) ⊎
+    ((more : List ℕ) × (passed : List ℕ) × (content : List ℕ) × (rest ≡ 58 ∷ more) × (colon_may_precede more ≡ false) × GoesOn more passed content ×
+    (begins_with_alpha content ≡ true) × (why ≡ TabAfterColon) × (at ≡ position_after (further 1 here) passed content))
+InKind dash s here rest why at =
+    ((s.in_flow ≡ true) × (why ≡ BlockEntryInFlow) × (at ≡ here)) ⊎
+    (((s.in_flow ≡ false) × (s.taken ≡ true) × (why ≡ BlockEntryNotAllowed) × (at ≡ here)) ⊎
+    ((s.in_flow ≡ false) × (s.taken ≡ false) × (more : List ℕ) × (passed : List ℕ) × (content : List ℕ) × (rest ≡ 45 ∷ more) × GoesOn more passed content ×
+    (begins_entry content ≡ true) × (why ≡ TabAfterDash) × (at ≡ position_after (further 1 here) passed content)))
+InKind dashes s here rest why at = ⊥
+InKind dots s here rest why at =
+    (more : List ℕ) × (passed : List ℕ) × (content : List ℕ) × (rest ≡ 46 ∷ 46 ∷ 46 ∷ more) × GoesOn more passed content × (begins_separation content ≡ false) ×
+    (why ≡ ContentAfterDocumentEnd) × (at ≡ position_after (further 3 here) passed content)
+InKind directive_line s here rest why at =
     (((here.col == 0) ≡ false) × (why ≡ UnexpectedPercent) × (at ≡ here)) ⊎
     ((line : List ℕ) × (next : List ℕ) × (here.col ≡ 0) × (rest ≡ 37 ∷ (line ++ next)) × (has_no_break line ≡ true) × (directives.ends_line next ≡ true) × IsDirectiveRefusal here line (At why at))
-
--- a reserved indicator
-abbrev pub ReservedReason : Position → List ℕ → Problem → Position → Type 0
-ReservedReason here rest why at =
-    (more : List ℕ) × (at ≡ here) × (((rest ≡ 64 ∷ more) × (why ≡ UnexpectedAt)) ⊎ ((rest ≡ 96 ∷ more) × (why ≡ UnexpectedBacktick)))
-
-abbrev pub InKind : Kind → Setting → Position → List ℕ → Problem → Position → Type 0
-InKind nothing s here rest why at = ReservedReason here rest why at
-InKind plain_scalar s here rest why at = PlainReason s.in_flow s.blocks here rest why at
-InKind question s here rest why at = QuestionReason s here rest why at
-InKind colon s here rest why at = ColonReason s here rest why at
-InKind dash s here rest why at = DashReason s here rest why at
-InKind dashes s here rest why at = ⊥
-InKind dots s here rest why at = DotsReason here rest why at
-InKind directive_line s here rest why at = DirectiveReason here rest why at
-InKind alias_name s here rest why at = NameReason here why at
-InKind anchor_name s here rest why at = NameReason here why at
-InKind tag_text s here rest why at = TagReason s.in_flow here rest why at
+-- a name is missing
+InKind alias_name s here rest why at = (why ≡ AnchorName) × (at ≡ here)
+InKind anchor_name s here rest why at = (why ≡ AnchorName) × (at ≡ here)
+InKind tag_text s here rest why at = (more : List ℕ) × (rest ≡ 33 ∷ more) × IsTagRefusal s.in_flow more why × (at ≡ here)
 InKind in_single_quotes s here rest why at = QuotedReason (least_column s.blocks s.awaits) here rest why at
 InKind in_double_quotes s here rest why at = QuotedReason (least_column s.blocks s.awaits) here rest why at
 InKind block_scalar s here rest why at = BlockReason s.blocks here rest why at
@@ -498,7 +466,7 @@ colon_alone a b like separation more here is out seen apart why at x =
     at_colon : (n : List ℕ) → 58 ∷ more ≡ 58 ∷ n → more ≡ n
     at_colon n e = cc e
 
-    none_here : (why : Problem) (at : Position) → ColonReason own here (58 ∷ more) why at → ⊥
+    none_here : (why : Problem) (at : Position) → InKind colon own here (58 ∷ more) why at → ⊥
     none_here why at h = grind (arith, nat_tests, eqb-true, out, apart, colon_may_precede, at_colon)
 
 -- ---- one reason

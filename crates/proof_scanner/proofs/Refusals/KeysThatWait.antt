@@ -214,43 +214,39 @@ texts_with_a_row_are_not_stuck text why at r row (key_waits a separation rest wh
 some_past : (o : Option Account) (ws : List Step) (after : List ℕ) (b : Account) → Leads o ws after b → (c : Account) × (o ≡ Some c) × Leads (Some c) ws after b
 some_past o ws after b h = grind (arith, nat_tests, eqb-true)
 
-leads_waiting : (ws : List Step) (after : List ℕ) (a b : Account) → Waiting a.line a.site → Leads (Some a) ws after b → Waiting b.line b.site
-leads_waiting [] after a b on e = rw (sym e) on
-leads_waiting (w ∷ ws) after a b on h =
+-- what each step keeps, a beginning does
+along : (P : Account → List ℕ → Type 0) → ((x y : Account) (w : Step) (next : List ℕ) → P x (w.separation ++ (w.piece ++ next)) → IsWritten x w next → account_past x w next ≡ Some y → P y next)
+    → (ws : List Step) (after : List ℕ) (a b : Account) → P a (spelled ws after) → Leads (Some a) ws after b → P b after
+along P keeps [] after a b p e = subst (λ x. P x after) e p
+along P keeps (w ∷ ws) after a b p h =
     let c = some_past (account_past a w (spelled ws after)) ws after b h.1 in
-    leads_waiting ws after c.0 b (waiting_past a.site a.line a.entries w (spelled ws after) c.0 on h.0 c.1) c.2
+    along P keeps ws after c.0 b (keeps a c.0 w (spelled ws after) p h.0 c.1) c.2
 
 -- each beginning of a row is on the line of its key that waits
 begins_waiting : (text after : List ℕ) (b : Account) → Begins text after b → Waiting b.line b.site
-begins_waiting text after b g = leads_waiting g.steps after first_account b (λ q e. absurd (cc e)) g.leads
+begins_waiting text after b g = along (λ x _. Waiting x.line x.site) (λ x y w next p. waiting_past x.site x.line x.entries w next y p) g.steps after first_account b (λ q e. absurd (cc e)) g.leads
 
 -- ---- positions
 
--- the text of steps, without what comes after them
-before_is : (ws : List Step) (after : List ℕ) → spelled ws after ≡ spelled ws [] ++ after
-before_is [] after = refl
-before_is (w ∷ ws) after = grind (arith, append_assoc, before_is ws after)
+further_in : (text f rest : List ℕ) (p : Position) → IsPositionIn text (f ++ rest) p → IsPositionIn text rest (position_after p f rest)
+further_in text f rest p at = record {
+  before = at.before ++ f;
+  is_text = at.is_text ∙ sym (append_assoc at.before f rest);
+  is_position = ap (λ q. position_after q f rest) at.is_position ∙ sym (position_append first_position at.before f rest);
+}
 
-leads_position : (ws : List Step) (after : List ℕ) (a b : Account) → Leads (Some a) ws after b → b.site.position ≡ position_after a.site.position (spelled ws []) after
-leads_position [] after a b e = ap (λ (x : Account). x.site.position) (sym e)
-leads_position (w ∷ ws) after a b h =
-    let c = some_past (account_past a w (spelled ws after)) ws after b h.1 in
-    let rest : List ℕ = spelled ws [] in
-    let here : Position = position_after a.site.position w.separation (w.piece ++ (rest ++ after)) in
-    leads_position ws after c.0 b c.2 ∙ ap (λ p. position_after p rest after) (place c.0 (made a.site a.line a.entries w (spelled ws after) c.0 c.1)) ∙
-    ap (λ x. position_after (position_after (position_after a.site.position w.separation (w.piece ++ x)) w.piece x) rest after) (before_is ws after) ∙ sym (position_append here w.piece rest after) ∙
-    ap (λ x. position_after (position_after a.site.position w.separation x) (w.piece ++ rest) after) (sym (append_assoc w.piece rest after)) ∙ sym (position_append a.site.position w.separation (w.piece ++ rest) after)
-  where
-    place : (c : Account) → Made a.site a.line a.entries w (spelled ws after) c → c.site.position ≡ position_after (position_after a.site.position w.separation (w.piece ++ spelled ws after)) w.piece (spelled ws after)
-    place c h = grind (arith, nat_tests, eqb-true, outside, inside)
+place_past : (text : List ℕ) (x y : Account) (w : Step) (next : List ℕ) → IsPositionIn text (w.separation ++ (w.piece ++ next)) x.site.position → account_past x w next ≡ Some y → IsPositionIn text next y.site.position
+place_past text x y w next at e =
+    let place : Made x.site x.line x.entries w next y → y.site.position ≡ position_after (position_after x.site.position w.separation (w.piece ++ next)) w.piece next = λ h. grind (arith, nat_tests, eqb-true, outside, inside) in
+    subst (IsPositionIn text next) (sym (place (made x.site x.line x.entries w next y e))) (further_in text w.piece next _ (further_in text w.separation (w.piece ++ next) x.site.position at))
 
 -- A separation after a beginning of a row ends where the scanner is, before the same text.
 same_place : (text separation rest : List ℕ) (p : Position) (b : Account) → has_no_nul text ≡ true → IsPositionIn text rest p → Begins text (separation ++ rest) b → p ≡ position_after b.site.position separation rest
 same_place text separation rest p b nul at g =
-    let before : List ℕ = spelled g.steps [] in
-    let all : at.before ++ rest ≡ (before ++ separation) ++ rest = sym at.is_text ∙ (sym (whole_text text nul) ∙ (sym g.spells ∙ (before_is g.steps (separation ++ rest) ∙ sym (append_assoc before separation rest)))) in
-    at.is_position ∙ (ap (λ x. position_after first_position x rest) (append_cancel_right at.before (before ++ separation) rest all) ∙
-    (position_append first_position before separation rest ∙ ap (λ q. position_after q separation rest) (sym (leads_position g.steps (separation ++ rest) first_account b g.leads))))
+    let begin : IsPositionIn text (spelled g.steps (separation ++ rest)) first_position = record { before = []; is_text = sym (whole_text text nul) ∙ sym g.spells; is_position = refl } in
+    let there : IsPositionIn text rest (position_after b.site.position separation rest) = further_in text separation rest b.site.position
+    (along (λ x next. IsPositionIn text next x.site.position) (λ x y w next h k e. place_past text x y w next h e) g.steps (separation ++ rest) first_account b begin g.leads) in
+    at.is_position ∙ (ap (λ x. position_after first_position x rest) (append_cancel_right at.before there.before rest (sym at.is_text ∙ there.is_text)) ∙ sym there.is_position)
 
 -- While a key waits in the row, each part of the separation there ends on the key's line, and near.
 near_there : (text after : List ℕ) (q : Position) (g : GoesThrough text after) → g.account.line ≡ waits q → (separation rest : List ℕ) → after ≡ separation ++ rest → is_separation false separation rest ≡ true → is_far q (position_after g.account.site.position separation rest) ≡ false
