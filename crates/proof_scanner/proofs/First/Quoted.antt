@@ -99,8 +99,7 @@ module _ (least : ℕ) (here : Position) (rest : List ℕ) where
 
   pub after_quoted : (single : Bool) (piece more passed content : List ℕ) → rest ≡ piece ++ more → IsQuoted single piece more → GoesOn more passed content → begins_separation content ≡ false → closed_first single least piece × (begins_with 35 more ≡ false)
       → QuotedReason ContentAfterQuoted (position_after (position_after here piece more) passed content)
-  after_quoted single piece more passed left e is on solid first =
-      closed single piece more _ _ e is first.0 (inr (first.1, passed, left, on.is_text, on.is_filled, solid, rw (sym (same_has_break passed) ∙ on.is_on_line) refl, refl))
+  after_quoted single piece more passed left e is on solid first = grind (arith, nat_tests, eqb-true, closed, same_has_break)
 
   -- a TAB indents a line of its own
   own_line : (blocks : List ℕ) (awaits : Bool) (gap : List ℕ) → is_indented_by_spaces quoted_scalar blocks awaits gap ≡ false → has_break gap ≡ true
@@ -108,8 +107,7 @@ module _ (least : ℕ) (here : Position) (rest : List ℕ) where
 
   pub tab_after_quoted : (single : Bool) (piece gap content : List ℕ) (blocks : List ℕ) (awaits : Bool) → rest ≡ piece ++ (gap ++ content) → IsQuoted single piece (gap ++ content) → is_separation false gap content ≡ true → begins_separation content ≡ false
       → is_indented_by_spaces quoted_scalar blocks awaits gap ≡ false → closed_first single least piece → begins_with 35 (gap ++ content) ≡ false → QuotedReason TabInBlockIndentation (position_after (position_after here piece (gap ++ content)) gap content)
-  tab_after_quoted single piece gap left blocks awaits e is fills solid indents fit free =
-      closed single piece (gap ++ left) _ _ e is fit (inr (free, gap, left, refl, fills, solid, rw (own_line blocks awaits gap indents) refl, refl))
+  tab_after_quoted single piece gap left blocks awaits e is fills solid indents fit free = grind (arith, nat_tests, eqb-true, closed, own_line)
 
   -- What is wrong first with a quoted scalar is one thing at one position.
   pub one_quoted : has_no_nul rest ≡ true → (why1 why2 : Problem) (at1 at2 : Position) → QuotedReason why1 at1 → QuotedReason why2 at2 → (why1 ≡ why2) × (at1 ≡ at2)

@@ -1,9 +1,27 @@
 -- A beginning of a row that goes on past a place does so by the step that was read there, from a beginning up to there; and where a piece begins, a way leads.
-use Rattle.proof_scanner.proofs.Common.{[], Account, account_past, ap, arith, Begins, Bool, chosen, clean_up_to_end, Entry, false, first_account, FlowLevel, GoesThrough, has_no_nul, HasRow, is_empty, is_separation, IsLike, IsRowFrom, IsWritten, Key, Leads, length, length-append, line_by, List, may_end, no_nul_after, None, not, Option, outside_key, refl, Row, same_written, ScannerState, Some, spelled, Step, subst, sym, true, up_to_nul, ℕ, ◌++◌, ◌<◌, ◌∙◌, ◌∷◌, ◌≡◌, ◌≤◌}
+use Rattle.proof_scanner.proofs.Common.{[], Account, account_past, ap, arith, Begins, Bool, chosen, clean_up_to_end, Entry, false, first_account, FlowLevel, GoesThrough, has_no_nul, HasRow, is_empty, is_separation, IsLike, IsRowFrom, IsWritten, Key, Leads, length, length-append, line_by, List, may_end, no_nul_after, None, not, Option, outside_key, refl, Row, same_written, ScannerState, Some, spelled, Step, subst, sym, true, up_to_nul, ℕ, ◌++◌, ◌<◌, ◌∙◌, ◌∷◌, ◌≡◌, ◌≤◌, begins_separation, ends_separation, is_blank_or_end, no_piece_at_end, not_empty, seen, separations, separations_end_before, shown_position}
 use Rattle.defs_token.specs.Piece.{Holds}
 use Rattle.proof_scanner.proofs.Known.Ways.{first_on, gives_up_like, GivesUp, KeepsOn, LeadsBy, Meet, meet, moved, Same, same_place, second_on, strict_way, strictly, Way, way_but_for_key, way_of, With}
 use Rattle.proof_scanner.proofs.Sound.Common.{ArrivesBy, begins_at_start, begins_past, none_chosen, not_none, with_entries}
-use Rattle.proof_scanner.proofs.Known.Places.{at_end}
+use Rattle.proof_row.proofs.Written.{At}
+
+-- what begins no separation ends one
+pub ends_before : (r : List ℕ) → begins_separation r ≡ false → has_no_nul r ≡ true → ends_separation r ≡ true
+unfolding is_blank_or_end
+ends_before r s h = grind arith
+
+-- the separation of a written step ends before its piece
+pub piece_ends : (a : Account) (w : Step) (next : List ℕ) → IsWritten a w next → ends_separation (w.piece ++ next) ≡ true
+piece_ends a w next h = separations_end_before (seen a (At a w next) w.separation) w.piece next None (shown_position (At a w next) w.piece w.shown next) w.shown (not_empty w.piece h.1.0) h.1.1
+
+-- Where a separation was passed and a piece begins, the next step has this separation, and its piece stands here.
+pub step_here : (a : Account) (w : Step) (next separation rest : List ℕ) → IsWritten a w next → w.separation ++ (w.piece ++ next) ≡ separation ++ rest → is_separation false separation rest ≡ true → begins_separation rest ≡ false → has_no_nul rest ≡ true →
+    (w.separation ≡ separation) × (w.piece ++ next ≡ rest)
+step_here a w next separation rest written e f s n = separations w.separation separation (w.piece ++ next) rest (written.0, piece_ends a w next written) (f, ends_before rest s n) e
+
+-- no step begins in the separation at a text's end
+pub at_end : (b : Account) (v : Step) (f next : List ℕ) → is_separation false f [] ≡ true → IsWritten b v next → f ≡ v.separation ++ (v.piece ++ next) → ⊥
+at_end b v f a h k e = grind (arith, no_piece_at_end, not_empty)
 
 -- ---- lengths
 

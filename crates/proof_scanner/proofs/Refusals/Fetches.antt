@@ -3,8 +3,7 @@ use Rattle.proof_scanner.proofs.Common.{ap, are_marks, arith, Arrives, At, befor
 use Rattle.model_scanner.specs.declared.kind.Collection.TheVariants.{Sequence, Mapping}
 use Rattle.model_scanner.specs.State.{after}
 use Rattle.proof_scanner.proofs.Refusals.Common.{Faults, IsDeep, IsRowless, IsWhy, LiesDeep, Said, content_holds, either, fault, goes_on_here, no_end, none_here, rowless_told, stuck_by, token_holds, tried}
-use Rattle.proof_scanner.proofs.Refusals.Nodes.{name_told, tag_told, quoted_told}
-use Rattle.proof_scanner.proofs.Refusals.Plains.{plain_told}
+use Rattle.proof_scanner.proofs.Refusals.Nodes.{name_told, plain_told, tag_told, quoted_told}
 use Rattle.proof_scanner.proofs.Refusals.Blocks.{block_told}
 use Rattle.proof_scanner.proofs.Refusals.Indicators.{directive_told, marker_told, document_end_told, dash_told, question_told, colon_told, opening_told, closing_told, comma_told}
 use Rattle.proof_scanner.proofs.Refusals.KeysThatWait.{end_rowless, first_stays}

@@ -177,8 +177,7 @@ module _ (text : List ℕ) (t : ScannerState) (a : Arrives text t) (some : is_em
   line_read more p x none k = let exact = spaced_parted more p none in cc (exact, k)
 
   begins_entry_here : (r : List ℕ) → (slice_index r 0 == 45) ≡ true → is_blank_or_breakz (slice_index r 1) ≡ true → begins_entry r ≡ true
-  begins_entry_here [] h i = absurd (cc h)
-  begins_entry_here (c ∷ r) h i = rw (eqb-true c 45 h) (sym (gap_here r) ∙ i)
+  begins_entry_here a h i = grind (arith, nat_tests, eqb-true, gap_here)
 
   dash_checked : (more : List ℕ) → t.rest ≡ 45 ∷ more → is_at_gap more ≡ true → in_flow t.held ≡ false → t.held.key_allowed ≡ true → (h : Held) → h.position ≡ past t.held.position → (x : Read Whitespace) → space Yes more h.position ≡ Ok x → Faults (Said text) (check_dash x.value (go_on x h))
   unfolding check_dash

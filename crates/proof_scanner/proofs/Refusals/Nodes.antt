@@ -1,6 +1,6 @@
--- Faults of names, tags and scalars: no such piece begins with the text.
-use Rattle.proof_scanner.proofs.Common.{anchor_name, and_parts, ap, are_single, Arrives, context, false, Fault, fetch_anchor, fetch_flow_scalar, fetch_tag, has_no_nul, in_flow, is_empty, is_nul, List, mark_of, NameKind, names_end, node_start, not, Ok, quoted, Quotes, Read, refused_as, ScannerState, subst, sym, tags_end, true, ℕ, ◌∙◌, ◌∷◌, ◌≡◌, [], append_assoc, Bool, check_after_quoted, columns, Context, has_break, has_open_level, held_of, inr, is_indented_by_spaces, is_separation, may_not_stand, no_nul_after, Position, position_after, position_append, quoted_scalar, site_at_place, skip_to_next_token, ◌++◌, arith, eqb-true, nat_tests, AnchorName, TabInBlockIndentation, Alias, Anchor}
-use Rattle.proof_scanner.proofs.Refusals.Common.{Checked, Faults, IsDeep, LiesDeep, QuotedAs, Said, account_by, awaits_by, blocks_by, goes, in_line, in_turn, least_by, least_is, looked_at, mapped, none_here, quoted_as, quoted_checked, read, same_has_break, saved_is, separation_append, stuck}
+-- Faults of names, tags, plain and quoted scalars: no such piece begins with the text.
+use Rattle.proof_scanner.proofs.Common.{anchor_name, and_parts, ap, are_single, Arrives, context, false, Fault, fetch_anchor, fetch_flow_scalar, fetch_tag, has_no_nul, in_flow, is_empty, is_nul, List, mark_of, NameKind, names_end, node_start, not, Ok, quoted, Quotes, Read, refused_as, ScannerState, subst, sym, tags_end, true, ℕ, ◌∙◌, ◌∷◌, ◌≡◌, [], append_assoc, Bool, check_after_quoted, columns, Context, has_break, has_open_level, held_of, inr, is_indented_by_spaces, is_separation, may_not_stand, no_nul_after, Position, position_after, position_append, quoted_scalar, site_at_place, skip_to_next_token, ◌++◌, arith, eqb-true, nat_tests, AnchorName, TabInBlockIndentation, Alias, Anchor, allow_key, before_by, before_past, begins_left, collection_of, comes_plain, fetch_plain_scalar, goes_on, goes_over, HasNoPlainFault, HasTab, innermost, is_adjacent, IsPlainFault, IsPlainRefusal, least_column, nat_le, nat_lt, no_plain, Option, plain_first, Problem, scans_end, unroll_non_block_indents, without_open, FlowIndentation, PlainDashInFlow, PlainTab}
+use Rattle.proof_scanner.proofs.Refusals.Common.{Checked, Faults, IsDeep, LiesDeep, QuotedAs, Said, account_by, awaits_by, blocks_by, goes, in_line, in_turn, least_by, least_is, looked_at, mapped, none_here, quoted_as, quoted_checked, read, same_has_break, saved_is, separation_append, stuck, AreClosed, IsWhy, less_or, saved_keys, solid_text, stuck_by, without_is}
 use Rattle.proof_scanner.proofs.Refusals.Quotes.{after_told, refused_told, closed, piece, is, fits}
 use Rattle.proof_scanner.proofs.Refusals.AfterQuoted.{unglued}
 use Rattle.proof_scanner.proofs.Refusals.Passing.{TabStands, skip_refused}
@@ -9,6 +9,68 @@ use Rattle.proof_lexers.specs.NameEnds as names
 use Rattle.proof_lexers.specs.TagEnds as tag_ends
 use Rattle.proof_scanner.specs.NoPiece as none
 use Rattle.proof_scanner.specs.Failing as defs
+use Rattle.defs_token.specs.Plain.{inside}
+use Rattle.model_scanner.specs.Plain.{plain}
+use Rattle.proof_lexers.specs.PlainEnds as plains
+
+-- ---- texts
+
+over_alike : (c : Context) (collection : Option ℕ) (text next : List ℕ) → collection_of c.indent ≡ collection → plains.goes_over c text next ≡ goes_over c.flow collection text next
+over_alike c a b d e = grind (arith, goes_on, inside)
+
+-- ---- the scan
+
+module _ (text : List ℕ) (t : ScannerState) (a : Arrives text t) (some : is_empty t.rest ≡ false) (lies : LiesDeep t) (deep : IsDeep t.held)
+    (comes : comes_plain (in_flow t.held) (is_adjacent (before_past (before_by a.base.site.before) a.separation)) t.held.position.col t.rest ≡ true) where
+  abbrev collections : List ℕ
+  collections = columns t.held.indent t.held.indents
+
+  -- the levels without those that open no collection
+  levels : AreClosed t.held.indent t.held.indents t.held.tokens (without_open t.held.indent t.held.indents t.held.tokens)
+  levels = without_is t.held.indent t.held.indents t.held.tokens a.are_levels
+
+  abbrev ctx : Context
+  ctx = record { flow = in_flow t.held; indent = (without_open t.held.indent t.held.indents t.held.tokens).indent }
+
+  least_by_levels : least_column collections true ≡ ctx.indent
+  least_by_levels = ap (λ bs. least_column bs true) levels.same_columns ∙ levels.is_least.1
+
+  collection_is : collection_of ctx.indent ≡ innermost collections
+  collection_is = levels.is_least.0 ∙ ap innermost (sym levels.same_columns)
+
+  -- the plain scalar that begins here is none
+  plain_stuck : (why : Problem) (at : Position) (x : IsPlainFault (in_flow t.held) collections t.held.position t.rest why at) → plain_first (in_flow t.held) collections t.held.position t.rest why at x → IsWhy text why at
+  plain_stuck why at x first =
+      stuck_by text t a some why at (λ b bs k. (l : comes_plain b (is_adjacent (before_past (before_by a.base.site.before) a.separation)) t.held.position.col t.rest ≡ true) × (y : IsPlainFault b bs t.held.position t.rest why at) × plain_first b bs t.held.position t.rest why at y) (comes, x, first)
+      (λ c may m. record { fails = no_plain m.0 m.1; is_first = (looked_at text t a some lies c [], m.2) })
+
+  -- the scalar does not begin left of its column
+  no_column : begins_left ctx t.held.position ≡ false → HasNoPlainFault ctx.flow collections t.held.position t.rest FlowIndentation
+  no_column deep place a = grind (arith, least_by_levels)
+
+  -- no TAB that is wrong begins a line of it
+  no_tab_fault : (HasTab ctx t.rest → ⊥) → HasNoPlainFault ctx.flow collections t.held.position t.rest PlainTab
+  no_tab_fault free place a = grind (arith, nat_tests, eqb-true, over_alike, collection_is, least_by_levels)
+
+  refused : (f : Fault) → IsPlainRefusal ctx t.held.position t.rest f → Said text f
+  refused f (plains.by_column flow left) =
+      let shallow : nat_le (least_column collections true) t.held.position.col ≡ false = grind (arith, nat_tests, least_by_levels, left) in
+      λ _. plain_stuck FlowIndentation t.held.position (none.by_column flow shallow) tt
+  refused f (plains.by_tab deep tab) =
+      λ _. plain_stuck PlainTab t.held.position
+      (none.by_tab tab.before tab.blanks tab.rest tab.column tab.is_text (sym (over_alike ctx (innermost collections) tab.before (9 ∷ (tab.blanks ++ tab.rest)) collection_is) ∙ tab.is_over) tab.is_at (ap (nat_lt tab.column) least_by_levels ∙ tab.is_left) tab.are_blanks tab.is_token)
+      (no_column deep)
+  refused f (plains.by_dash before rest deep free flow cut begins over apart) =
+      λ _. plain_stuck PlainDashInFlow (position_after t.held.position before (45 ∷ rest))
+      (none.by_dash before rest flow cut begins (sym (over_alike ctx (innermost collections) before (45 ∷ rest) collection_is) ∙ over) apart)
+      (no_column deep, no_tab_fault free)
+
+  pub plain_told : Faults (Said text) (fetch_plain_scalar t)
+  unfolding fetch_plain_scalar unroll_non_block_indents
+  plain_told =
+      rw (saved_is t.held)
+      (read (unroll_non_block_indents (allow_key false (record t.held { keys = saved_keys t.held }))) (plain ctx t.rest t.held.position) _ (λ f k. refused f (refused_as k
+      (scans_end ctx t.rest t.held.position a.is_clean (solid_text t.rest some a.is_solid) (less_or (in_flow t.held) ctx.indent t.held.position.col (omega (arith, deep, levels.not_deeper)))))) (λ x k. goes))
 
 -- ---- a TAB after a quoted scalar, on a later line, which would indent the next piece
 

@@ -1,5 +1,5 @@
 -- Why the text after an opening quote is refused, told of the text from an element on.
-use Rattle.proof_scanner.proofs.Common.{past, [], after_own, and_false, ap, append_assoc, are_indented, arith, at_start, begins_further, begins_solid, begins_with, begun_with, blank, Bool, content, drop, Element, element_of, elements, escaped_break, false, further_lines_fit, has_more, is_document_marker, IsBadEscape, line_break, Lines, lines_fit, lines_of, LineStand, List, local, LocalOf, marked_from, nat_lt, nat_tests, not, past_element, past_elements, past_escaped, past_is, Position, position_after, position_append, Problem, refl, replicate, Some, Spelled, subst, suc, sym, take, take-append-drop, true, within, zero, ℕ, ◌&&◌, ◌++◌, ◌+◌, ◌==◌, ◌∙◌, ◌∷◌, ◌≡◌, eqb-true, or-false, after_chars, along, along_more, append-nil, break_further, digit_value, double_quoted_element, escape, escape_by, feed_is_no_marker, has_marker, hexadecimal, in_line_position, is_cr_lf, is_in_line, line_position, None, numeric_escape, Option, past_break, plain_element, position_past, same_blank, same_break, same_feed, single_quoted_element, ◌*◌, ◌≤◌, QuotedDocumentMarker, QuotedEnd, QuotedIndentation, TabAsIndentation, and_parts, drop-append-le, ends_before, inl, inr, length, length-take, Local, lookup, number_at, numbered, numeric_escapes, take-append-le, cases_Bool, ◌||◌, ◌⊎◌, is_empty, if◌then◌else◌, EscapedCode, HexadecimalDigit, UnknownEscape, feed_past}
+use Rattle.proof_scanner.proofs.Common.{past, [], are_marks, after_own, and_false, ap, append_assoc, are_indented, arith, at_start, begins_further, begins_solid, begins_with, begun_with, blank, Bool, content, drop, Element, element_of, elements, escaped_break, false, further_lines_fit, has_more, is_document_marker, IsBadEscape, line_break, Lines, lines_fit, lines_of, LineStand, List, local, LocalOf, marked_from, nat_lt, nat_tests, not, past_element, past_elements, past_escaped, past_is, Position, position_after, position_append, Problem, refl, replicate, Some, Spelled, subst, suc, sym, take, take-append-drop, true, within, zero, ℕ, ◌&&◌, ◌++◌, ◌+◌, ◌==◌, ◌∙◌, ◌∷◌, ◌≡◌, eqb-true, or-false, after_chars, along, along_more, append-nil, break_further, digit_value, double_quoted_element, escape, escape_by, feed_is_no_marker, has_marker, hexadecimal, in_line_position, is_cr_lf, is_in_line, line_position, None, numeric_escape, Option, past_break, plain_element, position_past, same_blank, same_break, same_feed, single_quoted_element, ◌*◌, ◌≤◌, QuotedDocumentMarker, QuotedEnd, QuotedIndentation, TabAsIndentation, and_parts, drop-append-le, ends_before, inl, inr, length, length-take, Local, lookup, number_at, numbered, numeric_escapes, take-append-le, cases_Bool, ◌||◌, ◌⊎◌, is_empty, if◌then◌else◌, EscapedCode, HexadecimalDigit, UnknownEscape, feed_past}
 use Rattle.proof_scanner.proofs.Sound.QuotedBreaks.{Kind, has_content, has_blank, has_line, has_escaped, fits_from, lines_from, lines_here, empty_here, KindOf, kind, is_white}
 use Rattle.proof_scanner.specs.NoPiece.{quote_of}
 use Rattle.yaml_chars.specs.Class.{is_break, is_blank}
@@ -378,125 +378,102 @@ none_here : (single : Bool) (r : List ℕ) (why : Problem) → single ≡ false 
 unfolding double_quoted_element classes.is_nul
 none_here single r why e b = grind (arith, bad_none)
 
--- ---- quotes
-
--- where a scalar ends, no element begins with the quote
-quote_ends : (single : Bool) (next : List ℕ) (c : ℕ) (b : List ℕ) (e : Spelled) → ends_before single next ≡ true → quote_of single ∷ next ≡ c ∷ b → element_of single c b ≡ Some e → ⊥
-unfolding single_quoted_element double_quoted_element classes.is_nul
-quote_ends a next c b e ends h is = grind arith
-
--- ---- places where no element stands
+-- ---- what is wrong with a text first, by computing
 
 not_solid : (c : ℕ) (b : List ℕ) → is_white c ≡ true → begins_solid (c ∷ b) ≡ true → ⊥
 not_solid c b h e = grind (arith, same_break, same_blank)
 
-tab_white : is_white 9 ≡ true
-unfolding is_break is_blank
-tab_white = refl
+-- where a scalar ends, no element begins with the quote
+quote_ends : (single : Bool) (next : List ℕ) → ends_before single next ≡ true → element_of single (quote_of single) next ≡ None
+unfolding single_quoted_element double_quoted_element classes.is_nul
+quote_ends a next ends = grind arith
 
-tab_no_break : is_break 9 ≡ false
-unfolding is_break
-tab_no_break = refl
+-- the element that begins there, and what follows it
+abbrev further_of : Option Spelled → ℕ
+further_of None = 0
+further_of (Some e) = e.further
+
+abbrev stand_of : LineStand → Option Spelled → LineStand
+stand_of s None = s
+stand_of s (Some e) = past_element s e.element
 
 module _ (single : Bool) (least : ℕ) (start : Position) where
-  -- no element that may stand begins there, but after a marker
-  abbrev IsFinal : (E : LineStand → Position → List ℕ → Type 0) → Type 0
-  IsFinal E = (s : LineStand) (p : Position) (c : ℕ) (b : List ℕ) (e : Spelled) → element_of single c b ≡ Some e → stands least s p.col e.element ≡ true → is_marked p (c ∷ b) ≡ false → E s p (c ∷ b) → ⊥
+  -- an element that may not stand
+  abbrev misplaced : Position → Element → Problem × Position
+  misplaced p (blank c) = (TabAsIndentation, p)
+  misplaced p e = (QuotedIndentation, start)
 
-  place_final : (why : Problem) (at : Position) → IsFinal (λ s p text. Place single least start s p text why at)
-  place_final why at s p c b e is fit none (by_end f) = cc f
-  place_final why at s p c b e is fit none (by_escape next _ double cut bad may) =
-      let first : c ≡ 92 = cc cut in
-      let rest : b ≡ next = cc cut in
-      cc (none_here single next why double bad, ap (λ r. element_of single 92 r) rest, ap (λ c. element_of single c b) first, is)
-  place_final why at s p c b e is fit none (by_column solid further low) = by e fit (kind_of single c b e is)
+  -- by the element that begins there; where none does, a quote closes the scalar or begins a line, or an escape is none
+  abbrev judged_by : Option Spelled → LineStand → Position → (c : ℕ) (b : List ℕ) → (later : Option (Problem × Position)) → Option (Problem × Position)
+  judged_by None s p c b later =
+      (if begins_further s (c == quote_of single) && nat_lt p.col least then Some (QuotedIndentation, start) else (if c == quote_of single then None else Some (escape_problem b, start)))
+  judged_by (Some e) s p c b later = (if stands least s p.col e.element then later else Some (misplaced p e.element))
+
+  -- What is wrong with a text first, from so many characters on; nothing is, if a quote closes the scalar.
+  abbrev judge : ℕ → LineStand → Position → List ℕ → Option (Problem × Position)
+  judge n s p [] = Some (QuotedEnd, start)
+  judge (suc n) s p (c ∷ b) = judge n s p b
+  judge zero s p (c ∷ b) =
+      (if is_marked p (c ∷ b) then Some (QuotedDocumentMarker, start) else
+      judged_by (element_of single c b) s p c b (judge (further_of (element_of single c b)) (stand_of s (element_of single c b)) (position_after p (c ∷ take (further_of (element_of single c b)) b) (drop (further_of (element_of single c b)) b)) b))
+
+  judge_past : (n : ℕ) (b : List ℕ) (s : LineStand) (p : Position) → judge n s p b ≡ judge 0 s p (drop n b)
+  judge_past zero b s p = refl
+  judge_past (suc n) [] s p = refl
+  judge_past (suc n) (c ∷ b) s p = judge_past n b s p
+
+  -- what is so where a walk ends is so where it begins
+  judged : (E : LineStand → Position → List ℕ → Type 0) (J : Option (Problem × Position) → Type 0) → ((s : LineStand) (p : Position) (text : List ℕ) → E s p text → J (judge 0 s p text))
+      → (s : LineStand) (p : Position) (text : List ℕ) → Walk single least start E s p text → J (judge 0 s p text)
+  judged E J end s p text (arrived a) = end s p text a
+  judged E J end s p text (stepped c b e is fit none w) = rw (none, is, fit, judge_past e.further b) (judged E J end _ _ _ w)
+
+  wrong_judged : (why : Problem) (at : Position) (s : LineStand) (p : Position) (text : List ℕ) → Wrong single least start s p text why at → judge 0 s p text ≡ Some (why, at)
+  unfolding single_quoted_element double_quoted_element plain_element classes.is_blank classes.is_break classes.is_nul is_blank is_break are_marks
+  wrong_judged why at s p [] (by_marker h) = absurd (grind arith)
+  wrong_judged why at s p [] (placed _ _ none (by_column solid further low)) = absurd (cc solid)
+  wrong_judged why at s p (c ∷ b) (by_marker h) = rw h refl
+  wrong_judged why at s p text (placed _ _ none (by_end e)) = rw e refl
+  wrong_judged why at s p text (placed _ _ none (by_escape next _ double cut bad may)) =
+      let low : (begins_further s (92 == quote_of single) && nat_lt p.col least) ≡ false = grind arith in
+      rw cut (let free = rw cut at none in let empty = none_here single next why double bad in let is = bad_is next why bad in grind (arith, free, empty, is, low))
+  wrong_judged why at s p text (placed _ _ none (by_tab next cut further low)) = rw cut (let free = rw cut at none in grind (arith, free))
+  wrong_judged why at s p (c ∷ b) (placed _ _ none (by_column solid further low)) = by (element_of single c b) refl
     where
       open_here : begins_further s false ≡ true
       open_here = grind arith
 
-      stops : not (begins_further s false && nat_lt p.col least) ≡ true → ⊥
-      stops h = let x : not (true && true) ≡ true = rw (open_here, low) at h in absurd (cc x)
+      by_kind : (e : Spelled) → element_of single c b ≡ Some e → Kind single c b e → judge 0 s p (c ∷ b) ≡ Some (QuotedIndentation, start)
+      by_kind e is (has_content code k g) = rw (none, is, open_here, low) refl
+      by_kind e is (has_blank f g) = absurd (not_solid c b (rw (f, g) refl) solid)
+      by_kind e is (has_line f) = absurd (not_solid c b (rw f refl) solid)
+      by_kind e is (has_escaped d a double same_c same_b f) = rw (none, is, open_here, low) refl
 
-      by : (e : Spelled) → stands least s p.col e.element ≡ true → Kind single c b e → ⊥
-      by e fit (has_content code k g) = stops fit
-      by e fit (has_blank f g) = not_solid c b (rw (f, g) refl) solid
-      by e fit (has_line f) = not_solid c b (rw f refl) solid
-      by e fit (has_escaped d a double same_c same_b f) = stops fit
-  place_final why at s p c b e is fit none (by_tab next cut further low) = by e fit (kind_of single c b e is)
-    where
-      first : c ≡ 9
-      first = cc cut
+      by : (o : Option Spelled) → element_of single c b ≡ o → judge 0 s p (c ∷ b) ≡ Some (QuotedIndentation, start)
+      by None is = rw (none, is, further, low) refl
+      by (Some e) is = by_kind e is (kind_of single c b e is)
 
-      by : (e : Spelled) → stands least s p.col e.element ≡ true → Kind single c b e → ⊥
-      by e fit (has_content code k g) = cc (g, ap is_white first, tab_white)
-      by e fit (has_blank f g) = let x : not (true && (9 == 9) && true) ≡ true = rw (further, low, first) at fit in absurd (cc x)
-      by e fit (has_line f) = cc (f, ap is_break first, tab_no_break)
-      by e fit (has_escaped d a double same_c same_b f) = let bad : ◌≡◌ {A = ℕ} 9 92 = sym first ∙ same_c in absurd (cc bad)
-
-  wrong_final : (why : Problem) (at : Position) → IsFinal (λ s p text. Wrong single least start s p text why at)
-  wrong_final why at s p c b e is fit none a = grind (arith, place_final)
-
-  -- Two walks along a text end at one place, if they end where no element goes on.
-  record Meet (E F : LineStand → Position → List ℕ → Type 0) : Type 0 where
-    s : LineStand
-    p : Position
-    text : List ℕ
-    first : E s p text
-    second : F s p text
-
-  meet : (E F : LineStand → Position → List ℕ → Type 0) → IsFinal E → IsFinal F → (s : LineStand) (p : Position) (text : List ℕ) → Walk single least start E s p text → Walk single least start F s p text → Meet E F
-  meet E F x y s p text (arrived a) (arrived b) = record { s = s; p = p; text = text; first = a; second = b }
-  meet E F x y s p text (arrived a) (stepped c b e is fit none w) = absurd (x s p c b e is fit none a)
-  meet E F x y s p text (stepped c b e is fit none v) (arrived a) = absurd (y s p c b e is fit none a)
-  meet E F x y s p text (stepped c b e is fit none v) (stepped _ _ e2 is2 fit2 none2 w) =
-      let same : e2 ≡ e = cc (is, is2) in
-      meet E F x y _ _ _ v (rw (sym same) w)
-
-  -- ---- two reasons at one place
-
-  -- what is wrong where something is
-  abbrev verdict : LineStand → Position → List ℕ → Problem × Position
-  verdict s p text =
-      (if begins_solid text then (if begins_further s (begins_with (quote_of single) text) && nat_lt p.col least then (QuotedIndentation, start) else (escape_problem (drop 1 text), start)) else
-      (if is_empty text then (QuotedEnd, start) else (TabAsIndentation, p)))
-
-  verdict_is : (s : LineStand) (p : Position) (text : List ℕ) (why : Problem) (at : Position) → Place single least start s p text why at → verdict s p text ≡ (why, at)
-  unfolding classes.is_blank classes.is_break
-  verdict_is s p text why at (by_end e) = rw e refl
-  verdict_is s p text why at (by_escape next _ double cut bad may) = let low : (begins_further s false && nat_lt p.col least) ≡ false = grind arith in rw (cut, double, low, bad_is next why bad) refl
-  verdict_is s p text why at (by_column solid further low) = rw (solid, further, low) refl
-  verdict_is s p text why at (by_tab next cut further low) = rw cut refl
+  same_fault : (why1 why2 : Problem) (at1 at2 : Position) → ◌≡◌ {A = Option (Problem × Position)} (Some (why1, at1)) (Some (why2, at2)) → (why1 ≡ why2) × (at1 ≡ at2)
+  same_fault why1 why2 at1 at2 e = let pair : ◌≡◌ {A = Problem × Position} (why1, at1) (why2, at2) = cc e in (ap (λ z. z.0) pair, ap (λ z. z.1) pair)
 
   -- What is wrong first with a text is one thing at one position.
   pub one_reason : (s : LineStand) (p : Position) (text : List ℕ) (why1 why2 : Problem) (at1 at2 : Position) → Reason single least start s p text why1 at1 → Reason single least start s p text why2 at2 → (why1 ≡ why2) × (at1 ≡ at2)
-  one_reason s p text why1 why2 at1 at2 x y = let m = meet _ _ (wrong_final why1 at1) (wrong_final why2 at2) s p text x y in by why1 why2 at1 at2 m.first m.second
-    where
-      by : {s : LineStand} {p : Position} {text : List ℕ} (why1 why2 : Problem) (at1 at2 : Position) → Wrong single least start s p text why1 at1 → Wrong single least start s p text why2 at2 → (why1 ≡ why2) × (at1 ≡ at2)
-      by why1 why2 at1 at2 (by_marker h) (by_marker i) = (refl, refl)
-      by why1 why2 at1 at2 (by_marker h) (placed _ _ none x) = absurd (cc (h, none))
-      by why1 why2 at1 at2 (placed _ _ none x) (by_marker h) = absurd (cc (h, none))
-      by why1 why2 at1 at2 (placed _ _ none x) (placed _ _ free y) = let same : (why1, at1) ≡ (why2, at2) = sym (verdict_is _ _ _ why1 at1 x) ∙ verdict_is _ _ _ why2 at2 y in (ap (λ z. z.0) same, ap (λ z. z.1) same)
+  one_reason s p text why1 why2 at1 at2 x y =
+      same_fault why1 why2 at1 at2 (sym (judged _ (λ o. o ≡ Some (why1, at1)) (wrong_judged why1 at1) s p text x) ∙ judged _ (λ o. o ≡ Some (why2, at2)) (wrong_judged why2 at2) s p text y)
+
+  closed_judged : (s : LineStand) (p : Position) (next : List ℕ) → ends_before single next ≡ true → all_stand least s p.col (before_quote s) ≡ true → is_marked p (quote_of single ∷ next) ≡ false → judge 0 s p (quote_of single ∷ next) ≡ None
+  closed_judged s p next ends fit none = grind (arith, nat_tests, quote_ends)
 
   -- Nothing but a marker is wrong where a body stands whose lines are indented, and its closing quote.
   pub not_closed : (s : LineStand) (p : Position) (body next : List ℕ) (es : List Element) → ends_before single next ≡ true → elements (element_of single) 0 body ≡ Some es → all_stand least s p.col (es ++ before_quote (past_elements s es)) ≡ true
       → (why : Problem) (at : Position) → (why ≡ QuotedDocumentMarker → ⊥) → Reason single least start s p (body ++ quote_of single ∷ next) why at → ⊥
   not_closed s p body next es ends are fits why at unlike x =
-      let m = meet _ _ (wrong_final why at) ends_final s p (body ++ quote_of single ∷ next) x
-      (walk_of single least start Ends (before_quote (past_elements s es)) (marked_from p.col body (quote_of single ∷ next)) (quote_of single ∷ next) (grind arith) (λ t q y h i. inl h) 0 body es s p (omega arith) are fits refl (λ fit free k. inr (refl, fit))) in
-      by why at unlike m.first m.second
-    where
-      -- a marker, or the closing quote
-      Ends : LineStand → Position → List ℕ → Type 0
-      Ends t q y = (is_marked q y ≡ true) ⊎ ((y ≡ quote_of single ∷ next) × (all_stand least t q.col (before_quote t) ≡ true))
-
-      ends_final : IsFinal Ends
-      ends_final t q c b e is fit none (inl h) = cc (h, none)
-      ends_final t q c b e is fit none (inr h) = quote_ends single next c b e ends (sym h.0) is
-
-      at_quote : (t : LineStand) (q : Position) (why : Problem) (at : Position) → all_stand least t q.col (before_quote t) ≡ true → Place single least start t q (quote_of single ∷ next) why at → ⊥
-      at_quote t q why at fit h = grind arith
-
-      by : {t : LineStand} {q : Position} {y : List ℕ} (why : Problem) (at : Position) → (why ≡ QuotedDocumentMarker → ⊥) → Wrong single least start t q y why at → Ends t q y → ⊥
-      by why at unlike (by_marker h) z = unlike refl
-      by why at unlike (placed _ _ none h) (inl i) = cc (none, i)
-      by {t = t} {q = q} why at unlike (placed _ _ none h) (inr i) = at_quote t q why at i.1 (rw (sym i.0) h)
+      let wrong : judge 0 s p (body ++ quote_of single ∷ next) ≡ Some (why, at) = judged _ (λ o. o ≡ Some (why, at)) (wrong_judged why at) s p _ x in
+      let Right : Option (Problem × Position) → Type 0 = λ o. (o ≡ Some (QuotedDocumentMarker, start)) ⊎ (o ≡ None) in
+      let right : Right (judge 0 s p (body ++ quote_of single ∷ next)) = judged (λ t q y. Right (judge 0 t q y)) Right (λ t q y h. h) s p _
+      (walk_of single least start (λ t q y. Right (judge 0 t q y)) (before_quote (past_elements s es)) (marked_from p.col body (quote_of single ∷ next)) (quote_of single ∷ next) (grind arith)
+      (λ t q y h i. inl (wrong_judged QuotedDocumentMarker start t q y (by_marker h))) 0 body es s p (omega arith) are fits refl (λ fit free k. inr (closed_judged _ _ next ends fit free))) in
+      elim right [
+        | inl m ↦ unlike (same_fault why QuotedDocumentMarker at start (sym wrong ∙ m)).0
+        | inr n ↦ let none : ◌≡◌ {A = Option (Problem × Position)} (Some (why, at)) None = sym wrong ∙ n in cc none
+      ]
