@@ -1,6 +1,6 @@
 -- A text is stuck at one place, with one kind.
 use Rattle.proof_scanner.proofs.Common.{Account, account_past, ap, Begins, Bool, colon_may_precede, fails, FailsFirst, false, first_account, HasNoKey, inl, inr, is_in_flow, is_taken, is_value_here, IsLike, IsLookedAt, IsPlace, IsStuck, key_waits, List, no_key, no_nul_after, Position, Problem, refl, Some, spelled, Step, subst, sym, true, up_to_nul, ℕ, ◌++◌, ◌∙◌, ◌∷◌, ◌≡◌, ◌⊎◌, arith, eqb-true, nat_tests, ValueNotAllowed, [], act_of, begins_separation, clean_up_to_end, comes_first, Fails, follows_plain, gives_node, has_no_nul, is_empty, is_free_of_tabs, is_indented_by_spaces, is_separation, IsQuoted, None, Option, position_after, separations, Site, cases_Bool, TabInBlockIndentation}
-use Rattle.proof_scanner.proofs.Refusals.Common.{GivesUp, GoesOn, KeepsOn, LeadsBy, Meet, Same, Way, With, begins_at_start, begins_past, clean_after, ends_before, first_on, gap_is_separation, gives_up_like, like_sym, meet, same_place, second_on, step_here, strict_way, way_but_for_key, way_of}
+use Rattle.proof_scanner.proofs.Refusals.Common.{leads_on, GivesUp, GoesOn, KeepsOn, LeadsBy, Meet, Same, Way, With, begins_at_start, begins_past, clean_after, ends_before, first_on, gap_is_separation, gives_up_like, like_sym, meet, same_place, second_on, step_here, strict_way, way_but_for_key, way_of}
 use Rattle.proof_scanner.proofs.Refusals.OtherRows.{StepAt, IsClearAfter, IsClearGapAfter, stood, step_from}
 use Rattle.proof_scanner.proofs.Refusals.PiecesRefused.{no_colon_here, node_site_past, node_token, quoted_value, same_quoted_value}
 use Rattle.proof_scanner.proofs.Refusals.NoRows.{keyless_step, no_step_stands, step_refuted}
@@ -49,12 +49,11 @@ clear_way : (J : Account → Account → Type 0) → ((x y : Account) → J x y 
 clear_way J same o b [] s2 r2 gap content row filled solid free e fills begins clean clean2 =
     let ends = separations s2 gap r2 content (filled, ends_before r2 solid clean2) (fills, ends_before content begins clean) e in
     ap (λ f. is_indented_by_spaces o.site.before o.site.blocks o.site.awaits f) (sym ends.0) ∙ (ap (λ (x : Site). is_indented_by_spaces x.before x.blocks x.awaits s2) (same o b row) ∙ free refl)
-clear_way J same o b (v ∷ vs) s2 r2 gap content row filled solid free e fills begins clean clean2 = by (account_past row.0 v (spelled vs (s2 ++ r2))) refl row.3
-  where
-    by : (z : Option Account) → account_past row.0 v (spelled vs (s2 ++ r2)) ≡ z → LeadsBy J z vs (s2 ++ r2) b → is_indented_by_spaces o.site.before o.site.blocks o.site.awaits gap ≡ true
-    by None i k = absurd k
-    by (Some c) i k =
-        ap (λ (x : Site). is_indented_by_spaces x.before x.blocks x.awaits gap) (same o row.0 row.1) ∙ subst (λ f. is_indented_by_spaces row.0.site.before row.0.site.blocks row.0.site.awaits f ≡ true) (step_here row.0 v (spelled vs (s2 ++ r2)) gap content row.2 e fills begins clean).0 (stood row.0 v (spelled vs (s2 ++ r2)) c i).spaced
+clear_way J same o b (v ∷ vs) s2 r2 gap content row filled solid free e fills begins clean clean2 =
+    let next : List ℕ = spelled vs (s2 ++ r2) in
+    let c = leads_on J (account_past row.0 v next) vs (s2 ++ r2) b row.3 in
+    ap (λ (x : Site). is_indented_by_spaces x.before x.blocks x.awaits gap) (same o row.0 row.1) ∙
+    subst (λ f. is_indented_by_spaces row.0.site.before row.0.site.blocks row.0.site.awaits f ≡ true) (step_here row.0 v next gap content row.2 e fills begins clean).0 (stood row.0 v next c.0 c.1).spaced
 
 -- a reason that comes first where a TAB indents what comes is just this
 pub tab_alone : (b : Account) (separation : List ℕ) (here : Position) (rest : List ℕ) (why : Problem) (at : Position) (f : Fails b separation here rest why at) → comes_first b separation here rest why at f → is_free_of_tabs b separation ≡ false
@@ -165,10 +164,8 @@ BeginsOrApart text x y after = Begins text after y × ((Together x y × Begins t
 
 keeps_apart : (text : List ℕ) → KeepsOn GivesUp Same (BeginsOrApart text)
 keeps_apart text = record {
-  first_like = λ x y z g i. gives_up_like x z y g i;
-  second_like = λ x y z e i. rw (sym e) i;
-  first = λ x y z after i g r. (r.0, grind (arith, nat_tests, eqb-true));
-  second = λ x y z after i e r. rw (sym e) r;
+  first = λ x y z after g r. (gives_up_like x z y g r.0, (r.1.0, grind (arith, nat_tests, eqb-true)));
+  second = λ x y z after e r. rw (sym e) r;
   both = λ x y a b v c next i r k l e f. (
     begins_past text _ y b (With v c) next refl l f r.0,
     elim r.1 [
@@ -190,7 +187,7 @@ module _ (text : List ℕ) {why1 why2 : Problem} {at1 at2 : Position} (f : Claim
 
   failing_once : FailsFirst f.account f.separation f.here f.rest why1 at1 → FailsFirst g.account g.separation g.here g.rest why2 at2 → (why1 ≡ why2) × (at1 ≡ at2)
   failing_once x y =
-      elim (meet GivesUp GivesUp Nothing (record { first_like = λ x y z g i. gives_up_like x z y g i; second_like = gives_up_second; first = λ x y z after i g r. tt; second = λ x y z after i g r. tt; both = λ x y a b v c next i r k l e f. tt })
+      elim (meet GivesUp GivesUp Nothing (record { first = λ x y z after g r. (gives_up_like x z y g r.0, tt); second = λ x y z after g r. (gives_up_second x y z g r.0, tt); both = λ x y a b v c next i r k l e f. tt })
       f.way.steps g.way.steps after1 after2 first_account first_account f.account g.account itself tt f.way.leads g.way.leads (f.way.spells ∙ sym g.way.spells) (clean_way text f.way.steps after1 f.way.spells)) [
         | same_place like r e ↦
             let cut = one_cut f.account g.account f.separation f.rest g.separation g.rest f.here g.here f.stands g.stands like (clean_place f.way) e in

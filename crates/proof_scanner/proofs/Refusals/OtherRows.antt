@@ -1,7 +1,7 @@
 -- A row of a text goes through each place that a beginning of a row leads to, at an account that is like the beginning's; and its next piece stands there.
 use Rattle.proof_scanner.proofs.Common.{[], Account, account_past, ap, append-nil, Begins, begins_free_line, begins_separation, Bool, false, first_account, further_lines_stand, has_no_nul, HasRow, if◌then◌else◌, is_deep_enough, is_empty, is_gap, is_in_flow, is_indented_by_spaces, is_separation, IsLike, IsPlace, IsRowFrom, IsWritten, least_for, List, may_precede, no_nul_after, None, plain_scalar, Position, position_after, refl, Row, separations, Some, spelled, Step, subst, sym, true, up_to_nul, ℕ, ◌&&◌, ◌++◌, ◌∙◌, ◌∷◌, ◌≡◌, arith, eqb-true, nat_tests, act_of, and_parts, ends_separation, inl, inr, is_break, is_in_column, line_past, longer, may_end, not, Option, same_head, Site, site_at, waits, ◌+◌, ◌==◌, ◌≤◌, ◌⊎◌}
 use Rattle.proof_row.proofs.Written.{At}
-use Rattle.proof_scanner.proofs.Refusals.Common.{Keeps, KeepsOn, Made, Same, Walked, With, begins_at_start, begins_past, ends_before, gap_is_separation, index_after, inside, made, outside, row_walks, step_here, still_there, strict_way}
+use Rattle.proof_scanner.proofs.Refusals.Common.{some_row, Keeps, KeepsOn, Made, Same, Walked, With, begins_at_start, begins_past, ends_before, gap_is_separation, index_after, inside, made, outside, row_walks, step_here, still_there, strict_way}
 use Rattle.proof_row.proofs.Separations.{over}
 
 -- ---- a key that waits outside flow is near as long as a row goes on: its colon is still to come, on its line, at most 1024 characters after its start
@@ -14,10 +14,6 @@ none_ends a begin e h = grind arith
 pub record GoesNear (a : Account) (w : Step) (next : List ℕ) (q : Position) : Type 0 where
   pub unbroken : begins_free_line a.site.before w.separation ≡ false
   pub near : (position_after a.site.position w.separation (w.piece ++ next)).index ≤ q.index + 1024
-
--- a row goes on from an account
-pub some_row : (o : Option Account) (ws : List Step) (last : List ℕ) → IsRowFrom o ws last → (c : Account) × (o ≡ Some c) × IsRowFrom (Some c) ws last
-some_row o ws last h = grind (arith, nat_tests, eqb-true)
 
 near_by : (w : Step) (ws : List Step) (last : List ℕ) (a : Account) (q : Position) → a.line ≡ waits q → IsRowFrom (Some a) (w ∷ ws) last → ((b : Account) → b.line ≡ waits q → IsRowFrom (Some b) ws last → b.site.position.index ≤ q.index + 1024) → GoesNear a w (spelled ws last) q
 near_by w ws last a q e row further = let c = some_row (account_past a w (spelled ws last)) ws last row.1 in of c.0 c.2 (made a.site a.line a.entries w (spelled ws last) c.0 c.1)
@@ -66,7 +62,7 @@ begins_with_part false (c ∷ whole) (d ∷ part) next rest h k f e = grind (ari
 begins_with_part true (c ∷ whole) (d ∷ part) next rest h k f e = grind (arith, nat_tests, eqb-true, same_head, longer, begins_with_part (not (is_break c)) whole part next rest h)
 
 pub keeps_on : (P : Account → Account → List ℕ → Type 0) → Keeps P → KeepsOn Same Same P
-keeps_on a keeps = grind (arith, nat_tests, eqb-true)
+keeps_on a keeps = record { first = λ x y z after e r. rw (sym e) r; second = λ x y z after e r. rw (sym e) r; both = keeps }
 
 -- the row of a text goes through each beginning
 pub row_begins : (P : Account → Account → List ℕ → Type 0) → Keeps P → (text after : List ℕ) (a : Account) (r : Row) → P first_account first_account (up_to_nul text) → Begins text after a → HasRow text r → Walked P a after
