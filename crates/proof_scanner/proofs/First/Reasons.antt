@@ -457,17 +457,11 @@ module _ (a : Account) (separation : List ℕ) (here : Position) (rest : List �
 pub colon_alone : (a b : Account) → IsLike a b → (separation more : List ℕ) (here : Position) → is_value_here a separation more ≡ true → is_in_flow a.entries ≡ false → IsLookedAt a separation here (58 ∷ more) → colon_may_precede more ≡ true →
     (why : Problem) (at : Position) → FailsFirst b separation here (58 ∷ more) why at → ⊥
 colon_alone a b like separation more here is out seen apart why at x =
+    let own : Setting = setting_of a separation here in
+    let at_colon : (n : List ℕ) → 58 ∷ more ≡ 58 ∷ n → more ≡ n = λ n e. cc e in
+    let none_here : (why : Problem) (at : Position) → InKind colon own here (58 ∷ more) why at → ⊥ = λ why at h. grind (arith, nat_tests, eqb-true, out, apart, colon_may_precede, at_colon) in
     let by : (why : Problem) (at : Position) → Reason own here (58 ∷ more) why at → ⊥ = λ why a b. grind (arith, none_here, own, here, more, colon_kind, is) in
     by why at (subst (λ s. Reason s here (58 ∷ more) why at) (sym (same_setting a b separation here like)) (reason_of b separation here (58 ∷ more) why at x))
-  where
-    own : Setting
-    own = setting_of a separation here
-
-    at_colon : (n : List ℕ) → 58 ∷ more ≡ 58 ∷ n → more ≡ n
-    at_colon n e = cc e
-
-    none_here : (why : Problem) (at : Position) → InKind colon own here (58 ∷ more) why at → ⊥
-    none_here why at h = grind (arith, nat_tests, eqb-true, out, apart, colon_may_precede, at_colon)
 
 -- ---- one reason
 

@@ -68,8 +68,7 @@ made s l (d ∷ ds) w next b e = by (may_stand true s at w.separation w.piece w.
 
     by : (c : Bool) (m : Option Line) → line_past_separation true (begins_free_line s.before w.separation) l ≡ m
         → (if c then on_one_line w.piece (past_piece at w.piece w.shown next (is_renewed s.before w.separation) w.key m (d ∷ ds)) else None) ≡ Some b → Made s l (d ∷ ds) w next b
-    by true (Some m) f e = to (entries_past at.position (is_renewed s.before w.separation) (act_of w.shown) (begun_by w.shown) w.key d ds) e
-      where
-        to : (o : Option (List Entry)) → on_one_line w.piece (past_inside at w.piece w.shown next m o) ≡ Some b → Made s l (d ∷ ds) w next b
-        to o e = grind (arith, inside, f)
+    by true (Some m) f e =
+        let to : (o : Option (List Entry)) → on_one_line w.piece (past_inside at w.piece w.shown next m o) ≡ Some b → Made s l (d ∷ ds) w next b = λ o e. grind (arith, inside, f) in
+        to (entries_past at.position (is_renewed s.before w.separation) (act_of w.shown) (begun_by w.shown) w.key d ds) e
     by c m f e = grind arith

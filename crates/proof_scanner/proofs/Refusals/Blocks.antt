@@ -97,27 +97,17 @@ piece_tab_fault : (collection : List ℕ) (o : Option ℕ) (here : Position) (te
 unfolding is_nul
 piece_tab_fault collection o here text piece next b e is tabbed =
     let q = and_parts (scan.is_single (split piece).complete) (begins_with tab next) tabbed in
-    by (grind arith) q.0
+    let m : (m : List ℕ) × (next ≡ tab ∷ m) = grind arith in
+    by m (split piece).complete (split piece).last refl q.0 (rw (ap is_at_end m.1) at is)
   where
-    by : (m : List ℕ) × (next ≡ tab ∷ m) → scan.is_single (split piece).complete ≡ true → FirstFault collection here text BlockScalarTab here
-    by m single =
-        let w : Written piece next = written o piece next b is further in
-        from w.header w.lines w.is w.are
+    by : (m : List ℕ) × (next ≡ tab ∷ m) → (complete : List (List ℕ)) (last : List ℕ) → split piece ≡ record { complete = complete; last = last } → scan.is_single complete ≡ true → read_lines o complete last next false ≡ Some b
+        → FirstFault collection here text BlockScalarTab here
+    by m (l ∷ []) [] lines_are single read = alone (header_of l) refl
       where
-        further : is_at_end next ≡ false
-        further = ap is_at_end m.1
-
-        from : (l : Line) (ls : List Line) → piece ≡ spell (l ∷ ls) [] → AreLines (l ∷ ls) [] → FirstFault collection here text BlockScalarTab here
-        from l (x ∷ ls) is_piece are =
-            absurd (cc (single, ap (λ y. scan.is_single (split y).complete) is_piece, ap (λ y. scan.is_single y.complete) (split_spell (l ∷ x ∷ ls) [] are refl)))
-        from l [] is_piece are = alone (header_of l.text) refl
-          where
-            lines_are : split piece ≡ record { complete = l.text ∷ []; last = [] }
-            lines_are = ap split is_piece ∙ split_spell (l ∷ []) [] are refl
-
-            alone : (y : Option defs.Header) → header_of l.text ≡ y → FirstFault collection here text BlockScalarTab here
-            alone None i = absurd (cc ((ap (λ x. read_lines o (l.text ∷ []) [] next x) (sym further) ∙ (ap (λ s. read_lines o s.complete s.last next (is_at_end next)) (sym lines_are) ∙ is)), ap (λ y. read_body y o (body [] further_text) next) i))
-            alone (Some h) i = (none.by_tab piece l.text m.0 h (e ∙ ap (λ r. piece ++ r) m.1) lines_are i, tt)
+        alone : (y : Option defs.Header) → header_of l ≡ y → FirstFault collection here text BlockScalarTab here
+        alone None i = absurd (cc (ap (λ y. read_body y o (body [] further_text) next) i, read))
+        alone (Some h) i = (none.by_tab piece l m.0 h (e ∙ ap (λ r. piece ++ r) m.1) lines_are i, tt)
+    by m complete last lines_are single read = absurd (grind arith)
 
 -- ---- what stands after a scalar without content
 

@@ -65,12 +65,10 @@ waiting_past s l es w next b on is e q wt = by (made s l es w next b e)
             let far = here_on q s w.separation (w.piece ++ next) (on q was.0) was.1 in
             line_after q here w.piece w.shown next b.site (ap (λ (x : Site). x.position) site) (ap (λ (x : Site). x.before) site) far.0 (omega (arith, far.1)) is.1.0 unbroken (node_no_marker _ k)
     by (inside some sep site one) =
+        let unmarked : (c : Bool) → is_marker (act_of w.shown) ≡ c → suc q.col ≤ here.col → is_marker (act_of w.shown) ≡ false = λ c h e. grind (arith, nat_tests, eqb-true, marker_begins, next, is) in
         let was = waited true (begins_free_line s.before w.separation) l b.line q sep wt in
         let far = here_on q s w.separation (w.piece ++ next) (on q was.0) was.1 in
         line_after q here w.piece w.shown next b.site (ap (λ (x : Site). x.position) site) (ap (λ (x : Site). x.before) site) far.0 (omega (arith, far.1)) is.1.0 (not_broken w.piece b.line q wt one) (unmarked (is_marker (act_of w.shown)) refl far.1)
-      where
-        unmarked : (c : Bool) → is_marker (act_of w.shown) ≡ c → suc q.col ≤ here.col → is_marker (act_of w.shown) ≡ false
-        unmarked c h e = grind (arith, nat_tests, eqb-true, marker_begins, next, is)
 
 -- ---- a beginning and a row
 

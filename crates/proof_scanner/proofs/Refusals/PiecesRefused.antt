@@ -335,13 +335,10 @@ module _ {a : Account} {separation rest : List ℕ} {here : Position} (s : StepA
     where
       by : (fs : List Entry) → s.account.entries ≡ fs → LikeEntries (e ∷ es) fs → ⊥
       by [] i like = like
-      by (d ∷ ds) i like = goes_on (d ∷ ds) i (none_past _)
-        where
-          single : takes_pair d.kind d.pair ≡ true
-          single = ap (λ k. takes_pair k d.pair) (sym like.0.0) ∙ (ap (λ p. takes_pair e.kind p) (sym like.0.1) ∙ takes)
-
-          none_past : (o : Option Line) → past_piece there s.step.piece s.step.shown s.next (is_renewed s.account.site.before s.step.separation) s.step.key o (d ∷ ds) ≡ None
-          none_past o = grind (arith, nat_tests, eqb-true, past_inside, there, s.next, entries_past, is_renewed, act_of, entry.begun_by, ds, colon_here, more, cut, is, entry.with_had, entry.pair_past, takes_pair, gives_colon, entry.had_after, entry.renewed, single, begin, had, like, late)
+      by (d ∷ ds) i like =
+          let single : takes_pair d.kind d.pair ≡ true = ap (λ k. takes_pair k d.pair) (sym like.0.0) ∙ (ap (λ p. takes_pair e.kind p) (sym like.0.1) ∙ takes) in
+          let none_past : (o : Option Line) → past_piece there s.step.piece s.step.shown s.next (is_renewed s.account.site.before s.step.separation) s.step.key o (d ∷ ds) ≡ None = λ o. grind (arith, nat_tests, eqb-true, past_inside, there, s.next, entries_past, is_renewed, act_of, entry.begun_by, ds, colon_here, more, cut, is, entry.with_had, entry.pair_past, takes_pair, gives_colon, entry.had_after, entry.renewed, single, begin, had, like, late) in
+          goes_on (d ∷ ds) i (none_past _)
 
   -- ---- TABs after a quoted scalar
 

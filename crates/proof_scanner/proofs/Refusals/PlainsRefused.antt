@@ -212,13 +212,11 @@ module _ {a : Account} {separation rest : List ℕ} {here : Position} (s : StepA
       cc (ap (λ b. is_deep_enough b (scalar tokens.plain plain_here.0) (site_at_place a here)) flow ∙ left, (node_stands s (scalar tokens.plain plain_here.0) plain_here.2 refl).0)
   -- a dash before a flow indicator
   no_plain_stands is_clear why at (none.by_dash [] more flow cut begins over apart) =
+      let none_begins : may_begin true (is_adjacent seen_here.before) 45 more ≡ false = rw begins (and_false (not (is_at_gap more))) in
       let may : may_begin true (is_adjacent seen_here.before) 45 more ≡ true =
       let all : begins_plain (pieces.is_in_flow seen_here) (is_adjacent seen_here.before) seen_here.position.col (45 ∷ more) ≡ true = ap (begins_plain (pieces.is_in_flow seen_here) (is_adjacent seen_here.before) seen_here.position.col) (sym (s.text_is ∙ cut)) ∙ plain_here.1.0 in
       ap (λ b. may_begin b (is_adjacent seen_here.before) 45 more) (sym (flow_is s ∙ flow)) ∙ (and_parts (may_begin (pieces.is_in_flow seen_here) (is_adjacent seen_here.before) 45 more) (not ((seen_here.position.col == 0) && is_document_marker (45 ∷ more))) all).0 in
       cc (may, none_begins)
-    where
-      none_begins : may_begin true (is_adjacent seen_here.before) 45 more ≡ false
-      none_begins = rw begins (and_false (not (is_at_gap more)))
   no_plain_stands is_clear why at (none.by_dash (c ∷ p) more flow cut begins over apart) =
       let coll : Option ℕ = innermost (site_at_place a here).blocks in
       let own : is_whole_plain true coll (c ∷ (p ++ 45 ∷ [])) more ≡ true = rw (goes_both true coll inside p (45 ∷ []) more (ap (λ b. goes_on b coll inside p (45 ∷ more)) (sym flow) ∙ over) (dash_goes coll (stand_after inside p) more begins), content_end c p, flow_stops coll inside more begins) refl in
