@@ -2,7 +2,7 @@
 use Rattle.proof_scanner.proofs.Common.{[], after_chars, allow_key, and_parts, ap, append-nil, are_empty, AreLines, arith, Arrives, begins_with, block, block_first, block_may_end, block_read, BlockRead, BlockStyle, body, Bool, Break, collection_of, columns, Err, false, Fault, fetch_block_scalar, folded, further_text, has_no_nul, header_of, Held, if◌then◌else◌, indicator_of, innermost, is_at_end, is_break, is_empty, is_in_line, is_literal, is_literal_style, is_nul, is_shallow, is_tabbed, IsBlockFault, leading_spaces, least_column, List, literal, nat_le, nat_lt, nat_tests, no_block, no_nul_after, None, not, Option, past, Position, position_after, Problem, read_body, read_lines, read_may_end, refl, refused_as, ScannerState, Some, spell, spell_more, split, split_spell, style_inner, subst, sym, tab, texts, true, unroll_non_block_indents, ℕ, ◌&&◌, ◌++◌, ◌||◌, ◌∙◌, ◌∷◌, ◌≡◌, eqb-true, cases_Bool, inl, inr, after_line, first_content, first_empty, first_header, further_position, is_empty_line, is_spaces, length, lines_may_end, ◌+◌, ◌≤◌, BlockScalarHeader, BlockScalarIndentation, BlockScalarTab, BlockScalarZero, CommentNotSeparated}
 use Rattle.model_scanner.specs.declared.kind.BlockStyle.TheVariants.{Literal, Folded}
 use Rattle.proof_lexers.proofs.Blocks.Written.{Line, put}
-use Rattle.proof_scanner.proofs.Refusals.Common.{Faults, IsWhy, LiesDeep, Said, end_no_text, goes, looked_at, none_begins, none_here, read, saved_is, saved_keys, some_chars, stuck_by, without_is}
+use Rattle.proof_scanner.proofs.Refusals.Common.{Faults, IsWhy, LiesDeep, Said, end_no_text, goes, looked_at, none_begins, read, saved_is, saved_keys, some_chars, stuck_by, without_is}
 use Rattle.proof_scanner.proofs.Sound.BlockEnds.{IsLeast, Written, written, spaces_col, ends_at_margin}
 use Rattle.proof_scanner.proofs.Refusals.TextsRefused.{header_alone}
 use Rattle.model_scanner.specs.declared.kind.BlockStyle as kind
@@ -160,14 +160,14 @@ module _ (text : List ℕ) (t : ScannerState) (a : Arrives text t) (some : is_em
       λ _. block_stuck BlockScalarTab t.held.position
       (tab_fault collections t.held.position t.rest (indicator_of style ∷ line) f.more f.by h (e ∙ ap (λ r. indicator_of style ∷ (line ++ r)) f.is) (style_inner style line inline) is)
   header_told style line after e inline ends g (headers.zero_digit lacks zero) =
-      λ _. none_here text t a some lies BlockScalarZero (none.headless style line after BlockScalarZero t.held.position (ap not out) e inline ends lacks (none.by_zero zero)) tt
+      λ _. none_begins text t a some lies BlockScalarZero _ (none.headless style line after BlockScalarZero t.held.position (ap not out) e inline ends lacks (none.by_zero zero)) tt
   header_told style line after e inline ends g (headers.comment h before more lacks is cut) =
       let place : headers.along before (past t.held.position) ≡ position_after t.held.position (indicator_of style ∷ before) (35 ∷ more) =
       (sym (after_chars (indicator_of style ∷ before) [] (35 ∷ more) t.held.position (style_inner style before (inner_first before (35 ∷ more) (ap is_in_line (sym cut) ∙ inline)))) ∙ ap (λ w. position_after t.held.position w (35 ∷ more)) (append-nil (indicator_of style ∷ before))) in
       rw place (λ _. none_begins text t a some lies CommentNotSeparated _
       (none.headless style line after CommentNotSeparated _ (ap not out) e inline ends lacks (none.by_comment h before more is cut)) tt)
   header_told style line after e inline ends g (headers.no_header lacks zero more begins) =
-      λ _. none_here text t a some lies BlockScalarHeader (none.headless style line after BlockScalarHeader t.held.position (ap not out) e inline ends lacks (none.by_text zero more begins)) tt
+      λ _. none_begins text t a some lies BlockScalarHeader _ (none.headless style line after BlockScalarHeader t.held.position (ap not out) e inline ends lacks (none.by_text zero more begins)) tt
 
   block_refused : (style : BlockStyle) (indent : ℕ) (more : List ℕ) → t.rest ≡ indicator_of style ∷ more → IsLeast indent collections → (f : Fault) → block (is_literal_style style) indent t.rest t.held.position ≡ Err f → Said text f
   block_refused style indent more e deep f k =

@@ -2,7 +2,7 @@
 use Rattle.proof_scanner.proofs.Common.{ap, are_marks, arith, Arrives, At, before_by, before_past, begins_document_at, begins_with, columns, eqb-true, false, fetch_content, fetch_here, fetch_stream_end, fetch_token, has_open_level, has_required, inl, inr, is_adjacent, is_document_marker, is_empty, List, may_not_stand, nat_le, nat_lt, nat_tests, next_line, not, peek, refl, ScannerState, site_here, subst, sym, Tok, true, ℕ, ◌&&◌, ◌+◌, ◌==◌, ◌||◌, ◌∙◌, ◌≡◌, ◌≤◌, cases_Bool, [], and_parts, AreLevels, Bool, if◌then◌else◌, Indent, innermost, is_deeper, IsNotRight, IsTopLevel, not_ended, ◌-◌, ◌∷◌, InvalidIndentation, KeyExpected, UnexpectedAt, UnexpectedBacktick, UnexpectedPercent}
 use Rattle.model_scanner.specs.declared.kind.Collection.TheVariants.{Sequence, Mapping}
 use Rattle.model_scanner.specs.State.{after}
-use Rattle.proof_scanner.proofs.Refusals.Common.{Faults, IsDeep, IsRowless, IsWhy, LiesDeep, Said, content_holds, either, fault, goes_on_here, no_end, none_here, rowless_told, stuck_by, token_holds, tried}
+use Rattle.proof_scanner.proofs.Refusals.Common.{Faults, IsDeep, IsRowless, IsWhy, LiesDeep, Said, content_holds, either, fault, goes_on_here, no_end, none_begins, rowless_told, stuck_by, token_holds, tried}
 use Rattle.proof_scanner.proofs.Refusals.Nodes.{name_told, plain_told, tag_told, quoted_told}
 use Rattle.proof_scanner.proofs.Refusals.Blocks.{block_told}
 use Rattle.proof_scanner.proofs.Refusals.Indicators.{directive_told, marker_told, document_end_told, dash_told, question_told, colon_told, opening_told, closing_told, comma_told}
@@ -45,9 +45,9 @@ module _ (text : List ℕ) (t : ScannerState) (a : Arrives text t) (some : is_em
         close_bracket = λ more e. closing_told text t a some lies Sequence 93 more e (inl refl);
         close_brace = λ more e. closing_told text t a some lies Mapping 125 more e (inr refl);
         comma = λ more e. comma_told text t a some lies more e;
-        percent = λ more e. fault {f = At UnexpectedPercent t.held.position} (λ _. none_here text t a some lies UnexpectedPercent (none.percent more e (grind (arith, percent, eqb-true))) tt);
-        at_sign = λ more e. fault {f = At UnexpectedAt t.held.position} (λ _. none_here text t a some lies UnexpectedAt (none.at_sign more e) tt);
-        backtick = λ more e. fault {f = At UnexpectedBacktick t.held.position} (λ _. none_here text t a some lies UnexpectedBacktick (none.backtick more e) tt);
+        percent = λ more e. fault {f = At UnexpectedPercent t.held.position} (λ _. none_begins text t a some lies UnexpectedPercent _ (none.percent more e (grind (arith, percent, eqb-true))) tt);
+        at_sign = λ more e. fault {f = At UnexpectedAt t.held.position} (λ _. none_begins text t a some lies UnexpectedAt _ (none.at_sign more e) tt);
+        backtick = λ more e. fault {f = At UnexpectedBacktick t.held.position} (λ _. none_begins text t a some lies UnexpectedBacktick _ (none.backtick more e) tt);
       }) some
 
   -- ---- columns

@@ -1,5 +1,5 @@
 -- A key that must be one waits in each row of the text; and while it waits no line ends. So no row goes on where a beginning has only gone on over a line's end by making no key of it.
-use Rattle.proof_scanner.proofs.Common.{cases_Bool, innermost, IsNotRight, [], Account, account_past, Act, act_of, ap, arith, begins_free_line, begins_separation, BeginsButForKey, blocks_at, Bool, Entry, fails, false, first_account, free, gives_node, has_break, HasRow, inl, inr, is_empty, is_in_column, is_in_flow, is_marker, is_separation, is_waiting, IsRowFrom, IsWritten, key_waits, length, LikeEntries, LikeLine, Line, line_past, line_past_separation, List, no_key, no_nul_after, None, not, not-true, not_ended, Outside, Position, position_after, position_in_line, previous_by, refl, Row, same_flow, Site, site_at, Some, spelled, Step, subst, sym, taken, TextsWithARowAreNotStuck, Tok, true, waits, ℕ, ◌&&◌, ◌++◌, ◌+◌, ◌<◌, ◌∙◌, ◌∷◌, ◌≡◌, ◌≤◌, ◌⊎◌, eqb-true, nat_tests, append-nil, append_assoc, append_cancel_right, AreAround, AreEntries, Arrives, Begins, comma, context_of, first_position, FlowLevel, gives_closing, gives_comma, GoesThrough, has_no_nul, has_required, HasNoKey, in_flow, is_blank, is_blank_or_end, is_break, is_far, is_flow, is_nul, is_required, IsNear, IsPositionIn, Key, Leads, mapping_closing, MayChoose, Option, outside_key, position_append, ScannerState, sequence_closing, Stands, suc, top_key, Whole, ◌||◌, IsAt}
+use Rattle.proof_scanner.proofs.Common.{or-false, cases_Bool, innermost, IsNotRight, [], Account, account_past, Act, act_of, ap, arith, begins_free_line, begins_separation, BeginsButForKey, blocks_at, Bool, Entry, fails, false, first_account, free, gives_node, has_break, HasRow, inl, inr, is_empty, is_in_column, is_in_flow, is_marker, is_separation, is_waiting, IsRowFrom, IsWritten, key_waits, length, LikeEntries, LikeLine, Line, line_past, line_past_separation, List, no_key, no_nul_after, None, not, not-true, not_ended, Outside, Position, position_after, position_in_line, previous_by, refl, Row, same_flow, Site, site_at, Some, spelled, Step, subst, sym, taken, TextsWithARowAreNotStuck, Tok, true, waits, ℕ, ◌&&◌, ◌++◌, ◌+◌, ◌<◌, ◌∙◌, ◌∷◌, ◌≡◌, ◌≤◌, ◌⊎◌, eqb-true, nat_tests, append-nil, append_assoc, append_cancel_right, AreAround, AreEntries, Arrives, Begins, comma, context_of, first_position, FlowLevel, gives_closing, gives_comma, GoesThrough, has_no_nul, has_required, HasNoKey, in_flow, is_blank, is_blank_or_end, is_break, is_far, is_flow, is_nul, is_required, IsNear, IsPositionIn, Key, Leads, mapping_closing, MayChoose, Option, outside_key, position_append, ScannerState, sequence_closing, Stands, suc, top_key, Whole, ◌||◌, IsAt}
 use Rattle.proof_scanner.proofs.Refusals.Common.{IsRowless, Keeps, Same, Walked, With, account_by, at_end, cut_position, in_flow_is, index_after, no_entries, not_before_after, not_none, piece_ends, place, stands_cut, step_here, strictly, walk, whole_text, with_entries}
 use Rattle.proof_scanner.proofs.Refusals.PiecesRefused.{marker_begins, acct, whole_by}
 use Rattle.proof_scanner.proofs.Known.Made.{same_of, waited, still_there, like_past, Waits, begun, kept, waits_past, Made, outside, inside, made}
@@ -43,9 +43,6 @@ Waiting l s = (q : Position) → l ≡ waits q → OnLine q s
 pub here_on : (q : Position) (s : Site) (sep more : List ℕ) → OnLine q s → begins_free_line s.before sep ≡ false → ((position_after s.position sep more).line ≡ q.line) × (suc q.col ≤ (position_after s.position sep more).col)
 here_on q s sep more on f = grind (arith, stays)
 
-node_no_marker : (k : Act) → k ≡ gives_node → is_marker k ≡ false
-node_no_marker k e = ap is_marker e
-
 pub waiting_past : (s : Site) (l : Line) (es : List Entry) (w : Step) (next : List ℕ) (b : Account) → Waiting l s → IsWritten (with_entries s l es) w next → account_past (with_entries s l es) w next ≡ Some b → Waiting b.line b.site
 waiting_past s l es w next b on is e q wt = by (made s l es w next b e)
   where
@@ -59,11 +56,11 @@ waiting_past s l es w next b on is e q wt = by (made s l es w next b e)
         unbroken = not_broken w.piece b.line q wt one
 
         to : Waits (is_in_column here.col (site_at false s w.separation w.piece w.shown next).blocks) here (site_at false s w.separation w.piece w.shown next).blocks (act_of w.shown) m o q → OnLine q b.site
-        to (begun k f h bs) = line_after q here w.piece w.shown next b.site (ap (λ (x : Site). x.position) site) (ap (λ (x : Site). x.before) site) (ap (λ (x : Position). x.line) h) (let col = ap (λ (x : Position). x.col) h in omega (arith, col)) is.1.0 unbroken (node_no_marker _ k)
+        to (begun k f h bs) = line_after q here w.piece w.shown next b.site (ap (λ (x : Site). x.position) site) (ap (λ (x : Site). x.before) site) (ap (λ (x : Position). x.line) h) (let col = ap (λ (x : Position). x.col) h in omega (arith, col)) is.1.0 unbroken (ap is_marker k)
         to (kept k f bs) =
             let was = waited false (begins_free_line s.before w.separation) l m q sep f in
             let far = here_on q s w.separation (w.piece ++ next) (on q was.0) was.1 in
-            line_after q here w.piece w.shown next b.site (ap (λ (x : Site). x.position) site) (ap (λ (x : Site). x.before) site) far.0 (omega (arith, far.1)) is.1.0 unbroken (node_no_marker _ k)
+            line_after q here w.piece w.shown next b.site (ap (λ (x : Site). x.position) site) (ap (λ (x : Site). x.before) site) far.0 (omega (arith, far.1)) is.1.0 unbroken (ap is_marker k)
     by (inside some sep site one) =
         let unmarked : (c : Bool) → is_marker (act_of w.shown) ≡ c → suc q.col ≤ here.col → is_marker (act_of w.shown) ≡ false = λ c h e. grind (arith, nat_tests, eqb-true, marker_begins, next, is) in
         let was = waited true (begins_free_line s.before w.separation) l b.line q sep wt in
@@ -279,22 +276,18 @@ none_at_end text separation rest q g waiting filled none = by g.steps g.is_row g
 -- ---- open keys
 
 -- a key that must be one is the one outside flow
-required_around : (fs : List FlowLevel) (ks : List (Option Key)) (es : List Entry) → AreAround fs ks es → length ks ≡ suc (length fs) → has_required ks ≡ true → (k : Key) × (outside_key es ks ≡ Some k) × (k.required ≡ true)
-required_around [] [] es a n h = absurd (cc h)
-required_around [] b (e ∷ es) a n h = grind arith
-required_around [] (None ∷ []) [] a n h = absurd (cc h)
-required_around [] (Some k ∷ []) [] a n h = grind arith
-required_around [] (k ∷ x ∷ ks) [] a n h = absurd (omega (arith, n))
-required_around (f ∷ fs) ks [] a n h = grind arith
-required_around (f ∷ fs) [] (e ∷ es) a n h = absurd (cc h)
-required_around (f ∷ fs) (k ∷ ks) (e ∷ es) a n h = grind (arith, required_around fs ks es)
+required_around : (fs : List FlowLevel) (ks : List (Option Key)) (es : List Entry) → AreAround fs ks es → length ks ≡ suc (length fs) → has_required ks ≡ is_required (outside_key es ks)
+required_around [] (k ∷ []) [] a n = grind (arith, or-false)
+required_around (f ∷ fs) (k ∷ ks) (e ∷ es) a n = grind (arith, required_around fs ks es)
+required_around fs ks es a n = grind arith
 
-required_outside : (allowed again : Bool) (fs : List FlowLevel) (ks : List (Option Key)) (es : List Entry) → AreEntries allowed again fs ks es → length ks ≡ suc (length fs) → has_required ks ≡ true → (k : Key) × (outside_key es ks ≡ Some k) × (k.required ≡ true)
-required_outside allowed again [] ks [] a n h = required_around [] ks [] tt n h
-required_outside allowed again [] ks (e ∷ es) a n h = absurd a
-required_outside allowed again (f ∷ fs) [] es a n h = absurd (cc h)
-required_outside allowed again (f ∷ fs) (k ∷ ks) [] a n h = absurd a
-required_outside allowed again (f ∷ fs) b (e ∷ es) a n h = grind (arith, required_around)
+required_outside : (allowed again : Bool) (fs : List FlowLevel) (ks : List (Option Key)) (es : List Entry) → AreEntries allowed again fs ks es → length ks ≡ suc (length fs) → has_required ks ≡ is_required (outside_key es ks)
+required_outside allowed again [] ks [] a n = required_around [] ks [] tt n
+required_outside allowed again (f ∷ fs) (k ∷ ks) (e ∷ es) a n = grind (arith, required_around fs ks es)
+required_outside allowed again fs ks es a n = grind arith
+
+found : (o k : Option Key) → o ≡ k → is_required k ≡ true → (x : Key) × (o ≡ Some x) × (x.required ≡ true)
+found o a e m = grind arith
 
 -- ---- between two fetches, and at the text's end
 
@@ -306,7 +299,7 @@ stale_rowless text u s nul k e must far r h =
 
 pub end_rowless : (text : List ℕ) (t : ScannerState) (a : Arrives text t) → t.rest ≡ [] → has_required t.held.keys ≡ true → IsRowless text
 end_rowless text t a none must r h =
-    let k = required_outside t.held.key_allowed _ t.held.flow t.held.keys a.base.entries a.are_entries a.one_each must in
+    let k = found _ (outside_key a.base.entries t.held.keys) refl (sym (required_outside t.held.key_allowed _ t.held.flow t.held.keys a.base.entries a.are_entries a.one_each) ∙ must) in
     let g : GoesThrough text (a.separation ++ t.rest) = a.knows.rows r h in
     none_at_end text a.separation t.rest k.0.position g (a.knows.required g.account k.0 g.begins k.1 k.2) a.is_filled none
 
@@ -354,7 +347,7 @@ module _ (text : List ℕ) (t : ScannerState) (a : Arrives text t) (some : is_em
   rowless : ((b : Account) (s : StepAt b a.separation t.rest t.held.position) (q : Position) → is_in_flow b.entries ≡ false → s.account.line ≡ waits q → Waiting s.account.line s.account.site → ⊥) → is_required (top_key t.held.keys) ≡ true → IsRowless text
   rowless refuted must r h = elim (cases_Bool (is_empty t.held.flow)) [
     | inl out ↦
-        let k = found (top_key t.held.keys) (key_outside out) must in
+        let k = found _ (top_key t.held.keys) (key_outside out) must in
         let at : RowAt text (account_by text t a some true []) a.separation t.rest t.held.position = row_at text a.separation t.rest (account_by text t a some true []) t.held.position r (place text t a some true [] (may _ (a.is_near out))) a.is_solid some h in
         refuted (account_by text t a some true []) at.step_at k.0.position (in_flow_is text t a some true [] ∙ ap not out) (a.knows.required at.step_at.account k.0 at.begins k.1 k.2) (begins_waiting text (a.separation ++ t.rest) at.step_at.account at.begins)
     | inr i ↦ cc (free_inside t.held.key_allowed _ t.held.flow t.held.keys a.base.entries i a.are_entries, must)
@@ -363,9 +356,6 @@ module _ (text : List ℕ) (t : ScannerState) (a : Arrives text t) (some : is_em
       -- it is near
       may : (k : Option Key) → IsNear k t.held.position → MayChoose true true k t.held.position t.rest
       may a near = grind (arith, some)
-
-      found : (k : Option Key) → outside_key a.base.entries t.held.keys ≡ k → is_required k ≡ true → (x : Key) × (outside_key a.base.entries t.held.keys ≡ Some x) × (x.required ≡ true)
-      found a e m = grind arith
 
   pub line_rowless : t.held.position.col ≡ 0 → is_required (top_key t.held.keys) ≡ true → IsRowless text
   line_rowless col = rowless (λ b s q out waiting on. not_first s q waiting on col)

@@ -14,23 +14,11 @@ use Rattle.defs_token.specs.FlowEntry as entry
 
 -- ---- the text at a piece says what piece it is; one that stands for the document begins in column 0
 
--- a text begins with `%`, or with a document marker
-abbrev pub begins_document : List ℕ → Bool
-begins_document text = (peek text == 37) || is_document_marker text
+line_begins : (p x : List ℕ) (d : Directive) → directive_of p ≡ Some d → begins_with 37 (p ++ x) ≡ true
+line_begins p x d e = let b = directive_begins p d e in ap (λ z. begins_with 37 (z ++ x)) b.1
 
-pub record BeginsLine (col : ℕ) (text : List ℕ) : Type 0 where
-  pub column : col ≡ 0
-  pub text_is : begins_document text ≡ true
-
-line_begins : (p x : List ℕ) (d : Directive) → directive_of p ≡ Some d → begins_document (p ++ x) ≡ true
-line_begins p x d e = let b = directive_begins p d e in ap (λ z. begins_document (z ++ x)) b.1
-
-pub marker_begins : (a : pieces.Account) (p x : List ℕ) (f : Option Tok) (m : Position) (t : Tok) → IsPiece a p x f m t → is_marker (act_of t) ≡ true → BeginsLine a.position.col (p ++ x)
+pub marker_begins : (a : pieces.Account) (p x : List ℕ) (f : Option Tok) (m : Position) (t : Tok) → IsPiece a p x f m t → is_marker (act_of t) ≡ true → begins_document_at a.position (p ++ x) ≡ true
 marker_begins a p x f m t h k = grind (arith, nat_tests, eqb-true, line_begins, or_true, dash_marks, dot_marks)
-
--- So is that of the piece.
-pub kind_is : (k : Kind) (a : pieces.Account) (piece next text : List ℕ) (p : Position) (t : Tok) → piece ≢ [] → IsPiece a piece next None p t → piece ++ next ≡ text → kind_at (pieces.is_in_flow a) (is_adjacent a.before) a.position.col text ≡ k → Whole k (context_of a) piece next t
-kind_is k a piece next text p t some h e there = subst (λ y. Whole y (context_of a) piece next t) (sym (texts_begin a piece next None p t some h) ∙ (ap (λ r. kind_at (pieces.is_in_flow a) (is_adjacent a.before) a.position.col r) e ∙ there)) (piece_of a piece next None p t some h)
 
 -- entries that are alike are as many
 pub many_alike : (ds es : List Entry) → LikeEntries ds es → length ds ≡ length es
@@ -101,33 +89,35 @@ OfQuoted {a} {separation} {rest} {here} s T =
     → is_indented_by_spaces quoted_scalar (site_at_place a here).blocks (site_at_place a here).awaits gap ≡ false → T TabInBlockIndentation (position_after (position_after here piece (gap ++ content)) gap content)
 
 module _ {a : Account} {separation rest : List ℕ} {here : Position} (s : StepAt a separation rest here) where
-  abbrev pub next : List ℕ
-  next = s.next
-
   -- the account with which the piece is looked at
   abbrev pub acct : pieces.Account
-  acct = seen s.account (written.At s.account s.step next) s.step.separation
+  acct = seen s.account (written.At s.account s.step s.next) s.step.separation
 
   abbrev pub spot : Position
-  spot = shown_position (written.At s.account s.step next) s.step.piece s.step.shown next
+  spot = shown_position (written.At s.account s.step s.next) s.step.piece s.step.shown s.next
 
-  pub is_piece : IsPiece acct s.step.piece next None spot s.step.shown
+  pub is_piece : IsPiece acct s.step.piece s.next None spot s.step.shown
   is_piece = s.is_written.1.1
 
   -- the text says the piece's kind
-  pub whole_at : Whole (kind_at (pieces.is_in_flow acct) (is_adjacent acct.before) acct.position.col rest) (context_of acct) s.step.piece next s.step.shown
-  whole_at = kind_is (kind_at (pieces.is_in_flow acct) (is_adjacent acct.before) acct.position.col rest) acct s.step.piece next rest spot s.step.shown (not_empty s.step.piece s.is_written.1.0) is_piece s.text_is refl
+  abbrev KindOf : List ℕ → Type 0
+  KindOf r = Whole (kind_at (pieces.is_in_flow acct) (is_adjacent acct.before) acct.position.col r) (context_of acct) s.step.piece s.next s.step.shown
 
-  -- the text's first character says the piece's kind
-  pub whole_by : (c : ℕ) (more : List ℕ) → rest ≡ c ∷ more → Whole (kind_at (pieces.is_in_flow acct) (is_adjacent acct.before) acct.position.col (c ∷ more)) (context_of acct) s.step.piece next s.step.shown
-  whole_by c more e = kind_is (kind_at (pieces.is_in_flow acct) (is_adjacent acct.before) acct.position.col (c ∷ more)) acct s.step.piece next (c ∷ more) spot s.step.shown (not_empty s.step.piece s.is_written.1.0) is_piece (s.text_is ∙ e) refl
+  pub whole_at : KindOf rest
+  whole_at =
+      let some = not_empty s.step.piece s.is_written.1.0 in
+      subst KindOf s.text_is (subst (λ k. Whole k (context_of acct) s.step.piece s.next s.step.shown) (sym (texts_begin acct s.step.piece s.next None spot s.step.shown some is_piece)) (piece_of acct s.step.piece s.next None spot s.step.shown some is_piece))
+
+  -- so does its first character
+  pub whole_by : (c : ℕ) (more : List ℕ) → rest ≡ c ∷ more → KindOf (c ∷ more)
+  whole_by c more e = subst KindOf e whole_at
 
   -- what the row's step says of its piece
-  pub here_stood : Stood s.account s.step next
-  here_stood = stood s.account s.step next s.past s.is_past
+  pub here_stood : Stood s.account s.step s.next
+  here_stood = stood s.account s.step s.next s.past s.is_past
 
-  pub rest_of : (c : ℕ) (name more : List ℕ) → s.step.piece ≡ c ∷ name → rest ≡ c ∷ more → name ++ next ≡ more
-  rest_of c name more p e = let both : c ∷ (name ++ next) ≡ c ∷ more = ap (λ z. z ++ next) (sym p) ∙ (s.text_is ∙ e) in cc both
+  pub rest_of : (c : ℕ) (name more : List ℕ) → s.step.piece ≡ c ∷ name → rest ≡ c ∷ more → name ++ s.next ≡ more
+  rest_of c name more p e = let both : c ∷ (name ++ s.next) ≡ c ∷ more = ap (λ z. z ++ s.next) (sym p) ∙ (s.text_is ∙ e) in cc both
 
   -- the site of the row's piece
   abbrev there : Site
@@ -318,14 +308,14 @@ module _ {a : Account} {separation rest : List ℕ} {here : Position} (s : StepA
   stands_nowhere T quoted why at (failing.shallow inside none left) = absurd (grind (arith, nat_tests, eqb-true, here_stood, same_flow, too_shallow, no_line))
   stands_nowhere T quoted why at (failing.too_deep c more e (inl is) many) =
       let own : Here sequence_opening = whole_by 91 more (e ∙ ap (λ x. x ∷ more) is) in
-      let piece : IsPiece acct s.step.piece next None spot flow_sequence_start = subst (λ t. IsPiece acct s.step.piece next None spot t) own.1 is_piece in
+      let piece : IsPiece acct s.step.piece s.next None spot flow_sequence_start = subst (λ t. IsPiece acct s.step.piece s.next None spot t) own.1 is_piece in
       absurd (no_room many piece.0.1)
   stands_nowhere T quoted why at (failing.too_deep c more e (inr is) many) =
-      let by : IsPiece acct s.step.piece next None spot flow_mapping_start → ⊥ = λ a. grind (arith, nat_tests, no_room, many, not_empty, eqb-true) in
+      let by : IsPiece acct s.step.piece s.next None spot flow_mapping_start → ⊥ = λ a. grind (arith, nat_tests, no_room, many, not_empty, eqb-true) in
       let own : Here mapping_opening = whole_by 123 more (e ∙ ap (λ x. x ∷ more) is) in
-      absurd (by (subst (λ t. IsPiece acct s.step.piece next None spot t) own.1 is_piece))
+      absurd (by (subst (λ t. IsPiece acct s.step.piece s.next None spot t) own.1 is_piece))
   stands_nowhere T quoted why at (failing.dash_in_flow more e gap inside) =
-      let piece : IsPiece acct s.step.piece next None spot block_entry = subst (λ t. IsPiece acct s.step.piece next None spot t) (dash_here more e gap).2 is_piece in
+      let piece : IsPiece acct s.step.piece s.next None spot block_entry = subst (λ t. IsPiece acct s.step.piece s.next None spot t) (dash_here more e gap).2 is_piece in
       absurd (grind arith)
   stands_nowhere T quoted why at (failing.dash_not_free more e gap out line) = absurd (none_on_line out line (inl (ap act_of (dash_here more e gap).2)))
   stands_nowhere T quoted why at (failing.question_not_free more e gap out line) = absurd (none_on_line out line (inr (ap act_of (question_here more e gap).2)))

@@ -170,9 +170,6 @@ module _ (text : List ℕ) (t : ScannerState) (a : Arrives text t) (some : is_em
   pub none_begins : (why : Problem) (at : Position) (n : NoPiece (in_flow t.held) t.held.position t.rest why at) → no_piece_first (in_flow t.held) (t.held.indent - 1) t.held.position t.rest why at n → IsWhy text why at
   none_begins why at n first = stuck_by text t a some why at (λ b bs k. (x : NoPiece b t.held.position t.rest why at) × no_piece_first b k t.held.position t.rest why at x) (n, first) (λ c may m. record { fails = no_piece m.0; is_first = (looked_at c [], m.1) })
 
-  pub none_here : (why : Problem) (n : NoPiece (in_flow t.held) t.held.position t.rest why t.held.position) → no_piece_first (in_flow t.held) (t.held.indent - 1) t.held.position t.rest why t.held.position n → IsWhy text why t.held.position
-  none_here why n first = none_begins why t.held.position n first
-
   -- what follows the piece that begins here is what the text is stuck by
   pub followed_stuck : (why : Problem) (at : Position) (x : IsFollowed (in_flow t.held) t.held.position t.rest why at)
       → ((c : Bool) → IsAllowed text t a some c → followed_first (in_flow t.held) (t.held.indent - 1) (is_taken (account_by text t a some c []) a.separation) (is_full (account_by text t a some c [])) t.held.position t.rest why at x) → IsWhy text why at

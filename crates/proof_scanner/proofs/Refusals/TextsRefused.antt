@@ -200,7 +200,7 @@ module _ {a : Account} {separation rest : List ℕ} {here : Position} (s : StepA
       let is_line : (d : Directive) → is_marker (act_of (directive_token d)) ≡ true = λ a. grind arith in
       let line : Here directive_line = whole_by s 37 more e in
       let begins = marker_begins (acct s) s.step.piece s.next None (spot s) s.step.shown (is_piece s) (ap (λ t. is_marker (act_of t)) line.4 ∙ is_line line.0) in
-      cc (other, ap (λ n. n == 0) (ap (λ p. p.col) (sym s.position_is) ∙ begins.column))
+      cc (other, ap (λ (p : Position). p.col == 0) (sym s.position_is) ∙ (and_parts ((acct s).position.col == 0) _ begins).0)
   no_piece_stands why at (none.nameless true more e lacks) = let named : Here alias_name = whole_by s 42 more e in cc (lacks, name_goes_on named.0 more named.1.1 (rest_of s 42 named.0 more named.1.0 e))
   no_piece_stands why at (none.nameless false more e lacks) = let named : Here anchor_name = whole_by s 38 more e in cc (lacks, name_goes_on named.0 more named.1.1 (rest_of s 38 named.0 more named.1.0 e))
   no_piece_stands why at (none.tagless more _ e reason) =
