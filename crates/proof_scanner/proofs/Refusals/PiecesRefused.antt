@@ -99,14 +99,18 @@ module _ {a : Account} {separation rest : List ℕ} {here : Position} (s : StepA
   pub is_piece : IsPiece acct s.step.piece s.next None spot s.step.shown
   is_piece = s.is_written.1.1
 
+  -- the row's piece is whole as one of a kind
+  abbrev pub Here : Kind → Type 0
+  Here k = Whole k (context_of acct) s.step.piece s.next s.step.shown
+
   -- the text says the piece's kind
   abbrev KindOf : List ℕ → Type 0
-  KindOf r = Whole (kind_at (pieces.is_in_flow acct) (is_adjacent acct.before) acct.position.col r) (context_of acct) s.step.piece s.next s.step.shown
+  KindOf r = Here (kind_at (pieces.is_in_flow acct) (is_adjacent acct.before) acct.position.col r)
 
   pub whole_at : KindOf rest
   whole_at =
       let some = not_empty s.step.piece s.is_written.1.0 in
-      subst KindOf s.text_is (subst (λ k. Whole k (context_of acct) s.step.piece s.next s.step.shown) (sym (texts_begin acct s.step.piece s.next None spot s.step.shown some is_piece)) (piece_of acct s.step.piece s.next None spot s.step.shown some is_piece))
+      subst KindOf s.text_is (subst Here (sym (texts_begin acct s.step.piece s.next None spot s.step.shown some is_piece)) (piece_of acct s.step.piece s.next None spot s.step.shown some is_piece))
 
   -- so does its first character
   pub whole_by : (c : ℕ) (more : List ℕ) → rest ≡ c ∷ more → KindOf (c ∷ more)
@@ -208,9 +212,6 @@ module _ {a : Account} {separation rest : List ℕ} {here : Position} (s : StepA
     no_block_end = by_style b.style refl
 
   -- ---- kinds
-
-  abbrev Here : Kind → Type 0
-  Here k = Whole k (context_of acct) s.step.piece s.next s.step.shown
 
   dash_here : (more : List ℕ) → rest ≡ 45 ∷ more → is_at_gap more ≡ true → Here dash
   unfolding is_blank_or_end is_blank is_break is_nul is_flow

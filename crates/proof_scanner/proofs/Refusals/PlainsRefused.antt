@@ -5,7 +5,7 @@ use Rattle.proof_row.specs.Ends.{plain_scalar}
 use Rattle.proof_row.proofs.Plains.{plains}
 use Rattle.proof_row.proofs.Written.{At}
 use Rattle.proof_scanner.proofs.Refusals.OtherRows.{StepAt, IsClearGapAfter}
-use Rattle.proof_scanner.proofs.Refusals.PiecesRefused.{acct, whole_at, node_site_past, flow_is, node_site, node_stands, here_stood}
+use Rattle.proof_scanner.proofs.Refusals.PiecesRefused.{Here, acct, whole_at, node_site_past, flow_is, node_site, node_stands, here_stood}
 use Rattle.proof_scanner.proofs.Sound.PlainKeeps.{same_innermost, no_comment}
 use Rattle.proof_row.proofs.Runs.{joined, neither}
 use Rattle.proof_scanner.proofs.Refusals.Common.{break_append, last_first, last_whole}
@@ -184,17 +184,14 @@ module _ {a : Account} {separation rest : List ℕ} {here : Position} (s : StepA
   abbrev seen_here : pieces.Account
   seen_here = acct s
 
-  abbrev Here : Kind → Type 0
-  Here k = Whole k (context_of seen_here) s.step.piece s.next s.step.shown
-
   comes_there : comes_plain (pieces.is_in_flow seen_here) (is_adjacent seen_here.before) seen_here.position.col rest ≡ true
   comes_there = grind arith
 
-  plain_here : Here plain_scalar
+  plain_here : Here s plain_scalar
   plain_here = elim (comes_by (pieces.is_in_flow seen_here) (is_adjacent seen_here.before) seen_here.position.col rest comes_there) [
-    | inl k ↦ subst Here k (whole_at s)
+    | inl k ↦ subst (Here s) k (whole_at s)
     | inr k ↦
-        let m : Here dashes = subst Here k (whole_at s) in
+        let m : Here s dashes = subst (Here s) k (whole_at s) in
         absurd (no_marker (pieces.is_in_flow seen_here) (is_adjacent seen_here.before) seen_here.position.col rest s.next comes_there (ap (λ p. p ++ s.next) (sym m.0.0) ∙ s.text_is) m.0.1 m.0.2)
   ]
 

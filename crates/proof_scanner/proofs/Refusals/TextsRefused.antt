@@ -13,7 +13,7 @@ use Rattle.proof_lexers.proofs.Properties.Uris.{uris_are_read}
 use Rattle.proof_row.proofs.Written as written
 use Rattle.proof_scanner.specs.NoPiece.{quote_of}
 use Rattle.proof_scanner.proofs.Refusals.OtherRows.{StepAt}
-use Rattle.proof_scanner.proofs.Refusals.PiecesRefused.{acct, whole_by, rest_of, flow_is, node_stands, here_stood, marker_begins, is_piece, spot, no_block_end}
+use Rattle.proof_scanner.proofs.Refusals.PiecesRefused.{Here, acct, whole_by, rest_of, flow_is, node_stands, here_stood, marker_begins, is_piece, spot, no_block_end}
 use Rattle.proof_scanner.proofs.Refusals.Common.{end_no_text}
 
 -- ---- tags
@@ -174,19 +174,16 @@ pub begins_lines : (least : ℕ) (here : Position) (rest : List ℕ) (single : B
 begins_lines least here rest a why b d = grind (arith, nat_tests, tab, eqb-true)
 
 module _ {a : Account} {separation rest : List ℕ} {here : Position} (s : StepAt a separation rest here) where
-  abbrev Here : Kind → Type 0
-  Here k = Whole k (context_of (acct s)) s.step.piece s.next s.step.shown
-
   name_goes_on : (name more : List ℕ) → is_name name ≡ true → name ++ s.next ≡ more → goes_on_with_name more ≡ true
   name_goes_on a more h e = grind (arith, all_of)
 
-  block_here : (style : BlockStyle) (more : List ℕ) → is_in_flow a.entries ≡ false → rest ≡ indicator_of style ∷ more → Here block_scalar
+  block_here : (style : BlockStyle) (more : List ℕ) → is_in_flow a.entries ≡ false → rest ≡ indicator_of style ∷ more → Here s block_scalar
   unfolding is_blank_or_end is_blank is_break is_nul is_flow
   block_here style more out e =
       let block_kind : (style : BlockStyle) (fl adjacent : Bool) (column : ℕ) → fl ≡ false → kind_at fl adjacent column (indicator_of style ∷ more) ≡ block_scalar = λ a fl adjacent column h. grind (arith, nat_tests, eqb-true) in
-      subst Here (block_kind style (pieces.is_in_flow (acct s)) (is_adjacent (acct s).before) (acct s).position.col (flow_is s ∙ out)) (whole_by s (indicator_of style) more e)
+      subst (Here s) (block_kind style (pieces.is_in_flow (acct s)) (is_adjacent (acct s).before) (acct s).position.col (flow_is s ∙ out)) (whole_by s (indicator_of style) more e)
 
-  quoted_here : (single : Bool) (more : List ℕ) → rest ≡ quote_of single ∷ more → Here (if single then in_single_quotes else in_double_quotes)
+  quoted_here : (single : Bool) (more : List ℕ) → rest ≡ quote_of single ∷ more → Here s (if single then in_single_quotes else in_double_quotes)
   unfolding is_blank_or_end is_blank is_break is_nul is_flow
   quoted_here true more e = whole_by s 39 more e
   quoted_here false more e = whole_by s 34 more e
@@ -198,13 +195,13 @@ module _ {a : Account} {separation rest : List ℕ} {here : Position} (s : StepA
   no_piece_stands why at (none.backtick more e) = whole_by s 96 more e
   no_piece_stands why at (none.percent more e other) =
       let is_line : (d : Directive) → is_marker (act_of (directive_token d)) ≡ true = λ a. grind arith in
-      let line : Here directive_line = whole_by s 37 more e in
+      let line : Here s directive_line = whole_by s 37 more e in
       let begins = marker_begins (acct s) s.step.piece s.next None (spot s) s.step.shown (is_piece s) (ap (λ t. is_marker (act_of t)) line.4 ∙ is_line line.0) in
       cc (other, ap (λ (p : Position). p.col == 0) (sym s.position_is) ∙ (and_parts ((acct s).position.col == 0) _ begins).0)
-  no_piece_stands why at (none.nameless true more e lacks) = let named : Here alias_name = whole_by s 42 more e in cc (lacks, name_goes_on named.0 more named.1.1 (rest_of s 42 named.0 more named.1.0 e))
-  no_piece_stands why at (none.nameless false more e lacks) = let named : Here anchor_name = whole_by s 38 more e in cc (lacks, name_goes_on named.0 more named.1.1 (rest_of s 38 named.0 more named.1.0 e))
+  no_piece_stands why at (none.nameless true more e lacks) = let named : Here s alias_name = whole_by s 42 more e in cc (lacks, name_goes_on named.0 more named.1.1 (rest_of s 42 named.0 more named.1.0 e))
+  no_piece_stands why at (none.nameless false more e lacks) = let named : Here s anchor_name = whole_by s 38 more e in cc (lacks, name_goes_on named.0 more named.1.1 (rest_of s 38 named.0 more named.1.0 e))
   no_piece_stands why at (none.tagless more _ e reason) =
-      let w : Here tag_text = whole_by s 33 more e in
+      let w : Here s tag_text = whole_by s 33 more e in
       let first = mark_is_first s.step.piece w.0 w.1 in
       let left : first.0 ++ s.next ≡ more = rest_of s 33 first.0 more first.1 e in
       let follows : may_follow (is_in_flow a.entries) s.next ≡ true = ap (λ b. is_at_gap s.next || (b && begins_flow s.next)) (sym (flow_is s)) ∙ w.2 in
@@ -214,14 +211,14 @@ module _ {a : Account} {separation rest : List ℕ} {here : Position} (s : StepA
   no_piece_stands why at (none.unquoted true more _ e lacks n) = let w = quoted_here true more e in lacks s.step.piece s.next (sym s.text_is) (w.0, w.1)
   no_piece_stands why at (none.unquoted false more _ e lacks n) = let w = quoted_here false more e in lacks s.step.piece s.next (sym s.text_is) (w.0, w.1)
   no_piece_stands why at (none.headless style line after _ _ out e inner ends lacks n) =
-      let w : Here block_scalar = block_here style (line ++ after) out e in
+      let w : Here s block_scalar = block_here style (line ++ after) out e in
       let clean : has_no_nul s.next ≡ true = no_nul_after s.step.piece s.next (ap has_no_nul s.text_is ∙ s.is_clean) in
       let own : up_to_break s.step.piece ≡ indicator_of style ∷ line =
       sym (piece_line (pieces.collection_column (acct s)) s.step.piece s.next w.0 clean w.1) ∙ (ap up_to_break (s.text_is ∙ e) ∙ (ap (λ b. if b then [] else indicator_of style ∷ up_to_break (line ++ after)) (unbroken style) ∙ ap (λ r. indicator_of style ∷ r) (first_of line after inner ends))) in
       has_header (pieces.collection_column (acct s)) ((split s.step.piece).complete) ((split s.step.piece).last) s.next (is_at_end s.next) w.0 w.1 (ap header_of (line_is s.step.piece ∙ own) ∙ lacks)
   no_piece_stands why at (none.undirected line after _ _ col e one ends lacks n) =
       let no_nul_more : (r : List ℕ) → has_no_nul (37 ∷ r) ≡ true → has_no_nul r ≡ true = λ r h. (and_parts (not (is_nul 37)) (has_no_nul r) h).1 in
-      let w : Here directive_line = whole_by s 37 (line ++ after) e in
+      let w : Here s directive_line = whole_by s 37 (line ++ after) e in
       let first = directive_begins s.step.piece w.0 w.1 in
       let left : first.0 ++ s.next ≡ line ++ after = rest_of s 37 first.0 (line ++ after) first.1 e in
       let clean : has_no_nul (first.0 ++ s.next) ≡ true = ap has_no_nul left ∙ no_nul_more (line ++ after) (sym (ap has_no_nul e) ∙ s.is_clean) in
@@ -235,7 +232,7 @@ module _ {a : Account} {separation rest : List ℕ} {here : Position} (s : StepA
   no_block_stands out why at (none.by_tab own header more h e one is) =
       let same_end_by : (style : BlockStyle) (text : List ℕ) → may_precede (is_in_flow s.account.entries) (written.At s.account s.step s.next).blocks (block_token style text) s.step.piece s.next ≡ block_may_end (written.At s.account s.step s.next).blocks s.step.piece s.next = λ a b. grind (arith, nat_tests, eqb-true) in
       let first = first_char own header h (sym (line_is own) ∙ ap (λ z. first_line z.complete z.last) one) is in
-      let w : Here block_scalar = block_here first.0 (first.1 ++ 9 ∷ more) out (e ∙ ap (λ p. p ++ 9 ∷ more) first.2) in
+      let w : Here s block_scalar = block_here first.0 (first.1 ++ 9 ∷ more) out (e ∙ ap (λ p. p ++ 9 ∷ more) first.2) in
       let clean : has_no_nul s.next ≡ true = no_nul_after s.step.piece s.next (ap has_no_nul s.text_is ∙ s.is_clean) in
       cc (
         (here_stood s).precedes,
