@@ -128,18 +128,15 @@ point_wrong (c ∷ r) = (if c == 46 then number_wrong (leading is_decimal_digit 
 abbrev version_wrong : List ℕ → Option Problem
 version_wrong text = number_wrong (leading is_decimal_digit text) (point_wrong (after is_decimal_digit text))
 
-long : (w : List ℕ) (more : Option Problem) → nat_le (length w) 9 ≡ false → number_wrong w more ≡ Some VersionTooLong
-long a more e = grind arith
-
 number_right : (w : List ℕ) (more : Option Problem) (v : ℕ) → number_of w ≡ Some v → number_wrong w more ≡ more
 number_right a more v e = grind (arith, nat_tests, eqb-true)
 
 version_is : (text : List ℕ) (why : Problem) → IsNoVersion text why → version_wrong text ≡ Some why
 version_is text why (directives.no_major e) = rw e refl
-version_is text why (directives.long_major e) = long (leading is_decimal_digit text) _ e
+version_is text why (directives.long_major e) = grind (arith, e)
 version_is text why (directives.no_point major is e) = number_right (leading is_decimal_digit text) _ major is ∙ (grind arith)
 version_is text why (directives.no_minor major r is cut e) = number_right (leading is_decimal_digit text) _ major is ∙ rw (cut, e) refl
-version_is text why (directives.long_minor major r is cut e) = number_right (leading is_decimal_digit text) _ major is ∙ rw cut (long (leading is_decimal_digit r) None e)
+version_is text why (directives.long_minor major r is cut e) = number_right (leading is_decimal_digit text) _ major is ∙ rw cut (grind (arith, e))
 
 version_right : (line rest : List ℕ) → IsVersionBefore line rest → version_wrong (said line) ≡ None
 version_right line rest v = number_right (leading is_decimal_digit (said line)) _ v.major v.is_major ∙ rw v.has_point (number_right (leading is_decimal_digit v.point) None v.minor v.is_minor)

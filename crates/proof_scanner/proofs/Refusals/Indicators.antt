@@ -176,9 +176,6 @@ module _ (text : List ℕ) (t : ScannerState) (a : Arrives text t) (some : is_em
   line_read : (more : List ℕ) (p : Position) (x : Read Whitespace) → begins_with 35 more ≡ false → space Yes more p ≡ Ok x → record { rest = past_blanks_and_comment more; position = past_line_rest p more; value = found_in (leading is_blank more) } ≡ x
   line_read more p x none k = let exact = spaced_parted more p none in cc (exact, k)
 
-  begins_entry_here : (r : List ℕ) → (slice_index r 0 == 45) ≡ true → is_blank_or_breakz (slice_index r 1) ≡ true → begins_entry r ≡ true
-  begins_entry_here a h i = grind (arith, nat_tests, eqb-true, gap_here)
-
   dash_checked : (more : List ℕ) → t.rest ≡ 45 ∷ more → is_at_gap more ≡ true → in_flow t.held ≡ false → t.held.key_allowed ≡ true → (h : Held) → h.position ≡ past t.held.position → (x : Read Whitespace) → space Yes more h.position ≡ Ok x → Faults (Said text) (check_dash x.value (go_on x h))
   unfolding check_dash
   dash_checked more e gap outside allowed h place x k =
@@ -188,7 +185,7 @@ module _ (text : List ℕ) (t : ScannerState) (a : Arrives text t) (some : is_em
       let second = and_parts (is_one_of (leading is_blank more) 9 && (slice_index rest 0 == 45)) (is_blank_or_breakz (slice_index rest 1)) all in
       let first = and_parts (is_one_of (leading is_blank more) 9) (slice_index rest 0 == 45) second.0 in
       followed_at TabAfterDash _ (further 1 t.held.position) (blanks_and_comment more) rest (line_place h.position more place)
-      (none.tab_after_dash more (blanks_and_comment more) rest outside e gap (line_goes_on more) (has_more (leading is_blank more) _ first.0) (begins_entry_here rest first.1 second.1)) (λ c may. line_not_taken c [] may (is_outside outside) allowed)) (λ _. goes))
+      (none.tab_after_dash more (blanks_and_comment more) rest outside e gap (line_goes_on more) (has_more (leading is_blank more) _ first.0) (grind (arith, nat_tests, eqb-true, gap_here, first.1, second.1))) (λ c may. line_not_taken c [] may (is_outside outside) allowed)) (λ _. goes))
 
   -- no comment stands after what was passed behind a dash
   dash_spaced : (u : ScannerState) → Holds (λ v. (begins_with 35 v.rest ≡ false) × (v.held.keys ≡ u.held.keys)) (lexed (space Yes u.rest u.held.position) u.held check_dash)

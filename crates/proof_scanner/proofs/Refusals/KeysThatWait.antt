@@ -33,9 +33,6 @@ stays p text next h = let same = sym (position_in_line p text next (unbroken tex
 line_after : (q here : Position) (piece : List ℕ) (t : Tok) (next : List ℕ) (s : Site) → s.position ≡ position_after here piece next → s.before ≡ previous_by t → here.line ≡ q.line → q.col ≤ here.col → not (is_empty piece) ≡ true → has_break piece ≡ false → is_marker (act_of t) ≡ false → OnLine q s
 line_after q here piece t next s p b l r some none m = grind (arith, nat_tests, eqb-true, stays, not_none, not-true)
 
-not_broken : (p : List ℕ) (l : Line) (q : Position) → l ≡ waits q → (has_break p && is_waiting l) ≡ false → has_break p ≡ false
-not_broken p l q w h = grind arith
-
 -- a site is on the line of the key that waits
 abbrev pub Waiting : Line → Site → Type 0
 Waiting l s = (q : Position) → l ≡ waits q → OnLine q s
@@ -53,7 +50,7 @@ waiting_past s l es w next b on is e q wt = by (made s l es w next b e)
     by (outside m o none sep past line site one) = to (waits_past _ _ _ _ w.key m o q past (sym line ∙ wt))
       where
         unbroken : has_break w.piece ≡ false
-        unbroken = not_broken w.piece b.line q wt one
+        unbroken = grind (arith, wt, one)
 
         to : Waits (is_in_column here.col (site_at false s w.separation w.piece w.shown next).blocks) here (site_at false s w.separation w.piece w.shown next).blocks (act_of w.shown) m o q → OnLine q b.site
         to (begun k f h bs) = line_after q here w.piece w.shown next b.site (ap (λ (x : Site). x.position) site) (ap (λ (x : Site). x.before) site) (ap (λ (x : Position). x.line) h) (let col = ap (λ (x : Position). x.col) h in omega (arith, col)) is.1.0 unbroken (ap is_marker k)
@@ -65,7 +62,7 @@ waiting_past s l es w next b on is e q wt = by (made s l es w next b e)
         let unmarked : (c : Bool) → is_marker (act_of w.shown) ≡ c → suc q.col ≤ here.col → is_marker (act_of w.shown) ≡ false = λ c h e. grind (arith, nat_tests, eqb-true, marker_begins, next, is) in
         let was = waited true (begins_free_line s.before w.separation) l b.line q sep wt in
         let far = here_on q s w.separation (w.piece ++ next) (on q was.0) was.1 in
-        line_after q here w.piece w.shown next b.site (ap (λ (x : Site). x.position) site) (ap (λ (x : Site). x.before) site) far.0 (omega (arith, far.1)) is.1.0 (not_broken w.piece b.line q wt one) (unmarked (is_marker (act_of w.shown)) refl far.1)
+        line_after q here w.piece w.shown next b.site (ap (λ (x : Site). x.position) site) (ap (λ (x : Site). x.before) site) far.0 (omega (arith, far.1)) is.1.0 (grind (arith, wt, one)) (unmarked (is_marker (act_of w.shown)) refl far.1)
 
 -- ---- a beginning and a row
 

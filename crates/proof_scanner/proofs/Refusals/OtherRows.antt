@@ -24,18 +24,14 @@ near_by w ws last a q e row further = let c = some_row (account_past a w (spelle
     at : Site
     at = site_at false a.site w.separation w.piece w.shown next
 
-    -- the piece ends no nearer than it begins
-    earlier : (b : Account) → b.site.position ≡ position_after at.position w.piece next → b.site.position.index ≤ q.index + 1024 → at.position.index ≤ q.index + 1024
-    earlier b i n = grind (arith, index_after)
-
     of : (b : Account) → IsRowFrom (Some b) ws last → Made a.site a.line a.entries w next b → GoesNear a w next q
     of b on (inside some sep site one) =
         let there = still_there true (begins_free_line a.site.before w.separation) a.line b.line q e sep in
-        record { unbroken = there.0; near = earlier b (ap (λ x. x.position) site) (further b there.1 on) }
+        record { unbroken = there.0; near = (grind (arith, index_after, (ap (λ x. x.position) site), (further b there.1 on))) }
     of b on (outside m o none sep past line site one) =
         let there = still_there false (begins_free_line a.site.before w.separation) a.line m q e sep in
         let on_or_near : (o.line ≡ waits q) ⊎ (at.position.index ≤ q.index + 1024) = grind (arith, (subst (λ l. line_past (is_in_column at.position.col at.blocks) at.position at.blocks (act_of w.shown) w.key l ≡ Some o) there.1 past)) in
-        record { unbroken = there.0; near = elim on_or_near [ inl still ↦ earlier b (ap (λ x. x.position) site) (further b (line ∙ still) on) | inr near ↦ near ] }
+        record { unbroken = there.0; near = elim on_or_near [ inl still ↦ (grind (arith, index_after, (ap (λ x. x.position) site), (further b (line ∙ still) on))) | inr near ↦ near ] }
 
 -- where the last piece of a row ended while a key waits
 ends_near : (ws : List Step) (last : List ℕ) (a : Account) (q : Position) → a.line ≡ waits q → IsRowFrom (Some a) ws last → a.site.position.index ≤ q.index + 1024

@@ -244,18 +244,15 @@ module _ {a : Account} {separation rest : List ℕ} {here : Position} (s : StepA
   no_entries : is_in_flow a.entries ≡ false → s.account.entries ≡ []
   no_entries out = grind arith
 
-  taken_there : is_taken a separation ≡ true → is_taken_line (line_past_separation false (begins_free_line s.account.site.before s.step.separation) s.account.line) ≡ true
-  taken_there h = grind arith
-
   none_on_line : is_in_flow a.entries ≡ false → is_taken a separation ≡ true → (act_of s.step.shown ≡ gives_dash) ⊎ (act_of s.step.shown ≡ gives_question) → ⊥
-  none_on_line out line is = goes_on [] (no_entries out) (none_begins there s.step.piece s.step.shown s.next _ s.step.key _ is (taken_there line))
+  none_on_line out line is = goes_on [] (no_entries out) (none_begins there s.step.piece s.step.shown s.next _ s.step.key _ is (grind (arith, line)))
 
   -- no colon stands on a line that is taken, where no key waits for it
   pub no_colon_here : (more : List ℕ) → rest ≡ 58 ∷ more → is_value_here a separation more ≡ true → is_in_flow a.entries ≡ false → is_taken a separation ≡ true
       → ((q : Position) → s.account.line ≡ waits q → begins_free_line s.account.site.before separation ≡ false → is_near q here ≡ true → ⊥) → ⊥
   no_colon_here more e is out line none =
       let w : Here colon = colon_here more e is in
-      goes_on [] (no_entries out) (none_ends there s.step.piece s.step.shown s.next _ s.step.key _ (ap act_of w.2) (taken_there line) (λ q i near.
+      goes_on [] (no_entries out) (none_ends there s.step.piece s.step.shown s.next _ s.step.key _ (ap act_of w.2) (grind (arith, line)) (λ q i near.
       let was = waited false (begins_free_line s.account.site.before s.step.separation) s.account.line (waits q) q i refl in
       none q was.0 (rw (sym s.separation_is) was.1) (rw (sym s.position_is) near)))
 
@@ -291,9 +288,6 @@ module _ {a : Account} {separation rest : List ℕ} {here : Position} (s : StepA
 
   -- ---- where a piece stands
 
-  no_line : begins_document_at here rest ≡ false → is_marker (act_of s.step.shown) ≡ false
-  no_line none = grind (arith, nat_tests, eqb-true, marker_begins)
-
   least_at_most : (t : Tok) (x : Site) → least_column x.blocks x.awaits ≤ least_for t x
   least_at_most t x = grind arith
 
@@ -306,7 +300,7 @@ module _ {a : Account} {separation rest : List ℕ} {here : Position} (s : StepA
   -- The row's piece stands where it may, but for a TAB after a quoted scalar.
   pub stands_nowhere : (T : Problem → Position → Type 0) → OfQuoted s T → (why : Problem) (at : Position) → MayNotStand a separation here rest why at → T why at
   unfolding is_blank_or_end is_blank is_break is_nul is_flow
-  stands_nowhere T quoted why at (failing.shallow inside none left) = absurd (grind (arith, nat_tests, eqb-true, here_stood, same_flow, too_shallow, no_line))
+  stands_nowhere T quoted why at (failing.shallow inside none left) = absurd (grind (arith, nat_tests, eqb-true, here_stood, same_flow, too_shallow, marker_begins))
   stands_nowhere T quoted why at (failing.too_deep c more e (inl is) many) =
       let own : Here sequence_opening = whole_by 91 more (e ∙ ap (λ x. x ∷ more) is) in
       let piece : IsPiece acct s.step.piece s.next None spot flow_sequence_start = subst (λ t. IsPiece acct s.step.piece s.next None spot t) own.1 is_piece in

@@ -184,15 +184,12 @@ module _ {a : Account} {separation rest : List ℕ} {here : Position} (s : StepA
   abbrev seen_here : pieces.Account
   seen_here = acct s
 
-  comes_there : comes_plain (pieces.is_in_flow seen_here) (is_adjacent seen_here.before) seen_here.position.col rest ≡ true
-  comes_there = grind arith
-
   plain_here : Here s plain_scalar
-  plain_here = elim (comes_by (pieces.is_in_flow seen_here) (is_adjacent seen_here.before) seen_here.position.col rest comes_there) [
+  plain_here = elim (comes_by (pieces.is_in_flow seen_here) (is_adjacent seen_here.before) seen_here.position.col rest (grind arith)) [
     | inl k ↦ subst (Here s) k (whole_at s)
     | inr k ↦
         let m : Here s dashes = subst (Here s) k (whole_at s) in
-        absurd (no_marker (pieces.is_in_flow seen_here) (is_adjacent seen_here.before) seen_here.position.col rest s.next comes_there (ap (λ p. p ++ s.next) (sym m.0.0) ∙ s.text_is) m.0.1 m.0.2)
+        absurd (no_marker (pieces.is_in_flow seen_here) (is_adjacent seen_here.before) seen_here.position.col rest s.next (grind arith) (ap (λ p. p ++ s.next) (sym m.0.0) ∙ s.text_is) m.0.1 m.0.2)
   ]
 
   site_is : At s.account s.step s.next ≡ site_at_place a here

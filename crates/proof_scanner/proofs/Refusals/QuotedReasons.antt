@@ -66,11 +66,6 @@ break_column c b p e = grind (arith, past_line, past_two, and_false)
 
 -- ---- document markers
 
--- a marker begins a line after a break, or one after that
-pub break_marks : (c : ℕ) (b body rest : List ℕ) → is_break c ≡ true → has_marker (c ∷ (take (break_further c b) b ++ body)) rest ≡ marked_from 0 body rest
-unfolding classes.is_break
-break_marks c b body rest e = grind (arith, same_break, feed_is_no_marker)
-
 -- none begins within a line
 line_marks : (w body rest : List ℕ) → is_in_line w ≡ true → has_marker (w ++ body) rest ≡ has_marker body rest
 line_marks [] body rest h = refl
@@ -100,11 +95,6 @@ content_after single c b code k is p = ap (λ l. position_after p l (drop k b)) 
 off_margin : (n m : ℕ) → n + 1 ≤ m → (m == 0) ≡ false
 off_margin n m h = grind (arith, nat_tests, h)
 
--- after an escaped break a line begins
-pub escaped_column : (c : ℕ) (b : List ℕ) (d : ℕ) (a : List ℕ) (p : Position) → c ≡ 92 → b ≡ d ∷ a → is_break d ≡ true → (position_after p (c ∷ take (suc (break_further d a)) b) (drop (suc (break_further d a)) b)).col ≡ 0
-unfolding is_break
-escaped_column c b d a p same_c same_b f = grind (arith, break_column, past_is)
-
 -- Whether a marker begins a line of a text that begins with an element: one begins a line after it.
 pub marks_after : (single : Bool) (c : ℕ) (b : List ℕ) (e : Spelled) → (is : element_of single c b ≡ Some e) → (p : Position) (body rest : List ℕ) → has_marker (c ∷ (take e.further b ++ body)) rest ≡ marked_from (after_it single c b e is p).col body rest
 unfolding is_break classes.is_break
@@ -119,8 +109,8 @@ marks_after single c b e is p body rest = by e is (kind_of single c b e is)
     by : (e : Spelled) → (is : element_of single c b ≡ Some e) → Kind single c b e → has_marker (c ∷ (take e.further b ++ body)) rest ≡ marked_from (after_it single c b e is p).col body rest
     by e is (has_content code k solid) = grind (arith, nat_tests, eqb-true, content_after, within, content_in_line, off_margin, along_more)
     by e is (has_blank f g) = grind (arith, nat_tests, within, same_break, past_is, p, off_margin, eqb-true)
-    by e is (has_line f) = at_margin _ _ (break_column c b p f) (break_marks c b body rest f)
-    by e is (has_escaped d a double same_c same_b f) = grind (arith, nat_tests, eqb-true, at_margin, escaped_column, break_marks)
+    by e is (has_line f) = at_margin _ _ (break_column c b p f) (grind (arith, same_break, feed_is_no_marker, f))
+    by e is (has_escaped d a double same_c same_b f) = grind (arith, nat_tests, eqb-true, at_margin, break_column, past_is, same_break, feed_is_no_marker)
 
 -- ---- indented lines, element by element
 
@@ -260,13 +250,14 @@ module _ (single : Bool) (least : ℕ) (start : Position) where
 
     -- the column after it is that of its position, where it matters
     pub columns_are : (s : LineStand) (p : Position) (fs : List Element) → all_stand least (past_element s e.element) (column_past p.col e.element) fs ≡ all_stand least (past_element s e.element) (past_it p).col fs
+    unfolding is_break
     columns_are s p fs = by e is (kind_of single c b e is)
       where
         by : (e : Spelled) → (is : element_of single c b ≡ Some e) → Kind single c b e → all_stand least (past_element s e.element) (column_past p.col e.element) fs ≡ all_stand least (past_element s e.element) (after_it single c b e is p).col fs
         by e is (has_content code k solid) = within_alike least _ _ fs
         by e is (has_blank f g) = grind (arith, nat_tests, eqb-true, blank, past_is)
         by e is (has_line f) = ap (λ k. all_stand least at_start k fs) (sym (break_column c b p f))
-        by e is (has_escaped d a double same_c same_b f) = ap (λ k. all_stand least past_escaped k fs) (sym (escaped_column c b d a p same_c same_b f))
+        by e is (has_escaped d a double same_c same_b f) = ap (λ k. all_stand least past_escaped k fs) (sym (grind (arith, break_column, past_is, same_c, same_b, f)))
 
     marks_grown : (p : Position) → is_marked p (c ∷ b) ≡ false → (body rest : List ℕ) → drop e.further b ≡ body ++ rest → marked_from p.col (before body) rest ≡ marked_from (past_it p).col body rest
     marks_grown p none body rest h = grind (arith, cut, none, marks_after)
@@ -359,20 +350,16 @@ bad_is r why (bad.unknown c s i j k) = rw k refl
 bad_is r why (bad.no_digit c digits s i j k) = rw (j, k) refl
 bad_is r why (bad.no_character c digits code s i j k l) = rw (j, k) refl
 
-numeric_is : (n : ℕ) (r : List ℕ) → numeric_escape n r ≡ numbered n (number_at n r)
-unfolding numeric_escape
-numeric_is n r = grind arith
-
 no_break : (c n : ℕ) → lookup c numeric_escapes ≡ Some n → classes.is_break c ≡ false
 unfolding classes.is_break
 no_break c n h = grind arith
 
 bad_none : (r : List ℕ) (why : Problem) → IsBadEscape r why → escape r ≡ None
-unfolding escape
+unfolding escape numeric_escape
 bad_none r why bad.ends = refl
 bad_none r why (bad.unknown c s i j k) = rw (i, j, k) refl
-bad_none r why (bad.no_digit c digits s i j k) = let n = no_break c digits j in rw (n, i, j) (numeric_is digits s ∙ ap (λ o. numbered digits o) k)
-bad_none r why (bad.no_character c digits code s i j k l) = let n = no_break c digits j in rw (n, i, j) (numeric_is digits s ∙ (ap (λ o. numbered digits o) k ∙ rw l refl))
+bad_none r why (bad.no_digit c digits s i j k) = let n = no_break c digits j in rw (n, i, j) ((grind arith) ∙ ap (λ o. numbered digits o) k)
+bad_none r why (bad.no_character c digits code s i j k l) = let n = no_break c digits j in rw (n, i, j) ((grind arith) ∙ (ap (λ o. numbered digits o) k ∙ rw l refl))
 
 none_here : (single : Bool) (r : List ℕ) (why : Problem) → single ≡ false → IsBadEscape r why → element_of single 92 r ≡ None
 unfolding double_quoted_element classes.is_nul

@@ -32,13 +32,10 @@ record Bodied (single : Bool) (more piece next : List ℕ) : Type 0 where
   value_is : value_of single body ≡ Some value
   ends : ends_before single next ≡ true
 
-bodied : (single : Bool) (more piece next : List ℕ) → none.quote_of single ∷ more ≡ piece ++ next → IsQuoted single piece next → Bodied single more piece next
-bodied a more piece next cut is = grind (arith, nat_tests, eqb-true, append_assoc)
-
 -- A text that the scan refuses, and not for its lines, begins with no quoted scalar.
 pub none_quoted : (single : Bool) (ctx : Context) (more : List ℕ) (p : Position) (f : Fault) → quoted single ctx (none.quote_of single ∷ more) p ≡ Err f → is_of_lines f ≡ false → none.HasNoQuoted single (none.quote_of single ∷ more)
 none_quoted single ctx more p f fails unlike piece next cut is =
-    let b : Bodied single more piece next = bodied single more piece next cut is in
+    let b : Bodied single more piece next = grind (arith, nat_tests, eqb-true, append_assoc, cut, is) in
     let by : (b : Bodied single more piece next) (x : Result (Read (List ℕ)) Fault) → x ≡ Err f → scans.IsRead ctx p b.value next x → ⊥ = λ b x i a. grind arith in
     by b (quoted single ctx (quote_of single ∷ (b.body ++ quote_of single ∷ next)) p) (ap (λ q. quoted single ctx (q ∷ (b.body ++ q ∷ next)) p) (grind arith) ∙ (ap (λ r. quoted single ctx (none.quote_of single ∷ r) p) (sym b.is_text) ∙ fails)) (bodies_are_read single ctx b.body next b.value p b.value_is b.ends)
 
@@ -123,7 +120,7 @@ module _ (text : List ℕ) (t : ScannerState) (a : Arrives text t) (some : is_em
       none_fits : (why : Problem) (at : Position) → (why ≡ QuotedDocumentMarker → ⊥) → Reason single least here within (past here) more why at → AreNotIndented single least t.rest
       none_fits why at unlike x piece next cut is = elim (cases_Bool (quoted_lines_fit least (element_of single) piece)) [
         | inl i ↦
-            let b : Bodied single more piece next = bodied single more piece next (sym e ∙ cut) is in
+            let b : Bodied single more piece next = grind (arith, nat_tests, eqb-true, append_assoc, (sym e ∙ cut), is) in
             let es = has_elements single b.body b.value b.value_is in
             let whole : quoted_lines_fit least (element_of single) (none.quote_of single ∷ (b.body ++ none.quote_of single ∷ [])) ≡ true = ap (quoted_lines_fit least (element_of single)) (sym b.piece_is) ∙ i in
             let fit : further_lines_fit least (lines_of es.0) ≡ true = rw (body_between (none.quote_of single) b.body, es.1) at whole in
