@@ -1,5 +1,5 @@
 -- A text is stuck at one place, with one kind.
-use Rattle.proof_scanner.proofs.Common.{Account, account_past, ap, Begins, Bool, colon_may_precede, fails, FailsFirst, false, first_account, HasNoKey, inl, inr, is_in_flow, is_taken, is_value_here, IsLike, IsLookedAt, IsPlace, IsStuck, key_waits, List, no_key, no_nul_after, Position, Problem, refl, Some, spelled, Step, subst, sym, true, up_to_nul, ℕ, ◌++◌, ◌∙◌, ◌∷◌, ◌≡◌, ◌⊎◌, arith, eqb-true, nat_tests, ValueNotAllowed, [], act_of, begins_separation, clean_up_to_end, comes_first, Fails, follows_plain, gives_node, has_no_nul, is_empty, is_free_of_tabs, is_indented_by_spaces, is_separation, IsQuoted, None, Option, position_after, separations, Site, cases_Bool, TabInBlockIndentation}
+use Rattle.proof_scanner.proofs.Common.{Account, account_past, ap, Begins, Bool, colon_may_precede, fails, FailsFirst, false, first_account, HasNoKey, inl, inr, is_in_flow, is_taken, is_value_here, IsLike, IsLookedAt, IsPlace, IsStuck, key_waits, List, no_key, no_nul_after, Position, Problem, refl, Some, spelled, Step, subst, sym, true, up_to_nul, ℕ, ◌++◌, ◌∙◌, ◌∷◌, ◌≡◌, ◌⊎◌, arith, eqb-true, nat_tests, ValueNotAllowed, [], act_of, begins_separation, clean_up_to_end, comes_first, Fails, follows_plain, gives_node, has_no_nul, is_empty, is_free_of_tabs, is_indented_by_spaces, is_separation, IsQuoted, position_after, separations, Site, cases_Bool, TabInBlockIndentation}
 use Rattle.proof_scanner.proofs.Refusals.Common.{leads_on, GivesUp, GoesOn, KeepsOn, LeadsBy, Meet, Same, Way, With, begins_at_start, begins_past, clean_after, ends_before, first_on, gap_is_separation, gives_up_like, like_sym, meet, same_place, second_on, step_here, strict_way, way_but_for_key, way_of}
 use Rattle.proof_scanner.proofs.Refusals.OtherRows.{StepAt, IsClearAfter, IsClearGapAfter, stood, step_from}
 use Rattle.proof_scanner.proofs.Refusals.PiecesRefused.{no_colon_here, node_site_past, node_token, quoted_value, same_quoted_value}
@@ -35,14 +35,6 @@ one_cut a b s1 r1 s2 r2 h1 h2 p q i c e = grind (arith, nat_tests, eqb-true, sep
 pub gives_up_site : (a x : Account) → GivesUp a x → a.site ≡ x.site
 gives_up_site a x b = grind (arith, nat_tests, eqb-true)
 
-module _ (J : Account → Account → Type 0) (R : Account → Account → List ℕ → Type 0) (a b : Account) (s1 r1 s2 r2 : List ℕ) (h1 : Position) (p : Stands a s1 r1 h1) (g : GoesOn J R a b (s1 ++ r1) (s2 ++ r2)) (clean : Holds (has_no_nul (s1 ++ r1))) where
-  abbrev pub next : List ℕ
-  next = spelled g.steps (s2 ++ r2)
-
-  -- the step by which a way goes on from a place
-  abbrev pub step_of : StepAt a s1 r1 h1
-  step_of = step_from a g.account g.past s1 r1 next h1 g.step g.is_like g.is_written g.is_past g.spells p.is_filled p.is_solid (no_nul_after s1 r1 clean) p.is_here
-
 -- No TAB indents what comes after a step, where a way leads on to a place where none does.
 clear_way : (J : Account → Account → Type 0) → ((x y : Account) → J x y → x.site ≡ y.site) → (o b : Account) (vs : List Step) (s2 r2 gap content : List ℕ) → LeadsBy J (Some o) vs (s2 ++ r2) b → is_separation false s2 r2 ≡ true → begins_separation r2 ≡ false → (vs ≡ [] → is_indented_by_spaces b.site.before b.site.blocks b.site.awaits s2 ≡ true)
     → spelled vs (s2 ++ r2) ≡ gap ++ content → is_separation false gap content ≡ true → begins_separation content ≡ false → has_no_nul content ≡ true → has_no_nul r2 ≡ true → is_indented_by_spaces o.site.before o.site.blocks o.site.awaits gap ≡ true
@@ -64,8 +56,9 @@ tab_alone b separation here rest why at f first tab = absurd (cc tab)
 
 module _ (J : Account → Account → Type 0) (same : (x y : Account) → J x y → x.site ≡ y.site) (R : Account → Account → List ℕ → Type 0) (a b : Account) (s1 r1 s2 r2 : List ℕ) (h1 h2 : Position) (p : Stands a s1 r1 h1) (q : Stands b s2 r2 h2)
     (g : GoesOn J R a b (s1 ++ r1) (s2 ++ r2)) (clean : Holds (has_no_nul (s1 ++ r1))) where
+  -- the step by which a way goes on from a place
   abbrev step : StepAt a s1 r1 h1
-  step = step_of J R a b s1 r1 s2 r2 h1 p g clean
+  step = step_from a g.account g.past s1 r1 (spelled g.steps (s2 ++ r2)) h1 g.step g.is_like g.is_written g.is_past g.spells p.is_filled p.is_solid (no_nul_after s1 r1 clean) p.is_here
 
   later_clean : Holds (has_no_nul (s2 ++ r2))
   later_clean = clean_after (g.step ∷ g.steps) (s2 ++ r2) (rw g.spells clean)
@@ -216,14 +209,14 @@ module _ (text : List ℕ) {why1 why2 : Problem} {at1 at2 : Position} (f : Claim
             | inr x ↦ (x.0, x.1 ∙ cut.2)
           ]
       by (second_on n) =
-          let s : StepAt f.account f.separation f.rest f.here = step_of Same (BeginsOrApart text) f.account g.account f.separation f.rest g.separation g.rest f.here f.stands n (clean_place f.way) in
+          let s : StepAt f.account f.separation f.rest f.here = step Same (λ x y e. ap (λ (u : Account). u.site) e) (BeginsOrApart text) f.account g.account f.separation f.rest g.separation g.rest f.here g.here f.stands g.stands n (clean_place f.way) in
           elim f.says [
             | inl x ↦
                 absurd (no_step_stands s (clear Same (λ x y e. ap (λ (u : Account). u.site) e) (BeginsOrApart text) f.account g.account f.separation f.rest g.separation g.rest f.here g.here f.stands g.stands n (clean_place f.way) (λ _. z.looked.has_no_tab)) why1 at1 x.fails)
             | inr x ↦ absurd (keyless_step text f.separation f.rest x.2.more f.account f.here s x.2.is_rest n.holds.0 x.2.place.is_filled x.2.is_value x.2.is_outside x.2.is_line_taken x.2.has_none)
           ]
       by (first_on n) =
-          let s : StepAt g.account g.separation g.rest g.here = step_of GivesUp (λ x y. BeginsOrApart text y x) g.account f.account g.separation g.rest f.separation f.rest g.here g.stands n (clean_place g.way) in
+          let s : StepAt g.account g.separation g.rest g.here = step GivesUp gives_up_site (λ x y. BeginsOrApart text y x) g.account f.account g.separation g.rest f.separation f.rest g.here f.here g.stands f.stands n (clean_place g.way) in
           elim n.holds.1 [
             | inl r ↦ absurd (keyless_step text g.separation g.rest z.more g.account g.here s z.is_rest r.1 z.place.is_filled z.is_value z.is_outside z.is_line_taken z.has_none)
             | inr r ↦ absurd (no_colon_here s z.more z.is_rest z.is_value z.is_outside z.is_line_taken (λ q waiting unbroken near. cc (waiting, r.1.none)))

@@ -1,5 +1,5 @@
 -- A beginning of a row that goes on past a place does so by the step that was read there, from a beginning up to there; and where a piece begins, a way leads.
-use Rattle.proof_scanner.proofs.Common.{cases_Bool, inl, inr, nat_tests, eqb-true, [], Account, account_past, ap, arith, Begins, Bool, chosen, clean_up_to_end, Entry, false, first_account, FlowLevel, GoesThrough, has_no_nul, HasRow, is_empty, is_separation, IsLike, IsRowFrom, IsWritten, Key, Leads, length, length-append, line_by, List, may_end, no_nul_after, None, not, Option, outside_key, refl, Row, same_written, ScannerState, Some, spelled, Step, subst, sym, true, up_to_nul, ℕ, ◌++◌, ◌<◌, ◌∙◌, ◌∷◌, ◌≡◌, ◌≤◌, begins_separation, ends_separation, is_blank_or_end, no_piece_at_end, not_empty, seen, separations, separations_end_before, shown_position}
+use Rattle.proof_scanner.proofs.Common.{cases_Bool, inl, inr, nat_tests, eqb-true, [], Account, account_past, ap, arith, Begins, Bool, chosen, clean_up_to_end, Entry, false, first_account, FlowLevel, GoesThrough, has_no_nul, HasRow, is_empty, is_separation, IsLike, IsRowFrom, IsWritten, Key, Leads, length, length-append, line_by, List, may_end, no_nul_after, None, not, Option, outside_key, refl, Row, same_written, ScannerState, Some, spelled, Step, subst, sym, true, up_to_nul, ℕ, ◌++◌, ◌∙◌, ◌∷◌, ◌≡◌, ◌≤◌, begins_separation, ends_separation, is_blank_or_end, no_piece_at_end, not_empty, seen, separations, separations_end_before, shown_position}
 use Rattle.defs_token.specs.Piece.{Holds}
 use Rattle.proof_scanner.proofs.Known.Ways.{first_on, gives_up_like, GivesUp, KeepsOn, LeadsBy, Meet, meet, moved, Same, same_place, second_on, strict_way, strictly, Way, way_but_for_key, way_of, With}
 use Rattle.proof_scanner.proofs.Sound.Common.{ArrivesBy, begins_at_start, begins_past, none_chosen, not_none, with_entries}
@@ -29,8 +29,13 @@ spelled_longer : (ws : List Step) (after : List ℕ) → length after ≤ length
 spelled_longer [] after = omega arith
 spelled_longer (w ∷ ws) after = grind (arith, length-append, spelled_longer ws after)
 
-longer : (w : Step) (next : List ℕ) → not (is_empty w.piece) ≡ true → length next < length (w.separation ++ (w.piece ++ next))
-longer w next some = grind (arith, length-append, not_none)
+-- no text is left with a piece before it
+never : (us ws : List Step) (f w after : List ℕ) → not (is_empty w) ≡ true → after ≡ spelled us (f ++ (w ++ spelled ws after)) → ⊥
+never us ws f w after some e =
+    let outer = spelled_longer us (f ++ (w ++ spelled ws after)) in
+    let inner = spelled_longer ws after in
+    let same = ap length e in
+    absurd (grind (arith, length-append, not_none, outer, inner, same, some))
 
 -- no step leads to where a text begins
 pub begins_whole : (text after : List ℕ) (b : Account) → after ≡ up_to_nul text → Begins text after b → first_account ≡ b
@@ -38,11 +43,7 @@ begins_whole text after b whole g = by g.steps g.leads (g.spells ∙ sym whole)
   where
     by : (ws : List Step) → Leads (Some first_account) ws after b → spelled ws after ≡ after → first_account ≡ b
     by [] h e = h
-    by (w ∷ ws) h e =
-        let more = longer w (spelled ws after) h.0.1.0 in
-        let on = spelled_longer ws after in
-        let same = ap length e in
-        absurd (omega (arith, more, on, same))
+    by (w ∷ ws) h e = absurd (never [] ws w.separation w.piece after h.0.1.0 (sym e))
 
 -- ---- past a step
 
@@ -70,12 +71,8 @@ came_by text a w next b way written g =
     (strict_way text next b g).leads (way.spells ∙ sym (strict_way text next b g).spells) (rw way.spells (clean_up_to_end text)))
   where
     by : Meet GivesUp Same (SecondBegins text) a b (w.separation ++ (w.piece ++ next)) next → Came text a w next b
-    by (same_place i r e) = let more = longer w next written.1.0 in let same = ap length e in absurd (omega (arith, more, same))
-    by (first_on n) =
-        let more = longer w next written.1.0 in
-        let on = spelled_longer (n.step ∷ n.steps) (w.separation ++ (w.piece ++ next)) in
-        let same = ap length n.spells in
-        absurd (omega (arith, more, on, same))
+    by (same_place i r e) = absurd (never [] [] w.separation w.piece next written.1.0 (sym e))
+    by (first_on n) = absurd (never (n.step ∷ n.steps) [] w.separation w.piece next written.1.0 (sym n.spells))
     by (second_on n) = to n.steps n.leads same.3 (subst (λ v. account_past n.account v (spelled n.steps next) ≡ Some n.past) (moved n.step w (sym same.0) (sym same.1) (sym same.2)) n.is_past)
       where
         same : (w.separation ≡ n.step.separation) × (w.piece ≡ n.step.piece) × (w.shown ≡ n.step.shown) × (next ≡ spelled n.steps next)
@@ -83,11 +80,7 @@ came_by text a w next b way written g =
 
         to : (ws : List Step) → LeadsBy Same (Some n.past) ws next b → next ≡ spelled ws next → account_past n.account (With w n.step.key) (spelled ws next) ≡ Some n.past → Came text a w next b
         to [] h e past = record { from = n.account; key = n.step.key; is_like = n.is_like; begins = n.holds.0; is_past = past ∙ ap (λ x. Some x) h }
-        to (v ∷ ws) h e past =
-            let more = longer v (spelled ws next) h.2.1.0 in
-            let on = spelled_longer ws next in
-            let same = ap length e in
-            absurd (omega (arith, more, on, same))
+        to (v ∷ ws) h e past = absurd (never [] ws v.separation v.piece next h.2.1.0 e)
 
 -- ---- ways to where a piece begins
 

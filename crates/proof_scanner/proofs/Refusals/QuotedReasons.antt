@@ -1,5 +1,5 @@
 -- Why the text after an opening quote is refused, told of the text from an element on.
-use Rattle.proof_scanner.proofs.Common.{past, [], are_marks, after_own, and_false, ap, append_assoc, are_indented, arith, at_start, begins_further, begins_solid, begins_with, begun_with, blank, Bool, content, drop, Element, element_of, elements, escaped_break, false, further_lines_fit, has_more, is_document_marker, IsBadEscape, line_break, Lines, lines_fit, lines_of, LineStand, List, local, LocalOf, marked_from, nat_lt, nat_tests, not, past_element, past_elements, past_escaped, past_is, Position, position_after, position_append, Problem, refl, replicate, Some, Spelled, subst, suc, sym, take, take-append-drop, true, within, zero, ℕ, ◌&&◌, ◌++◌, ◌+◌, ◌==◌, ◌∙◌, ◌∷◌, ◌≡◌, eqb-true, or-false, after_chars, along, along_more, append-nil, break_further, digit_value, double_quoted_element, escape, escape_by, feed_is_no_marker, has_marker, hexadecimal, in_line_position, is_cr_lf, is_in_line, line_position, None, numeric_escape, Option, past_break, plain_element, position_past, same_blank, same_break, same_feed, single_quoted_element, ◌*◌, ◌≤◌, QuotedDocumentMarker, QuotedEnd, QuotedIndentation, TabAsIndentation, and_parts, drop-append-le, ends_before, inl, inr, length, length-take, Local, lookup, number_at, numbered, numeric_escapes, take-append-le, cases_Bool, ◌||◌, ◌⊎◌, is_empty, if◌then◌else◌, EscapedCode, HexadecimalDigit, UnknownEscape, feed_past}
+use Rattle.proof_scanner.proofs.Common.{past, [], are_marks, after_own, and_false, ap, append_assoc, are_indented, arith, at_start, begins_further, begins_solid, begins_with, begun_with, blank, Bool, content, drop, Element, element_of, elements, escaped_break, false, further_lines_fit, has_more, is_document_marker, IsBadEscape, line_break, Lines, lines_fit, lines_of, LineStand, List, local, LocalOf, marked_from, nat_lt, nat_tests, not, past_element, past_elements, past_escaped, past_is, Position, position_after, position_append, Problem, refl, replicate, Some, Spelled, subst, suc, sym, take, take-append-drop, true, within, zero, ℕ, ◌&&◌, ◌++◌, ◌+◌, ◌==◌, ◌∙◌, ◌∷◌, ◌≡◌, eqb-true, or-false, after_chars, along, along_more, append-nil, break_further, digit_value, double_quoted_element, escape, escape_by, feed_is_no_marker, has_marker, hexadecimal, in_line_position, is_cr_lf, is_in_line, line_position, None, numeric_escape, Option, past_break, plain_element, position_past, same_blank, same_break, same_feed, single_quoted_element, ◌*◌, ◌≤◌, QuotedDocumentMarker, QuotedEnd, QuotedIndentation, TabAsIndentation, and_parts, drop-append-le, ends_before, inl, inr, length, length-take, Local, lookup, number_at, numbered, numeric_escapes, take-append-le, cases_Bool, ◌||◌, ◌⊎◌, if◌then◌else◌, EscapedCode, HexadecimalDigit, UnknownEscape, feed_past}
 use Rattle.proof_scanner.proofs.Sound.QuotedBreaks.{Kind, has_content, has_blank, has_line, has_escaped, fits_from, lines_from, lines_here, empty_here, KindOf, kind, is_white}
 use Rattle.proof_scanner.specs.NoPiece.{quote_of}
 use Rattle.yaml_chars.specs.Class.{is_break, is_blank}
@@ -182,6 +182,76 @@ within_alike least k j (content c ∷ es) = within_alike least k j es
 within_alike least k j (blank c ∷ es) = within_alike least (suc k) (suc j) es
 within_alike least k j a = grind arith
 
+-- the elements of a body begin with one
+record Begins (single : Bool) (c : ℕ) (b : List ℕ) (es : List Element) : Type 0 where
+  first : Spelled
+  is : element_of single c b ≡ Some first
+  others : List Element
+  are : elements (element_of single) first.further b ≡ Some others
+  all : es ≡ first.element ∷ others
+
+own : (single : Bool) (c : ℕ) (b : List ℕ) (s : Spelled) → element_of single c b ≡ Some s → Local (element_of single c) b s
+own single c b s is = subst (λ o. LocalOf (element_of single c) b o) is (local single c b)
+
+-- its characters are there
+enough : (single : Bool) (c : ℕ) (b : List ℕ) (s : Spelled) → element_of single c b ≡ Some s → s.further ≤ length b
+enough single c b s is = let f = (own single c b s is).fits in omega (arith, f, length-take s.further b)
+
+-- ---- escapes that are none
+
+-- what is wrong with one
+abbrev code_problem : Option ℕ → Problem
+code_problem None = HexadecimalDigit
+code_problem (Some n) = EscapedCode
+
+abbrev digits_problem : Option ℕ → List ℕ → Problem
+digits_problem None r = UnknownEscape
+digits_problem (Some n) r = code_problem (number_at n r)
+
+abbrev escape_problem : List ℕ → Problem
+escape_problem [] = UnknownEscape
+escape_problem (c ∷ r) = digits_problem (lookup c numeric_escapes) r
+
+bad_is : (r : List ℕ) (why : Problem) → IsBadEscape r why → escape_problem r ≡ why
+bad_is r why bad.ends = refl
+bad_is r why (bad.unknown c s i j k) = rw k refl
+bad_is r why (bad.no_digit c digits s i j k) = rw (j, k) refl
+bad_is r why (bad.no_character c digits code s i j k l) = rw (j, k) refl
+
+no_break : (c n : ℕ) → lookup c numeric_escapes ≡ Some n → classes.is_break c ≡ false
+unfolding classes.is_break
+no_break c n h = grind arith
+
+bad_none : (r : List ℕ) (why : Problem) → IsBadEscape r why → escape r ≡ None
+unfolding escape numeric_escape
+bad_none r why bad.ends = refl
+bad_none r why (bad.unknown c s i j k) = rw (i, j, k) refl
+bad_none r why (bad.no_digit c digits s i j k) = let n = no_break c digits j in rw (n, i, j) ((grind arith) ∙ ap (λ o. numbered digits o) k)
+bad_none r why (bad.no_character c digits code s i j k l) = let n = no_break c digits j in rw (n, i, j) ((grind arith) ∙ (ap (λ o. numbered digits o) k ∙ rw l refl))
+
+none_here : (single : Bool) (r : List ℕ) (why : Problem) → single ≡ false → IsBadEscape r why → element_of single 92 r ≡ None
+unfolding double_quoted_element classes.is_nul
+none_here single r why e b = grind (arith, bad_none)
+
+-- ---- what is wrong with a text first, by computing
+
+not_solid : (c : ℕ) (b : List ℕ) → is_white c ≡ true → begins_solid (c ∷ b) ≡ true → ⊥
+not_solid c b h e = grind (arith, same_break, same_blank)
+
+-- where a scalar ends, no element begins with the quote
+quote_ends : (single : Bool) (next : List ℕ) → ends_before single next ≡ true → element_of single (quote_of single) next ≡ None
+unfolding single_quoted_element double_quoted_element classes.is_nul
+quote_ends a next ends = grind arith
+
+-- the element that begins there, and what follows it
+abbrev further_of : Option Spelled → ℕ
+further_of None = 0
+further_of (Some e) = e.further
+
+abbrev stand_of : LineStand → Option Spelled → LineStand
+stand_of s None = s
+stand_of s (Some e) = past_element s e.element
+
 -- ---- reasons
 
 -- whether a document marker begins a line at a place
@@ -278,113 +348,40 @@ module _ (single : Bool) (least : ℕ) (start : Position) where
         holds = rw end x.holds;
       }
 
--- ---- along a body
+  -- A body whose elements may stand, with others after them, is walked along, up to its first marker or to its end.
+  pub walk_of : (G : LineStand → Position → List ℕ → Type 0) (last : List Element) (k : Bool) (r : List ℕ) → begins_with 10 r ≡ false → ((t : LineStand) (q : Position) (x : List ℕ) → is_marked q x ≡ true → k ≡ true → G t q x)
+      → (n : ℕ) (a : List ℕ) (es : List Element) (s : LineStand) (p : Position) → n ≤ length a → elements (element_of single) n a ≡ Some es → all_stand least s p.col (es ++ last) ≡ true → marked_from p.col (drop n a) r ≡ k
+      → (all_stand least (past_elements s es) (position_after p (drop n a) r).col last ≡ true → is_marked (position_after p (drop n a) r) r ≡ false → k ≡ false → G (past_elements s es) (position_after p (drop n a) r) r) → Walk G s p (drop n a ++ r)
+  walk_of G last k r no_feed marker (suc n) [] es s p l h fit m end = absurd (omega (arith, l))
+  walk_of G last k r no_feed marker (suc n) (c ∷ a) es s p l h fit m end = walk_of G last k r no_feed marker n a es s p (omega (arith, l)) h fit m end
+  walk_of G last k r no_feed marker zero [] es s p l h fit m end =
+      let none : [] ≡ es = cc h in
+      let own : is_marked p r ≡ k = sym (or-false (is_marked p r)) ∙ m in
+      elim (cases_Bool (is_marked p r)) [
+        | inl g ↦ arrived (marker s p r g (sym own ∙ g))
+        | inr g ↦
+            arrived (subst (λ x. (all_stand least (past_elements s x) p.col last ≡ true → is_marked p r ≡ false → k ≡ false → G (past_elements s x) p r) → all_stand least s p.col (x ++ last) ≡ true → G s p r) none (λ f x. f x g (sym own ∙ g)) end fit)
+      ]
+  walk_of G last k r no_feed marker zero (c ∷ b) es s p l h fit m end =
+      let f : Begins single c b es = grind arith in
+      let e : Spelled = f.first in
+      let fits : e.further ≤ length b = enough single c b e f.is in
+      let is : element_of single c (b ++ r) ≡ Some e = (own single c b e f.is).onward r no_feed in
+      let q : Position = after_it single c (b ++ r) e is p in
+      let rest : drop e.further (b ++ r) ≡ drop e.further b ++ r = drop-append-le e.further b r fits in
+      let whole : take e.further (b ++ r) ++ drop e.further b ≡ b = ap (λ x. x ++ drop e.further b) (take-append-le e.further b r fits) ∙ take-append-drop e.further b in
+      let at : position_after p (c ∷ b) r ≡ position_after q (drop e.further b) r = ap (λ x. position_after p (c ∷ x) r) (sym whole) ∙ place c (b ++ r) e is p (drop e.further b) r rest in
+      let parts = and_parts (stands least s p.col e.element) (all_stand least (past_element s e.element) (column_past p.col e.element) (f.others ++ last)) (ap (λ x. all_stand least s p.col (x ++ last)) (sym f.all) ∙ fit) in
+      let End : List Element → Position → Type 0 = λ x z. all_stand least (past_elements s x) z.col last ≡ true → is_marked z r ≡ false → k ≡ false → G (past_elements s x) z r in
+      let later : End (e.element ∷ f.others) (position_after q (drop e.further b) r) = subst (λ z. End (e.element ∷ f.others) z) at (subst (λ x. End x (position_after p (c ∷ b) r)) f.all end) in
+      elim (cases_Bool (is_marked p (c ∷ (b ++ r)))) [
+        | inl g ↦ arrived (marker s p (c ∷ (b ++ r)) g (sym m ∙ ap (λ x. x || has_marker (c ∷ b) r) g))
+        | inr g ↦
+            let marks : marked_from q.col (drop e.further b) r ≡ k = sym (marks_after single c (b ++ r) e is p (drop e.further b) r) ∙ (ap (λ x. has_marker (c ∷ x) r) whole ∙ (sym (ap (λ x. x || has_marker (c ∷ b) r) g) ∙ m)) in
+            stepped c (b ++ r) e is parts.0 g (subst (λ x. Walk G (past_element s e.element) q x) (sym rest)
+            (walk_of G last k r no_feed marker e.further b f.others (past_element s e.element) q fits f.are (sym (columns_are c (b ++ r) e is s p (f.others ++ last)) ∙ parts.1) marks later))
+      ]
 
--- the elements of a body begin with one
-record Begins (single : Bool) (c : ℕ) (b : List ℕ) (es : List Element) : Type 0 where
-  first : Spelled
-  is : element_of single c b ≡ Some first
-  others : List Element
-  are : elements (element_of single) first.further b ≡ Some others
-  all : es ≡ first.element ∷ others
-
-own : (single : Bool) (c : ℕ) (b : List ℕ) (s : Spelled) → element_of single c b ≡ Some s → Local (element_of single c) b s
-own single c b s is = subst (λ o. LocalOf (element_of single c) b o) is (local single c b)
-
--- its characters are there
-enough : (single : Bool) (c : ℕ) (b : List ℕ) (s : Spelled) → element_of single c b ≡ Some s → s.further ≤ length b
-enough single c b s is = let f = (own single c b s is).fits in omega (arith, f, length-take s.further b)
-
--- A body whose elements may stand, with others after them, is walked along, up to its first marker or to its end.
-pub walk_of : (single : Bool) (least : ℕ) (start : Position) (G : LineStand → Position → List ℕ → Type 0) (last : List Element) (k : Bool) (r : List ℕ) → begins_with 10 r ≡ false → ((t : LineStand) (q : Position) (x : List ℕ) → is_marked q x ≡ true → k ≡ true → G t q x)
-    → (n : ℕ) (a : List ℕ) (es : List Element) (s : LineStand) (p : Position) → n ≤ length a → elements (element_of single) n a ≡ Some es → all_stand least s p.col (es ++ last) ≡ true → marked_from p.col (drop n a) r ≡ k
-    → (all_stand least (past_elements s es) (position_after p (drop n a) r).col last ≡ true → is_marked (position_after p (drop n a) r) r ≡ false → k ≡ false → G (past_elements s es) (position_after p (drop n a) r) r) → Walk single least start G s p (drop n a ++ r)
-walk_of single least start G last k r no_feed marker (suc n) [] es s p l h fit m end = absurd (omega (arith, l))
-walk_of single least start G last k r no_feed marker (suc n) (c ∷ a) es s p l h fit m end = walk_of single least start G last k r no_feed marker n a es s p (omega (arith, l)) h fit m end
-walk_of single least start G last k r no_feed marker zero [] es s p l h fit m end =
-    let none : [] ≡ es = cc h in
-    let own : is_marked p r ≡ k = sym (or-false (is_marked p r)) ∙ m in
-    elim (cases_Bool (is_marked p r)) [
-      | inl g ↦ arrived (marker s p r g (sym own ∙ g))
-      | inr g ↦
-          arrived (subst (λ x. (all_stand least (past_elements s x) p.col last ≡ true → is_marked p r ≡ false → k ≡ false → G (past_elements s x) p r) → all_stand least s p.col (x ++ last) ≡ true → G s p r) none (λ f x. f x g (sym own ∙ g)) end fit)
-    ]
-walk_of single least start G last k r no_feed marker zero (c ∷ b) es s p l h fit m end =
-    let f : Begins single c b es = grind arith in
-    let e : Spelled = f.first in
-    let fits : e.further ≤ length b = enough single c b e f.is in
-    let is : element_of single c (b ++ r) ≡ Some e = (own single c b e f.is).onward r no_feed in
-    let q : Position = after_it single c (b ++ r) e is p in
-    let rest : drop e.further (b ++ r) ≡ drop e.further b ++ r = drop-append-le e.further b r fits in
-    let whole : take e.further (b ++ r) ++ drop e.further b ≡ b = ap (λ x. x ++ drop e.further b) (take-append-le e.further b r fits) ∙ take-append-drop e.further b in
-    let at : position_after p (c ∷ b) r ≡ position_after q (drop e.further b) r = ap (λ x. position_after p (c ∷ x) r) (sym whole) ∙ place single least start c (b ++ r) e is p (drop e.further b) r rest in
-    let parts = and_parts (stands least s p.col e.element) (all_stand least (past_element s e.element) (column_past p.col e.element) (f.others ++ last)) (ap (λ x. all_stand least s p.col (x ++ last)) (sym f.all) ∙ fit) in
-    let End : List Element → Position → Type 0 = λ x z. all_stand least (past_elements s x) z.col last ≡ true → is_marked z r ≡ false → k ≡ false → G (past_elements s x) z r in
-    let later : End (e.element ∷ f.others) (position_after q (drop e.further b) r) = subst (λ z. End (e.element ∷ f.others) z) at (subst (λ x. End x (position_after p (c ∷ b) r)) f.all end) in
-    elim (cases_Bool (is_marked p (c ∷ (b ++ r)))) [
-      | inl g ↦ arrived (marker s p (c ∷ (b ++ r)) g (sym m ∙ ap (λ x. x || has_marker (c ∷ b) r) g))
-      | inr g ↦
-          let marks : marked_from q.col (drop e.further b) r ≡ k = sym (marks_after single c (b ++ r) e is p (drop e.further b) r) ∙ (ap (λ x. has_marker (c ∷ x) r) whole ∙ (sym (ap (λ x. x || has_marker (c ∷ b) r) g) ∙ m)) in
-          stepped c (b ++ r) e is parts.0 g (subst (λ x. Walk single least start G (past_element s e.element) q x) (sym rest)
-          (walk_of single least start G last k r no_feed marker e.further b f.others (past_element s e.element) q fits f.are (sym (columns_are single least start c (b ++ r) e is s p (f.others ++ last)) ∙ parts.1) marks later))
-    ]
-
--- ---- escapes that are none
-
--- what is wrong with one
-abbrev code_problem : Option ℕ → Problem
-code_problem None = HexadecimalDigit
-code_problem (Some n) = EscapedCode
-
-abbrev digits_problem : Option ℕ → List ℕ → Problem
-digits_problem None r = UnknownEscape
-digits_problem (Some n) r = code_problem (number_at n r)
-
-abbrev escape_problem : List ℕ → Problem
-escape_problem [] = UnknownEscape
-escape_problem (c ∷ r) = digits_problem (lookup c numeric_escapes) r
-
-bad_is : (r : List ℕ) (why : Problem) → IsBadEscape r why → escape_problem r ≡ why
-bad_is r why bad.ends = refl
-bad_is r why (bad.unknown c s i j k) = rw k refl
-bad_is r why (bad.no_digit c digits s i j k) = rw (j, k) refl
-bad_is r why (bad.no_character c digits code s i j k l) = rw (j, k) refl
-
-no_break : (c n : ℕ) → lookup c numeric_escapes ≡ Some n → classes.is_break c ≡ false
-unfolding classes.is_break
-no_break c n h = grind arith
-
-bad_none : (r : List ℕ) (why : Problem) → IsBadEscape r why → escape r ≡ None
-unfolding escape numeric_escape
-bad_none r why bad.ends = refl
-bad_none r why (bad.unknown c s i j k) = rw (i, j, k) refl
-bad_none r why (bad.no_digit c digits s i j k) = let n = no_break c digits j in rw (n, i, j) ((grind arith) ∙ ap (λ o. numbered digits o) k)
-bad_none r why (bad.no_character c digits code s i j k l) = let n = no_break c digits j in rw (n, i, j) ((grind arith) ∙ (ap (λ o. numbered digits o) k ∙ rw l refl))
-
-none_here : (single : Bool) (r : List ℕ) (why : Problem) → single ≡ false → IsBadEscape r why → element_of single 92 r ≡ None
-unfolding double_quoted_element classes.is_nul
-none_here single r why e b = grind (arith, bad_none)
-
--- ---- what is wrong with a text first, by computing
-
-not_solid : (c : ℕ) (b : List ℕ) → is_white c ≡ true → begins_solid (c ∷ b) ≡ true → ⊥
-not_solid c b h e = grind (arith, same_break, same_blank)
-
--- where a scalar ends, no element begins with the quote
-quote_ends : (single : Bool) (next : List ℕ) → ends_before single next ≡ true → element_of single (quote_of single) next ≡ None
-unfolding single_quoted_element double_quoted_element classes.is_nul
-quote_ends a next ends = grind arith
-
--- the element that begins there, and what follows it
-abbrev further_of : Option Spelled → ℕ
-further_of None = 0
-further_of (Some e) = e.further
-
-abbrev stand_of : LineStand → Option Spelled → LineStand
-stand_of s None = s
-stand_of s (Some e) = past_element s e.element
-
-module _ (single : Bool) (least : ℕ) (start : Position) where
   -- an element that may not stand
   abbrev misplaced : Position → Element → Problem × Position
   misplaced p (blank c) = (TabAsIndentation, p)
@@ -411,11 +408,11 @@ module _ (single : Bool) (least : ℕ) (start : Position) where
 
   -- what is so where a walk ends is so where it begins
   judged : (E : LineStand → Position → List ℕ → Type 0) (J : Option (Problem × Position) → Type 0) → ((s : LineStand) (p : Position) (text : List ℕ) → E s p text → J (judge 0 s p text))
-      → (s : LineStand) (p : Position) (text : List ℕ) → Walk single least start E s p text → J (judge 0 s p text)
+      → (s : LineStand) (p : Position) (text : List ℕ) → Walk E s p text → J (judge 0 s p text)
   judged E J end s p text (arrived a) = end s p text a
   judged E J end s p text (stepped c b e is fit none w) = rw (none, is, fit, judge_past e.further b) (judged E J end _ _ _ w)
 
-  wrong_judged : (why : Problem) (at : Position) (s : LineStand) (p : Position) (text : List ℕ) → Wrong single least start s p text why at → judge 0 s p text ≡ Some (why, at)
+  wrong_judged : (why : Problem) (at : Position) (s : LineStand) (p : Position) (text : List ℕ) → Wrong s p text why at → judge 0 s p text ≡ Some (why, at)
   unfolding single_quoted_element double_quoted_element plain_element classes.is_blank classes.is_break classes.is_nul is_blank is_break are_marks
   wrong_judged why at s p [] (by_marker h) = absurd (grind arith)
   wrong_judged why at s p [] (placed _ _ none (by_column solid further low)) = absurd (cc solid)
@@ -444,7 +441,7 @@ module _ (single : Bool) (least : ℕ) (start : Position) where
   same_fault why1 why2 at1 at2 e = let pair : ◌≡◌ {A = Problem × Position} (why1, at1) (why2, at2) = cc e in (ap (λ z. z.0) pair, ap (λ z. z.1) pair)
 
   -- What is wrong first with a text is one thing at one position.
-  pub one_reason : (s : LineStand) (p : Position) (text : List ℕ) (why1 why2 : Problem) (at1 at2 : Position) → Reason single least start s p text why1 at1 → Reason single least start s p text why2 at2 → (why1 ≡ why2) × (at1 ≡ at2)
+  pub one_reason : (s : LineStand) (p : Position) (text : List ℕ) (why1 why2 : Problem) (at1 at2 : Position) → Reason s p text why1 at1 → Reason s p text why2 at2 → (why1 ≡ why2) × (at1 ≡ at2)
   one_reason s p text why1 why2 at1 at2 x y =
       same_fault why1 why2 at1 at2 (sym (judged _ (λ o. o ≡ Some (why1, at1)) (wrong_judged why1 at1) s p text x) ∙ judged _ (λ o. o ≡ Some (why2, at2)) (wrong_judged why2 at2) s p text y)
 
@@ -453,12 +450,12 @@ module _ (single : Bool) (least : ℕ) (start : Position) where
 
   -- Nothing but a marker is wrong where a body stands whose lines are indented, and its closing quote.
   pub not_closed : (s : LineStand) (p : Position) (body next : List ℕ) (es : List Element) → ends_before single next ≡ true → elements (element_of single) 0 body ≡ Some es → all_stand least s p.col (es ++ before_quote (past_elements s es)) ≡ true
-      → (why : Problem) (at : Position) → (why ≡ QuotedDocumentMarker → ⊥) → Reason single least start s p (body ++ quote_of single ∷ next) why at → ⊥
+      → (why : Problem) (at : Position) → (why ≡ QuotedDocumentMarker → ⊥) → Reason s p (body ++ quote_of single ∷ next) why at → ⊥
   not_closed s p body next es ends are fits why at unlike x =
       let wrong : judge 0 s p (body ++ quote_of single ∷ next) ≡ Some (why, at) = judged _ (λ o. o ≡ Some (why, at)) (wrong_judged why at) s p _ x in
       let Right : Option (Problem × Position) → Type 0 = λ o. (o ≡ Some (QuotedDocumentMarker, start)) ⊎ (o ≡ None) in
       let right : Right (judge 0 s p (body ++ quote_of single ∷ next)) = judged (λ t q y. Right (judge 0 t q y)) Right (λ t q y h. h) s p _
-      (walk_of single least start (λ t q y. Right (judge 0 t q y)) (before_quote (past_elements s es)) (marked_from p.col body (quote_of single ∷ next)) (quote_of single ∷ next) (grind arith)
+      (walk_of (λ t q y. Right (judge 0 t q y)) (before_quote (past_elements s es)) (marked_from p.col body (quote_of single ∷ next)) (quote_of single ∷ next) (grind arith)
       (λ t q y h i. inl (wrong_judged QuotedDocumentMarker start t q y (by_marker h))) 0 body es s p (omega arith) are fits refl (λ fit free k. inr (closed_judged _ _ next ends fit free))) in
       elim right [
         | inl m ↦ unlike (same_fault why QuotedDocumentMarker at start (sym wrong ∙ m)).0
