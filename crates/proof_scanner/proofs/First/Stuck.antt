@@ -29,8 +29,8 @@ pub clean_place : {J : Account → Account → Type 0} {text after : List ℕ} {
 clean_place {text = text} {after = after} w = clean_after w.steps after (clean_way text w.steps after w.spells)
 
 -- one place of a text has one separation and one rest
-pub one_cut : (a b : Account) (s1 r1 s2 r2 : List ℕ) (h1 h2 : Position) → Stands a s1 r1 h1 → Stands b s2 r2 h2 → IsLike a b → Holds (has_no_nul (s1 ++ r1)) → s1 ++ r1 ≡ s2 ++ r2 → (s1 ≡ s2) × (r1 ≡ r2) × (h1 ≡ h2)
-one_cut a b s1 r1 s2 r2 h1 h2 p q i c e = grind (arith, nat_tests, eqb-true, separations, ends_before, no_nul_after)
+pub one_cut : {a b : Account} {s1 r1 s2 r2 : List ℕ} {h1 h2 : Position} → Stands a s1 r1 h1 → Stands b s2 r2 h2 → IsLike a b → Holds (has_no_nul (s1 ++ r1)) → s1 ++ r1 ≡ s2 ++ r2 → (s1 ≡ s2) × (r1 ≡ r2) × (h1 ≡ h2)
+one_cut p q i c e = grind (arith, nat_tests, eqb-true, separations, ends_before, no_nul_after)
 
 pub gives_up_site : (a x : Account) → GivesUp a x → a.site ≡ x.site
 gives_up_site a x b = grind (arith, nat_tests, eqb-true)
@@ -54,7 +54,7 @@ tab_alone b separation here rest why at (failing.may_not_stand (failing.tab_inde
 tab_alone b separation here rest why at (failing.may_not_stand n) first tab = absurd (cc tab)
 tab_alone b separation here rest why at f first tab = absurd (cc tab)
 
-module _ (J : Account → Account → Type 0) (same : (x y : Account) → J x y → x.site ≡ y.site) (R : Account → Account → List ℕ → Type 0) (a b : Account) (s1 r1 s2 r2 : List ℕ) (h1 h2 : Position) (p : Stands a s1 r1 h1) (q : Stands b s2 r2 h2)
+module _ (J : Account → Account → Type 0) (same : (x y : Account) → J x y → x.site ≡ y.site) (R : Account → Account → List ℕ → Type 0) {a b : Account} {s1 r1 s2 r2 : List ℕ} {h1 h2 : Position} (p : Stands a s1 r1 h1) (q : Stands b s2 r2 h2)
     (g : GoesOn J R a b (s1 ++ r1) (s2 ++ r2)) (clean : Holds (has_no_nul (s1 ++ r1))) where
   -- the step by which a way goes on from a place
   abbrev step : StepAt a s1 r1 h1
@@ -183,11 +183,11 @@ module _ (text : List ℕ) {why1 why2 : Problem} {at1 at2 : Position} (f : Claim
       elim (meet GivesUp GivesUp Nothing (record { first = λ x y z after g r. (gives_up_like x z y g r.0, tt); second = λ x y z after g r. (gives_up_second x y z g r.0, tt); both = λ x y a b v c next i r k l e f. tt })
       f.way.steps g.way.steps after1 after2 first_account first_account f.account g.account itself tt f.way.leads g.way.leads (f.way.spells ∙ sym g.way.spells) (clean_way text f.way.steps after1 f.way.spells)) [
         | same_place like r e ↦
-            let cut = one_cut f.account g.account f.separation f.rest g.separation g.rest f.here g.here f.stands g.stands like (clean_place f.way) e in
+            let cut = one_cut f.stands g.stands like (clean_place f.way) e in
             one_reason f.account g.account like f.separation f.here f.rest (no_nul_after f.separation f.rest (clean_place f.way)) why1 why2 at1 at2 x (rw cut.0 (rw cut.1 (rw cut.2 y)))
-        | second_on n ↦ fails_before GivesUp gives_up_site Nothing f.account g.account f.separation f.rest g.separation g.rest f.here g.here f.stands g.stands n (clean_place f.way) why1 why2 at1 at2 x y
+        | second_on n ↦ fails_before GivesUp gives_up_site Nothing f.stands g.stands n (clean_place f.way) why1 why2 at1 at2 x y
         | first_on n ↦
-            let turned = fails_before GivesUp gives_up_site (λ x y. Nothing y x) g.account f.account g.separation g.rest f.separation f.rest g.here f.here g.stands f.stands n (clean_place g.way) why2 why1 at2 at1 y x in
+            let turned = fails_before GivesUp gives_up_site (λ x y. Nothing y x) g.stands f.stands n (clean_place g.way) why2 why1 at2 at1 y x in
             (sym turned.0, sym turned.1)
       ]
 
@@ -203,20 +203,20 @@ module _ (text : List ℕ) {why1 why2 : Problem} {at1 at2 : Position} (f : Claim
 
       by : Meet GivesUp Same (BeginsOrApart text) f.account g.account after1 after2 → (why1 ≡ ValueNotAllowed) × (at1 ≡ g.here)
       by (same_place like r e) =
-          let cut = one_cut f.account g.account f.separation f.rest g.separation g.rest f.here g.here f.stands g.stands like (clean_place f.way) e in
+          let cut = one_cut f.stands g.stands like (clean_place f.way) e in
           elim f.says [
             | inl x ↦ absurd (colon_alone g.account f.account (like_sym f.account g.account like) g.separation z.more g.here z.is_value z.is_outside (rw (sym z.is_rest) z.looked) z.has_no_tab_after why1 at1 (rw (sym z.is_rest, sym cut.0, sym cut.1, sym cut.2) x))
             | inr x ↦ (x.0, x.1 ∙ cut.2)
           ]
       by (second_on n) =
-          let s : StepAt f.account f.separation f.rest f.here = step Same (λ x y e. ap (λ (u : Account). u.site) e) (BeginsOrApart text) f.account g.account f.separation f.rest g.separation g.rest f.here g.here f.stands g.stands n (clean_place f.way) in
+          let s : StepAt f.account f.separation f.rest f.here = step Same (λ x y e. ap (λ (u : Account). u.site) e) (BeginsOrApart text) f.stands g.stands n (clean_place f.way) in
           elim f.says [
             | inl x ↦
-                absurd (no_step_stands s (clear Same (λ x y e. ap (λ (u : Account). u.site) e) (BeginsOrApart text) f.account g.account f.separation f.rest g.separation g.rest f.here g.here f.stands g.stands n (clean_place f.way) (λ _. z.looked.has_no_tab)) why1 at1 x.fails)
+                absurd (no_step_stands s (clear Same (λ x y e. ap (λ (u : Account). u.site) e) (BeginsOrApart text) f.stands g.stands n (clean_place f.way) (λ _. z.looked.has_no_tab)) why1 at1 x.fails)
             | inr x ↦ absurd (keyless_step text f.separation f.rest x.2.more f.account f.here s x.2.is_rest n.holds.0 x.2.place.is_filled x.2.is_value x.2.is_outside x.2.is_line_taken x.2.has_none)
           ]
       by (first_on n) =
-          let s : StepAt g.account g.separation g.rest g.here = step GivesUp gives_up_site (λ x y. BeginsOrApart text y x) g.account f.account g.separation g.rest f.separation f.rest g.here f.here g.stands f.stands n (clean_place g.way) in
+          let s : StepAt g.account g.separation g.rest g.here = step GivesUp gives_up_site (λ x y. BeginsOrApart text y x) g.stands f.stands n (clean_place g.way) in
           elim n.holds.1 [
             | inl r ↦ absurd (keyless_step text g.separation g.rest z.more g.account g.here s z.is_rest r.1 z.place.is_filled z.is_value z.is_outside z.is_line_taken z.has_none)
             | inr r ↦ absurd (no_colon_here s z.more z.is_rest z.is_value z.is_outside z.is_line_taken (λ q waiting unbroken near. cc (waiting, r.1.none)))

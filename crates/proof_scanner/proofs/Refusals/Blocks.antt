@@ -138,7 +138,7 @@ column_fault indent bs here text piece next b least e clean is untabbed low = by
 
 -- ---- the scan
 
-module _ (text : List ℕ) (t : ScannerState) (a : Arrives text t) (some : is_empty t.rest ≡ false) (lies : LiesDeep t) (out : is_empty t.held.flow ≡ true) where
+module _ {text : List ℕ} {t : ScannerState} (a : Arrives text t) (some : is_empty t.rest ≡ false) (lies : LiesDeep t) (out : is_empty t.held.flow ≡ true) where
   abbrev collections : List ℕ
   collections = columns t.held.indent t.held.indents
 
@@ -149,8 +149,8 @@ module _ (text : List ℕ) (t : ScannerState) (a : Arrives text t) (some : is_em
   -- the block scalar that begins here may not stand
   block_stuck : (why : Problem) (at : Position) → FirstFault collections t.held.position t.rest why at → IsWhy text why at
   block_stuck why at x =
-      stuck_by text t a some why at (λ b bs k. (l : b ≡ false) × (y : IsBlockFault bs t.held.position t.rest why at) × block_first bs t.held.position t.rest why at y) (ap not out, x.0, x.1)
-      (λ c may m. record { fails = no_block m.0 m.1; is_first = (looked_at text t a some lies c [], m.2) })
+      stuck_by a some why at (λ b bs k. (l : b ≡ false) × (y : IsBlockFault bs t.held.position t.rest why at) × block_first bs t.held.position t.rest why at y) (ap not out, x.0, x.1)
+      (λ c may m. record { fails = no_block m.0 m.1; is_first = (looked_at a some lies c [], m.2) })
 
   -- `|` or `>`
   header_told : (style : BlockStyle) (line after : List ℕ) → t.rest ≡ indicator_of style ∷ (line ++ after) → is_in_line line ≡ true → headers.ends_line after ≡ true → (g : Fault) → headers.IsHeaderRefusal t.held.position style line after g → Said text g
@@ -160,14 +160,14 @@ module _ (text : List ℕ) (t : ScannerState) (a : Arrives text t) (some : is_em
       λ _. block_stuck BlockScalarTab t.held.position
       (tab_fault collections t.held.position t.rest (indicator_of style ∷ line) f.more f.by h (e ∙ ap (λ r. indicator_of style ∷ (line ++ r)) f.is) (style_inner style line inline) is)
   header_told style line after e inline ends g (headers.zero_digit lacks zero) =
-      λ _. none_begins text t a some lies BlockScalarZero _ (none.headless style line after BlockScalarZero t.held.position (ap not out) e inline ends lacks (none.by_zero zero)) tt
+      λ _. none_begins a some lies BlockScalarZero _ (none.headless style line after BlockScalarZero t.held.position (ap not out) e inline ends lacks (none.by_zero zero)) tt
   header_told style line after e inline ends g (headers.comment h before more lacks is cut) =
       let place : headers.along before (past t.held.position) ≡ position_after t.held.position (indicator_of style ∷ before) (35 ∷ more) =
       (sym (after_chars (indicator_of style ∷ before) [] (35 ∷ more) t.held.position (style_inner style before (inner_first before (35 ∷ more) (ap is_in_line (sym cut) ∙ inline)))) ∙ ap (λ w. position_after t.held.position w (35 ∷ more)) (append-nil (indicator_of style ∷ before))) in
-      rw place (λ _. none_begins text t a some lies CommentNotSeparated _
+      rw place (λ _. none_begins a some lies CommentNotSeparated _
       (none.headless style line after CommentNotSeparated _ (ap not out) e inline ends lacks (none.by_comment h before more is cut)) tt)
   header_told style line after e inline ends g (headers.no_header lacks zero more begins) =
-      λ _. none_begins text t a some lies BlockScalarHeader _ (none.headless style line after BlockScalarHeader t.held.position (ap not out) e inline ends lacks (none.by_text zero more begins)) tt
+      λ _. none_begins a some lies BlockScalarHeader _ (none.headless style line after BlockScalarHeader t.held.position (ap not out) e inline ends lacks (none.by_text zero more begins)) tt
 
   block_refused : (style : BlockStyle) (indent : ℕ) (more : List ℕ) → t.rest ≡ indicator_of style ∷ more → IsLeast indent collections → (f : Fault) → block (is_literal_style style) indent t.rest t.held.position ≡ Err f → Said text f
   block_refused style indent more e deep f k =

@@ -25,29 +25,29 @@ levels_end col bs aw i (d ∷ ds) a e o = by d.needs_block_end a.0 e o
         let outer : d.indent ≤ col = grind (arith, nat_tests, eqb-true) in
         omega (arith, t.0, outer)
 
-module _ (text : List ℕ) (t : ScannerState) (a : Arrives text t) (some : is_empty t.rest ≡ false) where
+module _ {text : List ℕ} {t : ScannerState} (a : Arrives text t) (some : is_empty t.rest ≡ false) where
   -- ---- the token by the first character
 
   token_told : IsDeep t.held → ((t.held.position.col == 0) && is_document_marker t.rest) ≡ false → (t.held.position.col ≡ 0 → (peek t.rest == 37) ≡ false) → Faults (Said text) (fetch_token t)
   token_told deep marker percent =
       let lies : LiesDeep t = λ _. deep in
       token_holds (Faults (Said text)) t (is_adjacent (before_past (before_by a.base.site.before) a.separation)) a.is_clean a.is_solid (λ inside. sym (a.is_adjacent_here inside some)) marker (record {
-        anchor = λ kind more e. name_told text t a some lies kind more e;
-        tag = λ more e. tag_told text t a some lies more e;
-        plain = λ comes. plain_told text t a some lies deep comes;
-        quoted = λ quotes more e. quoted_told text t a some lies deep quotes more e;
-        block = λ style more e o. block_told text t a some lies o style more e;
-        dash = λ more e gap. dash_told text t a some lies more e gap;
-        question = λ more e gap. question_told text t a some lies more e gap;
-        colon = λ more e i. colon_told text t a some lies more e i;
-        open_bracket = λ more e. opening_told text t a some lies Sequence 91 more e (inl refl);
-        open_brace = λ more e. opening_told text t a some lies Mapping 123 more e (inr refl);
-        close_bracket = λ more e. closing_told text t a some lies Sequence 93 more e (inl refl);
-        close_brace = λ more e. closing_told text t a some lies Mapping 125 more e (inr refl);
-        comma = λ more e. comma_told text t a some lies more e;
-        percent = λ more e. fault {f = At UnexpectedPercent t.held.position} (λ _. none_begins text t a some lies UnexpectedPercent _ (none.percent more e (grind (arith, percent, eqb-true))) tt);
-        at_sign = λ more e. fault {f = At UnexpectedAt t.held.position} (λ _. none_begins text t a some lies UnexpectedAt _ (none.at_sign more e) tt);
-        backtick = λ more e. fault {f = At UnexpectedBacktick t.held.position} (λ _. none_begins text t a some lies UnexpectedBacktick _ (none.backtick more e) tt);
+        anchor = λ kind more e. name_told a some lies kind more e;
+        tag = λ more e. tag_told a some lies more e;
+        plain = λ comes. plain_told a some lies deep comes;
+        quoted = λ quotes more e. quoted_told a some lies deep quotes more e;
+        block = λ style more e o. block_told a some lies o style more e;
+        dash = λ more e gap. dash_told a some lies more e gap;
+        question = λ more e gap. question_told a some lies more e gap;
+        colon = λ more e i. colon_told a some lies more e i;
+        open_bracket = λ more e. opening_told a some lies Sequence 91 more e (inl refl);
+        open_brace = λ more e. opening_told a some lies Mapping 123 more e (inr refl);
+        close_bracket = λ more e. closing_told a some lies Sequence 93 more e (inl refl);
+        close_brace = λ more e. closing_told a some lies Mapping 125 more e (inr refl);
+        comma = λ more e. comma_told a some lies more e;
+        percent = λ more e. fault {f = At UnexpectedPercent t.held.position} (λ _. none_begins a some lies UnexpectedPercent _ (none.percent more e (grind (arith, percent, eqb-true))) tt);
+        at_sign = λ more e. fault {f = At UnexpectedAt t.held.position} (λ _. none_begins a some lies UnexpectedAt _ (none.at_sign more e) tt);
+        backtick = λ more e. fault {f = At UnexpectedBacktick t.held.position} (λ _. none_begins a some lies UnexpectedBacktick _ (none.backtick more e) tt);
       }) some
 
   -- ---- columns
@@ -60,7 +60,7 @@ module _ (text : List ℕ) (t : ScannerState) (a : Arrives text t) (some : is_em
         (subst (λ b. (site_here (not b) t.held.position a.base.site).awaits ≡ has_open_level t.held.indents) e a.awaits_is) in
         absurd (grind (arith, nat_tests, deep, low))
     | inr e ↦
-        stuck_by text t a some InvalidIndentation t.held.position (λ b bs k. (b ≡ true) × (nat_le k t.held.position.col ≡ false)) (ap not e, grind (arith, nat_tests, low))
+        stuck_by a some InvalidIndentation t.held.position (λ b bs k. (b ≡ true) × (nat_le k t.held.position.col ≡ false)) (ap not e, grind (arith, nat_tests, low))
         (λ c may m. record { is_first = a.is_indented some; fails = may_not_stand (defs.shallow m.0 none m.1) })
   ]
 
@@ -69,9 +69,9 @@ module _ (text : List ℕ) (t : ScannerState) (a : Arrives text t) (some : is_em
   content_told =
       let document_line : t.held.position.col ≡ 0 → (begins_with 37 t.rest || is_document_marker t.rest) ≡ true → LiesDeep t = λ col begins none. grind arith in
       content_holds (Faults (Said text)) t some (record {
-        directive = λ e col. directive_told text t a some (document_line col (ap (λ r. begins_with 37 r || is_document_marker r) e)) (after t.rest) e col;
-        document_start = λ more e gap col. marker_told text t a some (document_line col (ap (λ r. begins_with 37 r || is_document_marker r) e ∙ rw gap refl)) Tok.document_start col;
-        document_end = λ more e gap col. document_end_told text t a some (document_line col (ap (λ r. begins_with 37 r || is_document_marker r) e ∙ rw gap refl)) more e gap col;
+        directive = λ e col. directive_told a some (document_line col (ap (λ r. begins_with 37 r || is_document_marker r) e)) (after t.rest) e col;
+        document_start = λ more e gap col. marker_told a some (document_line col (ap (λ r. begins_with 37 r || is_document_marker r) e ∙ rw gap refl)) Tok.document_start col;
+        document_end = λ more e gap col. document_end_told a some (document_line col (ap (λ r. begins_with 37 r || is_document_marker r) e ∙ rw gap refl)) more e gap col;
         shallow = λ n low. fault {f = At InvalidIndentation t.held.position} (λ _. shallow (grind arith) low);
         token = λ n deep. token_told deep n.0 n.1;
       })
@@ -85,4 +85,4 @@ end_told text t rowless = tried t (rowless_told text (has_required t.held.keys) 
 -- a token of a text that goes on, or the stream's end
 pub here_told : (text : List ℕ) (t : ScannerState) → Arrives text t → Faults (Said text) (fetch_here t)
 unfolding fetch_here
-here_told text t a = either (peek t.rest == 0) (λ e. end_told text t (end_rowless text t a (no_end t.rest a.is_clean e))) (λ e. content_told text t a (goes_on_here t.rest e))
+here_told text t a = either (peek t.rest == 0) (λ e. end_told text t (end_rowless text t a (no_end t.rest a.is_clean e))) (λ e. content_told a (goes_on_here t.rest e))

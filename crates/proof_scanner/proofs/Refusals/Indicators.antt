@@ -74,17 +74,17 @@ line_told text s rowless = kept closed_key (λ e. refl) (λ x. goes) (remove_tol
 line_stays : (t : ScannerState) → Holds (λ u. (u.rest ≡ t.rest) × (u.held.position ≡ t.held.position)) (try_held begin_line t)
 line_stays t = holds.tried t (begin_line t.held) (line_begun t.held (unroll_indent 0 t.held) refl) (λ s k. (refl, ap (λ h. h.position) k.0 ∙ (unrolled_stays 0 t.held).0))
 
-module _ (text : List ℕ) (t : ScannerState) (a : Arrives text t) (some : is_empty t.rest ≡ false) (lies : LiesDeep t) where
+module _ {text : List ℕ} {t : ScannerState} (a : Arrives text t) (some : is_empty t.rest ≡ false) (lies : LiesDeep t) where
   -- ---- lines for the document
 
   line_refused : (line next : List ℕ) → t.held.position.col ≡ 0 → t.rest ≡ 37 ∷ (line ++ next) → has_no_break line ≡ true → directives.ends_line next ≡ true → directive_of (37 ∷ line) ≡ None → (f : Fault) → IsDirectiveRefusal t.held.position line f → Said text f
   line_refused line next col e one ends lacks OutOfMemory r = elim r [ ]
-  line_refused line next col e one ends lacks (At why q) r = λ _. none_begins text t a some lies why q (none.undirected line next why q col e one ends lacks r) tt
+  line_refused line next col e one ends lacks (At why q) r = λ _. none_begins a some lies why q (none.undirected line next why q col e one ends lacks r) tt
 
   pub directive_told : (more : List ℕ) → t.rest ≡ 37 ∷ more → t.held.position.col ≡ 0 → Faults (Said text) (fetch_directive t)
   unfolding fetch_directive
   directive_told more e col =
-      knowing (line_stays t) (tried t (line_told text t.held (line_rowless text t a some col))) (λ u s.
+      knowing (line_stays t) (tried t (line_told text t.held (line_rowless a some col))) (λ u s.
       read u.held (directive u.rest u.held.position) _
       (λ f j. by f (refused_as (ap (λ r. directive r t.held.position) (sym (s.0 ∙ e)) ∙ (ap (λ q. directive u.rest q) (sym s.1) ∙ j)) (directives_end more t.held.position))) (λ x j. goes))
     where
@@ -93,19 +93,19 @@ module _ (text : List ℕ) (t : ScannerState) (a : Arrives text t) (some : is_em
 
   pub marker_told : (tok : Tok) → t.held.position.col ≡ 0 → Faults (Said text) (fetch_document_marker tok t)
   unfolding fetch_document_marker
-  marker_told tok col = in_turn (tried t (line_told text t.held (line_rowless text t a some col))) (λ u e. goes)
+  marker_told tok col = in_turn (tried t (line_told text t.held (line_rowless a some col))) (λ u e. goes)
 
   -- ---- what follows
 
   -- what is tried before what follows a piece
   abbrev HasFirst : (why : Problem) (at : Position) → IsFollowed (in_flow t.held) t.held.position t.rest why at → Type 0
   HasFirst why at x =
-      (c : Bool) → IsAllowed text t a some c → followed_first (in_flow t.held) (t.held.indent - 1) (is_taken (account_by text t a some c []) a.separation) (is_full (account_by text t a some c [])) t.held.position t.rest why at x
+      (c : Bool) → IsAllowed a some c → followed_first (in_flow t.held) (t.held.indent - 1) (is_taken (account_by a some c []) a.separation) (is_full (account_by a some c [])) t.held.position t.rest why at x
 
   -- a fault at the end of what was passed on the line
   followed_at : (why : Problem) (q : Position) (p : Position) (passed content : List ℕ) → q ≡ position_after p passed content
       → (x : IsFollowed (in_flow t.held) t.held.position t.rest why (position_after p passed content)) → HasFirst why (position_after p passed content) x → Said text (At why q)
-  followed_at why q p passed content e x first = λ _. rw e (followed_stuck text t a some lies why (position_after p passed content) x first)
+  followed_at why q p passed content e x first = λ _. rw e (followed_stuck a some lies why (position_after p passed content) x first)
 
   marked_state : (tok : Tok) (c : ℕ) (more : List ℕ) → t.rest ≡ c ∷ c ∷ c ∷ more → Holds (λ u. (u.rest ≡ more) × (u.held.position ≡ further 3 t.held.position)) (fetch_document_marker tok t)
   unfolding fetch_document_marker
@@ -136,14 +136,14 @@ module _ (text : List ℕ) (t : ScannerState) (a : Arrives text t) (some : is_em
   outer_line : is_empty t.held.flow ≡ true → line_past_separation false broken a.base.line ≡ Some a.line_here
   outer_line out = subst (λ b. line_past_separation (not b) broken a.base.line ≡ Some a.line_here) out a.is_line
 
-  line_taken : (c : Bool) (cs : List Bool) → IsAllowed text t a some c → is_empty t.held.flow ≡ true → t.held.key_allowed ≡ false → is_taken (chosen c cs t.held.keys a.base) a.separation ≡ true
+  line_taken : (c : Bool) (cs : List Bool) → IsAllowed a some c → is_empty t.held.flow ≡ true → t.held.key_allowed ≡ false → is_taken (chosen c cs t.held.keys a.base) a.separation ≡ true
   line_taken c cs h e f = grind (arith, nat_tests, eqb-true, arrivals.not_free, arrivals.unbroken, some, is_taken_line, line_past_separation, line_by, outer_line, waits, outside_key, not, free, taken, is_free)
 
-  line_not_taken : (c : Bool) (cs : List Bool) → IsAllowed text t a some c → is_empty t.held.flow ≡ true → t.held.key_allowed ≡ true → is_taken (chosen c cs t.held.keys a.base) a.separation ≡ false
+  line_not_taken : (c : Bool) (cs : List Bool) → IsAllowed a some c → is_empty t.held.flow ≡ true → t.held.key_allowed ≡ true → is_taken (chosen c cs t.held.keys a.base) a.separation ≡ false
   line_not_taken c cs may out allowed = grind arith
 
   -- where a `?` is not refused it may stand
-  asks : (in_flow t.held || t.held.key_allowed) ≡ true → (c : Bool) → IsAllowed text t a some c → may_ask (in_flow t.held) (is_taken (account_by text t a some c []) a.separation) ≡ true
+  asks : (in_flow t.held || t.held.key_allowed) ≡ true → (c : Bool) → IsAllowed a some c → may_ask (in_flow t.held) (is_taken (account_by a some c []) a.separation) ≡ true
   asks h c may = grind (arith, text, t, some, line_not_taken, is_outside)
 
   -- a colon that the scanner takes as a value's is an indicator
@@ -156,10 +156,10 @@ module _ (text : List ℕ) (t : ScannerState) (a : Arrives text t) (some : is_em
   unfolding check_block_entry
   entry_checked more e gap =
       checked (in_flow t.held) (At BlockEntryInFlow t.held.position)
-      (λ i _. stuck text t a some [] BlockEntryInFlow t.held.position (λ c may. record { fails = may_not_stand (defs.dash_in_flow more e gap (in_flow_is text t a some c [] ∙ i)); is_first = looked_at text t a some lies c [] })) (λ o.
+      (λ i _. stuck a some [] BlockEntryInFlow t.held.position (λ c may. record { fails = may_not_stand (defs.dash_in_flow more e gap (in_flow_is a some c [] ∙ i)); is_first = looked_at a some lies c [] })) (λ o.
       checked (not t.held.key_allowed) (At BlockEntryNotAllowed t.held.position)
-      (λ n _. stuck text t a some [] BlockEntryNotAllowed t.held.position (λ c may.
-      record { fails = may_not_stand (defs.dash_not_free more e gap (in_flow_is text t a some c [] ∙ o) (line_taken c [] may (is_outside o) (not-true t.held.key_allowed n))); is_first = looked_at text t a some lies c [] })) (λ _. goes))
+      (λ n _. stuck a some [] BlockEntryNotAllowed t.held.position (λ c may.
+      record { fails = may_not_stand (defs.dash_not_free more e gap (in_flow_is a some c [] ∙ o) (line_taken c [] may (is_outside o) (not-true t.held.key_allowed n))); is_first = looked_at a some lies c [] })) (λ _. goes))
 
   -- a character of a text stands in it with more after it
   has_more : (b c : List ℕ) → is_one_of b 9 ≡ true → has 9 (b ++ c) ≡ true
@@ -203,15 +203,15 @@ module _ (text : List ℕ) (t : ScannerState) (a : Arrives text t) (some : is_em
       (λ x k. dash_checked more e gap was.0 was.1 rolled.held stays.0 x (ap (λ r. space Yes r rolled.held.position) (sym left) ∙ k)))
       (λ v spaced_on. knowing (spaces_skipped No v) (spaces_told text No v (λ h. absurd (cc (h, spaced_on.0)))) (λ w skipped.
       let keys : (roll_entry w).held.keys ≡ t.held.keys = (grind (arith, rolled_one_is)) ∙ (ap (λ h. h.keys) skipped.is_held ∙ (spaced_on.1 ∙ stays.1)) in
-      in_turn (tried (roll_entry w) (remove_told text (roll_entry w).held (λ must. absurd (cc (must, ap (λ ks. is_required (top_key ks)) keys, not_required text t a some (ap (λ b. in_flow t.held || b) was.1 ∙ or_true (in_flow t.held))))))) (λ x l. goes))))
+      in_turn (tried (roll_entry w) (remove_told text (roll_entry w).held (λ must. absurd (cc (must, ap (λ ks. is_required (top_key ks)) keys, not_required a some (ap (λ b. in_flow t.held || b) was.1 ∙ or_true (in_flow t.held))))))) (λ x l. goes))))
 
   key_begun : (more : List ℕ) → t.rest ≡ 63 ∷ more → is_at_gap more ≡ true → Faults (Said text) (begin_key t.held)
   unfolding begin_key
   key_begun more e gap =
       either (in_flow t.held) (λ _. goes) (λ o.
       checked (not t.held.key_allowed) (At KeyNotAllowed t.held.position)
-      (λ n _. stuck text t a some [] KeyNotAllowed t.held.position (λ c may.
-      record { fails = may_not_stand (defs.question_not_free more e gap (in_flow_is text t a some c [] ∙ o) (line_taken c [] may (is_outside o) (not-true t.held.key_allowed n))); is_first = looked_at text t a some lies c [] })) (λ _. goes))
+      (λ n _. stuck a some [] KeyNotAllowed t.held.position (λ c may.
+      record { fails = may_not_stand (defs.question_not_free more e gap (in_flow_is a some c [] ∙ o) (line_taken c [] may (is_outside o) (not-true t.held.key_allowed n))); is_first = looked_at a some lies c [] })) (λ _. goes))
 
   key_place : Holds (λ s. Stays s t.held × ((in_flow t.held || t.held.key_allowed) ≡ true)) (begin_key t.held)
   unfolding begin_key
@@ -248,7 +248,7 @@ module _ (text : List ℕ) (t : ScannerState) (a : Arrives text t) (some : is_em
   unfolding fetch_key
   question_told more e gap =
       knowing {P = λ v. (v.rest ≡ t.rest) × Stays v.held t.held × ((in_flow t.held || t.held.key_allowed) ≡ true)} (holds.tried t (begin_key t.held) key_place (λ s k. (refl, k.0, k.1))) (tried t (key_begun more e gap)) (λ u first.
-      known_turn _ (held_exactly u (key_removed u.held)) (tried u (remove_told text u.held (λ must. absurd (cc (must, ap (λ ks. is_required (top_key ks)) first.1.1, not_required text t a some first.2))))) (λ _.
+      known_turn _ (held_exactly u (key_removed u.held)) (tried u (remove_told text u.held (λ must. absurd (cc (must, ap (λ ks. is_required (top_key ks)) first.1.1, not_required a some first.2))))) (λ _.
       let here : ScannerState = skip_indicator (on_held (λ s. allow_key (not (in_flow s)) s) (record u { held = record u.held { keys = with_top None u.held.keys } })) in
       let left : here.rest ≡ more = ap after (first.0 ∙ e) in
       let place : here.held.position ≡ past t.held.position = ap past first.1.0 in
@@ -268,8 +268,8 @@ module _ (text : List ℕ) (t : ScannerState) (a : Arrives text t) (some : is_em
   misplaced : (more : List ℕ) → t.rest ≡ 58 ∷ more → colon_may_precede more ≡ true → is_value t ≡ true → (k : Key) → top_key t.held.keys ≡ Some k → opens_pair t.held.flow ≡ true → nat_lt k.position.line t.held.position.line ≡ true → Said text (At ColonMisplaced t.held.position)
   misplaced more e apart i k top opens late = λ _.
       let s : SingleKey k (entries_by (true ∷ []) t.held.keys a.base.entries) = grind (arith, a.are_entries, opens, top) in
-      stuck text t a some (true ∷ []) ColonMisplaced t.held.position (λ c may.
-      record { fails = may_not_stand (defs.key_on_earlier_line more k.position s.first s.around e (value_here more e i c (true ∷ [])) s.are s.takes s.had_is (grind (arith, nat_tests, late))); is_first = (looked_at text t a some lies c (true ∷ []), apart) })
+      stuck a some (true ∷ []) ColonMisplaced t.held.position (λ c may.
+      record { fails = may_not_stand (defs.key_on_earlier_line more k.position s.first s.around e (value_here more e i c (true ∷ [])) s.are s.takes s.had_is (grind (arith, nat_tests, late))); is_first = (looked_at a some lies c (true ∷ []), apart) })
 
   not_allowed : (more : List ℕ) → t.rest ≡ 58 ∷ more → colon_may_precede more ≡ true → is_value t ≡ true → top_key t.held.keys ≡ None → in_flow t.held ≡ false → t.held.key_allowed ≡ false → Said text (At ValueNotAllowed t.held.position)
   not_allowed more e apart i top o allowed = λ _.
@@ -279,9 +279,9 @@ module _ (text : List ℕ) (t : ScannerState) (a : Arrives text t) (some : is_em
       let may : MayChoose true false (outside_key a.base.entries t.held.keys) t.held.position t.rest = rw key_is tt in
       record {
         stands = λ h. absurd (cc h);
-        is_stuck = no_key (account_by text t a some false []) a.separation more t.held.position (rw (sym e) (place text t a some false [] may)) (value_here more e i false []) (in_flow_is text t a some false [] ∙ o)
-            (line_taken false [] (λ _. may) out allowed) (rw (sym e) (none_waits text t a some top out))
-            (rw (sym e) (looked_at text t a some lies false [])) apart;
+        is_stuck = no_key (account_by a some false []) a.separation more t.held.position (rw (sym e) (place a some false [] may)) (value_here more e i false []) (in_flow_is a some false [] ∙ o)
+            (line_taken false [] (λ _. may) out allowed) (rw (sym e) (none_waits a some top out))
+            (rw (sym e) (looked_at a some lies false [])) apart;
       }
 
   mapping_told : (more : List ℕ) → t.rest ≡ 58 ∷ more → colon_may_precede more ≡ true → is_value t ≡ true → top_key t.held.keys ≡ None → (s : Held) → in_flow s ≡ in_flow t.held → s.key_allowed ≡ t.held.key_allowed → Faults (Said text) (begin_keyless_mapping t.held.position s)
@@ -349,9 +349,9 @@ module _ (text : List ℕ) (t : ScannerState) (a : Arrives text t) (some : is_em
   flow_begun kind bracket more e is =
       rw (ap roll_one_col_indent (saved_is t.held) ∙ rolled_one_is (record t.held { keys = saved_keys t.held }))
       (kept deepened_flow (λ e. refl) (λ x. goes) (checked (nat_le 255 (length t.held.flow)) (At FlowTooDeep t.held.position) (λ full _.
-      stuck text t a some [] FlowTooDeep t.held.position (λ c may.
+      stuck a some [] FlowTooDeep t.held.position (λ c may.
       let room : 255 ≤ length t.held.flow = grind (arith, nat_tests, full) in
-      record { fails = may_not_stand (defs.too_deep bracket more e is (omega (arith, many_here, room))); is_first = looked_at text t a some lies c [] })) (λ _. goes)))
+      record { fails = may_not_stand (defs.too_deep bracket more e is (omega (arith, many_here, room))); is_first = looked_at a some lies c [] })) (λ _. goes)))
 
   pub opening_told : (kind : Collection) (bracket : ℕ) (more : List ℕ) → t.rest ≡ bracket ∷ more → (bracket ≡ 91) ⊎ (bracket ≡ 123) → Faults (Said text) (fetch_flow_collection_start kind t)
   unfolding fetch_flow_collection_start
@@ -364,11 +364,11 @@ module _ (text : List ℕ) (t : ScannerState) (a : Arrives text t) (some : is_em
   unfolding fetch_flow_collection_end end_flow
   closing_told kind c more e is =
       let closes : (c : ℕ) → (c ≡ 93) ⊎ (c ≡ 125) → (none.is_flow_indicator c ≡ true) × (opens c ≡ false) = λ c a. grind arith in
-      known_turn _ (held_exactly t (flow_over t.held)) (tried t (kept ended_flow (λ e. refl) (λ x. goes) (remove_told text t.held (closing_rowless text t a some c more e (inr is))))) (λ _.
+      known_turn _ (held_exactly t (flow_over t.held)) (tried t (kept ended_flow (λ e. refl) (λ x. goes) (remove_told text t.held (closing_rowless a some c more e (inr is))))) (λ _.
       in_turn (indicator_passed c more e (closes c is).0 (ap (λ b. b && nat_le 255 (length t.held.flow)) (closes c is).1) _ (refl, refl)) (λ v j. goes))
 
   pub comma_told : (more : List ℕ) → t.rest ≡ 44 ∷ more → Faults (Said text) (fetch_flow_entry t)
   unfolding fetch_flow_entry end_entry
   comma_told more e =
-      known_turn _ (held_exactly t (entry_over t.held)) (tried t (kept next_entry (λ e. refl) (λ x. goes) (remove_told text t.held (closing_rowless text t a some 44 more e (inl refl))))) (λ _.
+      known_turn _ (held_exactly t (entry_over t.held)) (tried t (kept next_entry (λ e. refl) (λ x. goes) (remove_told text t.held (closing_rowless a some 44 more e (inl refl))))) (λ _.
       in_turn (indicator_passed 44 more e refl refl _ (refl, refl)) (λ v j. goes))

@@ -331,7 +331,7 @@ module _ {a : Account} {separation rest : List ℕ} {here : Position} (s : StepA
 free_inside : (allowed again : Bool) (fs : List FlowLevel) (ks : List (Option Key)) (es : List Entry) → is_empty fs ≡ false → AreEntries allowed again fs ks es → is_required (top_key ks) ≡ false
 free_inside allowed again a ks es i b = grind arith
 
-module _ (text : List ℕ) (t : ScannerState) (a : Arrives text t) (some : is_empty t.rest ≡ false) where
+module _ {text : List ℕ} {t : ScannerState} (a : Arrives text t) (some : is_empty t.rest ≡ false) where
   -- outside flow the open key is that outside
   key_outside : is_empty t.held.flow ≡ true → outside_key a.base.entries t.held.keys ≡ top_key t.held.keys
   key_outside out = ap (λ es. outside_key es t.held.keys) (no_entries t.held.key_allowed _ t.held.flow t.held.keys a.base.entries out a.are_entries)
@@ -345,8 +345,8 @@ module _ (text : List ℕ) (t : ScannerState) (a : Arrives text t) (some : is_em
   rowless refuted must r h = elim (cases_Bool (is_empty t.held.flow)) [
     | inl out ↦
         let k = found _ (top_key t.held.keys) (key_outside out) must in
-        let at : RowAt text (account_by text t a some true []) a.separation t.rest t.held.position = row_at text a.separation t.rest (account_by text t a some true []) t.held.position r (place text t a some true [] (may _ (a.is_near out))) a.is_solid some h in
-        refuted (account_by text t a some true []) at.step_at k.0.position (in_flow_is text t a some true [] ∙ ap not out) (a.knows.required at.step_at.account k.0 at.begins k.1 k.2) (begins_waiting text (a.separation ++ t.rest) at.step_at.account at.begins)
+        let at : RowAt text (account_by a some true []) a.separation t.rest t.held.position = row_at text a.separation t.rest (account_by a some true []) t.held.position r (place a some true [] (may _ (a.is_near out))) a.is_solid some h in
+        refuted (account_by a some true []) at.step_at k.0.position (in_flow_is a some true [] ∙ ap not out) (a.knows.required at.step_at.account k.0 at.begins k.1 k.2) (begins_waiting text (a.separation ++ t.rest) at.step_at.account at.begins)
     | inr i ↦ cc (free_inside t.held.key_allowed _ t.held.flow t.held.keys a.base.entries i a.are_entries, must)
   ]
     where

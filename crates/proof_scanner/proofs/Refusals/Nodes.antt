@@ -20,7 +20,7 @@ over_alike c a b d e = grind (arith, goes_on, inside)
 
 -- ---- the scan
 
-module _ (text : List ℕ) (t : ScannerState) (a : Arrives text t) (some : is_empty t.rest ≡ false) (lies : LiesDeep t) (deep : IsDeep t.held)
+module _ {text : List ℕ} {t : ScannerState} (a : Arrives text t) (some : is_empty t.rest ≡ false) (lies : LiesDeep t) (deep : IsDeep t.held)
     (comes : comes_plain (in_flow t.held) (is_adjacent (before_past (before_by a.base.site.before) a.separation)) t.held.position.col t.rest ≡ true) where
   abbrev collections : List ℕ
   collections = columns t.held.indent t.held.indents
@@ -41,8 +41,8 @@ module _ (text : List ℕ) (t : ScannerState) (a : Arrives text t) (some : is_em
   -- the plain scalar that begins here is none
   plain_stuck : (why : Problem) (at : Position) (x : IsPlainFault (in_flow t.held) collections t.held.position t.rest why at) → plain_first (in_flow t.held) collections t.held.position t.rest why at x → IsWhy text why at
   plain_stuck why at x first =
-      stuck_by text t a some why at (λ b bs k. (l : comes_plain b (is_adjacent (before_past (before_by a.base.site.before) a.separation)) t.held.position.col t.rest ≡ true) × (y : IsPlainFault b bs t.held.position t.rest why at) × plain_first b bs t.held.position t.rest why at y) (comes, x, first)
-      (λ c may m. record { fails = no_plain m.0 m.1; is_first = (looked_at text t a some lies c [], m.2) })
+      stuck_by a some why at (λ b bs k. (l : comes_plain b (is_adjacent (before_past (before_by a.base.site.before) a.separation)) t.held.position.col t.rest ≡ true) × (y : IsPlainFault b bs t.held.position t.rest why at) × plain_first b bs t.held.position t.rest why at y) (comes, x, first)
+      (λ c may m. record { fails = no_plain m.0 m.1; is_first = (looked_at a some lies c [], m.2) })
 
   -- the scalar does not begin left of its column
   no_column : begins_left ctx t.held.position ≡ false → HasNoPlainFault ctx.flow collections t.held.position t.rest FlowIndentation
@@ -74,12 +74,12 @@ module _ (text : List ℕ) (t : ScannerState) (a : Arrives text t) (some : is_em
 
 -- ---- a TAB after a quoted scalar, on a later line, which would indent the next piece
 
-module _ (text : List ℕ) (t : ScannerState) (a : Arrives text t) (some : is_empty t.rest ≡ false) (lies : LiesDeep t) (single : Bool) (ctx : Context) (x : Read (List ℕ)) (q : QuotedAs single ctx t.held.position t.rest x) (same : ctx.indent ≡ t.held.indent) where
+module _ {text : List ℕ} {t : ScannerState} (a : Arrives text t) (some : is_empty t.rest ≡ false) (lies : LiesDeep t) (single : Bool) (ctx : Context) (x : Read (List ℕ)) (q : QuotedAs single ctx t.held.position t.rest x) (same : ctx.indent ≡ t.held.indent) where
   abbrev own : ScannerState
-  own = closed text t a some lies single ctx x q same
+  own = closed a some lies single ctx x q same
 
   abbrev scalar : List ℕ
-  scalar = piece text t a some lies single ctx x q same
+  scalar = piece a some lies single ctx x q same
 
   abbrev blocks : List ℕ
   blocks = columns t.held.indent t.held.indents
@@ -104,12 +104,12 @@ module _ (text : List ℕ) (t : ScannerState) (a : Arrives text t) (some : is_em
         ap (λ p. position_after p d.passed d.rest) (ap (λ h. h.position) c.spaces.is_held ∙ ap (λ r. position_after x.position spaces r) d.cut) ∙
         (sym (position_append x.position spaces d.passed d.rest) ∙ ap (λ p. position_after p gap d.rest) (q.end_is ∙ ap (λ r. position_after t.held.position scalar r) cut)) in
         rw d.is_fault (λ _. rw place
-        (stuck text t a some [] TabInBlockIndentation (position_after end gap d.rest) (λ k may.
+        (stuck a some [] TabInBlockIndentation (position_after end gap d.rest) (λ k may.
         record {
-          fails = may_not_stand (defs.tab_after_quoted single scalar gap d.rest (q.cut ∙ ap (λ r. scalar ++ r) cut) (rw (sym cut) (is text t a some lies single ctx x q same)) is_filled d.goes_on d.is_solid
-              (ap (λ bs. is_indented_by_spaces quoted_scalar bs (site_at_place (account_by text t a some k []) t.held.position).awaits gap) (blocks_by text t a some k []) ∙
-              (ap (λ w. is_indented_by_spaces quoted_scalar blocks w gap) (awaits_by text t a some k []) ∙ d.is_indented_by_tab)));
-          is_first = (looked_at text t a some lies k [], rw (least_by text t a some k []) (fits text t a some lies single ctx x q same), rw (sym cut) (unglued (in_flow own.held) scalar x.rest c.may_end));
+          fails = may_not_stand (defs.tab_after_quoted single scalar gap d.rest (q.cut ∙ ap (λ r. scalar ++ r) cut) (rw (sym cut) (is a some lies single ctx x q same)) is_filled d.goes_on d.is_solid
+              (ap (λ bs. is_indented_by_spaces quoted_scalar bs (site_at_place (account_by a some k []) t.held.position).awaits gap) (blocks_by a some k []) ∙
+              (ap (λ w. is_indented_by_spaces quoted_scalar blocks w gap) (awaits_by a some k []) ∙ d.is_indented_by_tab)));
+          is_first = (looked_at a some lies k [], rw (least_by a some k []) (fits a some lies single ctx x q same), rw (sym cut) (unglued (in_flow own.held) scalar x.rest c.may_end));
         })))
 
     told : Faults (Said text) (skip_to_next_token v)
@@ -121,15 +121,15 @@ module _ (text : List ℕ) (t : ScannerState) (a : Arrives text t) (some : is_em
       let clean : has_no_nul x.rest ≡ true = no_nul_after scalar x.rest (subst (λ r. has_no_nul r ≡ true) q.cut a.is_clean) in
       told v (held_of v (quoted_checked t.held.position scalar own (in_line single q.body) clean q.end_is) e)
 
-module _ (text : List ℕ) (t : ScannerState) (a : Arrives text t) (some : is_empty t.rest ≡ false) (lies : LiesDeep t) where
+module _ {text : List ℕ} {t : ScannerState} (a : Arrives text t) (some : is_empty t.rest ≡ false) (lies : LiesDeep t) where
   -- `*` or `&`
   pub name_told : (kind : NameKind) (more : List ℕ) → t.rest ≡ mark_of kind ∷ more → Faults (Said text) (fetch_anchor kind t)
   unfolding fetch_anchor
   name_told kind more e = read (node_start t.held) (anchor_name t.rest t.held.position) _ (λ f k. by kind e f (refused_as (ap (λ r. anchor_name r t.held.position) (sym e) ∙ k) (names_end (mark_of kind) more t.held.position))) (λ x k. goes)
     where
       by : (kind : NameKind) → t.rest ≡ mark_of kind ∷ more → (f : Fault) → names.IsNameRefusal t.held.position more f → Said text f
-      by Alias e f (names.nameless lacks) = λ _. none_begins text t a some lies AnchorName _ (none.nameless true more e lacks) tt
-      by Anchor e f (names.nameless lacks) = λ _. none_begins text t a some lies AnchorName _ (none.nameless false more e lacks) tt
+      by Alias e f (names.nameless lacks) = λ _. none_begins a some lies AnchorName _ (none.nameless true more e lacks) tt
+      by Anchor e f (names.nameless lacks) = λ _. none_begins a some lies AnchorName _ (none.nameless false more e lacks) tt
 
   -- `!`
   pub tag_told : (more : List ℕ) → t.rest ≡ 33 ∷ more → Faults (Said text) (fetch_tag t)
@@ -139,7 +139,7 @@ module _ (text : List ℕ) (t : ScannerState) (a : Arrives text t) (some : is_em
       (λ f k. by f (refused_as (ap (λ r. tags.tag (in_flow t.held) r t.held.position) (sym e) ∙ k) (tags_end (in_flow t.held) more t.held.position))) (λ x k. goes)
     where
       by : (f : Fault) → tag_ends.IsTagFault (in_flow t.held) t.held.position more f → Said text f
-      by f (tag_ends.at_start why reason) = λ _. none_begins text t a some lies why _ (none.tagless more why e reason) tt
+      by f (tag_ends.at_start why reason) = λ _. none_begins a some lies why _ (none.tagless more why e reason) tt
 
   -- `'` or `"`
   pub quoted_told : IsDeep t.held → (quotes : Quotes) (more : List ℕ) → t.rest ≡ none.quote_of (are_single quotes) ∷ more → Faults (Said text) (fetch_flow_scalar quotes t)
@@ -151,5 +151,5 @@ module _ (text : List ℕ) (t : ScannerState) (a : Arrives text t) (some : is_em
       rw e
       (quoted_as quotes (context (node_start t.held)) t.held.position more x clean (subst (λ r. quoted (are_single quotes) (context (node_start t.held)) r t.held.position ≡ Ok x) e k)) in
       read (node_start t.held) (quoted (are_single quotes) (context (node_start t.held)) t.rest t.held.position) _
-      (λ f k. refused_told text t a some lies deep (are_single quotes) (context (node_start t.held)) same more e clean f (ap (λ r. quoted (are_single quotes) (context (node_start t.held)) r t.held.position) (sym e) ∙ k))
-      (λ x k. in_turn (after_told text t a some lies (are_single quotes) (context (node_start t.held)) x (read_as x k) same) (λ v i. in_turn (tab_told text t a some lies (are_single quotes) (context (node_start t.held)) x (read_as x k) same v i) (λ w j. goes)))
+      (λ f k. refused_told a some lies deep (are_single quotes) (context (node_start t.held)) same more e clean f (ap (λ r. quoted (are_single quotes) (context (node_start t.held)) r t.held.position) (sym e) ∙ k))
+      (λ x k. in_turn (after_told a some lies (are_single quotes) (context (node_start t.held)) x (read_as x k) same) (λ v i. in_turn (tab_told a some lies (are_single quotes) (context (node_start t.held)) x (read_as x k) same v i) (λ w j. goes)))

@@ -108,7 +108,7 @@ entries_alike cs ks a = grind arith
 abbrev pub LiesDeep : ScannerState → Type 0
 LiesDeep t = begins_document_at t.held.position t.rest ≡ false → IsDeep t.held
 
-module _ (text : List ℕ) (t : ScannerState) (a : Arrives text t) (some : is_empty t.rest ≡ false) where
+module _ {text : List ℕ} {t : ScannerState} (a : Arrives text t) (some : is_empty t.rest ≡ false) where
   -- the account after the last piece by a choice of keys
   abbrev pub account_by : (c : Bool) (cs : List Bool) → Account
   account_by c cs = chosen c cs t.held.keys a.base

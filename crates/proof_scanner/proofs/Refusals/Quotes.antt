@@ -41,7 +41,7 @@ none_quoted single ctx more p f fails unlike piece next cut is =
 
 -- ---- the check
 
-module _ (text : List ℕ) (t : ScannerState) (a : Arrives text t) (some : is_empty t.rest ≡ false) (lies : LiesDeep t) (single : Bool) (ctx : Context) (x : Read (List ℕ)) (q : QuotedAs single ctx t.held.position t.rest x) (same : ctx.indent ≡ t.held.indent) where
+module _ {text : List ℕ} {t : ScannerState} (a : Arrives text t) (some : is_empty t.rest ≡ false) (lies : LiesDeep t) (single : Bool) (ctx : Context) (x : Read (List ℕ)) (q : QuotedAs single ctx t.held.position t.rest x) (same : ctx.indent ≡ t.held.indent) where
   -- after the closing quote
   abbrev pub closed : ScannerState
   closed = on_held unled (go_on x (node_start t.held))
@@ -60,7 +60,7 @@ module _ (text : List ℕ) (t : ScannerState) (a : Arrives text t) (some : is_em
   glued : begins_with 35 x.rest ≡ true → Said text (At CommentNotSeparated x.position)
   glued h =
       λ _. rw q.end_is
-      (followed_stuck text t a some lies CommentNotSeparated (position_after t.held.position piece x.rest) (none.glued_to_quoted single piece x.rest q.cut is h) (λ c may. fits))
+      (followed_stuck a some lies CommentNotSeparated (position_after t.held.position piece x.rest) (none.glued_to_quoted single piece x.rest q.cut is h) (λ c may. fits))
 
   refuses : (v : ScannerState) → skip_spaces Yes closed ≡ Ok v → may_follow_quoted (in_flow v.held) (t.held.position.line == v.held.position.line) (peek v.rest) ≡ false
       → check_after_quoted t.held.position.line closed ≡ Err (At ContentAfterQuoted v.held.position)
@@ -80,7 +80,7 @@ module _ (text : List ℕ) (t : ScannerState) (a : Arrives text t) (some : is_em
       let passed : List ℕ = s.blanks ++ s.comment in
       let place : v.held.position ≡ position_after end passed v.rest = ap (λ h. h.position) s.is_held ∙ ap (λ p. position_after p passed v.rest) q.end_is in
       λ _. rw place
-      (followed_stuck text t a some lies ContentAfterQuoted (position_after end passed v.rest)
+      (followed_stuck a some lies ContentAfterQuoted (position_after end passed v.rest)
       (none.after_quoted single piece x.rest passed v.rest q.cut is (may_not_end v e n) (record { is_text = s.is_rest ∙ sym (append_assoc s.blanks s.comment v.rest); is_filled = s.is_filled; is_on_line = s.no_break })
       (solid_left (in_flow v.held) (t.held.position.line == v.held.position.line) v.rest s.ends n)) (λ c may. (fits, held_of v (unglued Yes closed) e)))
 
@@ -95,7 +95,7 @@ module _ (text : List ℕ) (t : ScannerState) (a : Arrives text t) (some : is_em
 not_of_lines : (text : List ℕ) (why : Problem) (p : Position) → IsBadEscape text why → is_of_lines (At why p) ≡ false
 not_of_lines text why p n = grind (arith, nat_tests, eqb-true)
 
-module _ (text : List ℕ) (t : ScannerState) (a : Arrives text t) (some : is_empty t.rest ≡ false) (lies : LiesDeep t) where
+module _ {text : List ℕ} {t : ScannerState} (a : Arrives text t) (some : is_empty t.rest ≡ false) (lies : LiesDeep t) where
   abbrev here : Position
   here = t.held.position
 
@@ -105,8 +105,8 @@ module _ (text : List ℕ) (t : ScannerState) (a : Arrives text t) (some : is_em
   -- the quoted scalar that begins here is none
   lines_stuck : (single : Bool) (why : Problem) (at : Position) → AreNotIndented single least t.rest → (x : IsQuotedFault single least here t.rest why at) → lines_first single least here t.rest why at x → IsWhy text why at
   lines_stuck single why at none_fits x first =
-      stuck_by text t a some why at (λ b bs k. (l : AreNotIndented single k t.rest) × (y : IsQuotedFault single k here t.rest why at) × lines_first single k here t.rest why at y) (none_fits, x, first)
-      (λ c may m. record { fails = no_quoted single m.0 m.1; is_first = (looked_at text t a some lies c [], m.2) })
+      stuck_by a some why at (λ b bs k. (l : AreNotIndented single k t.rest) × (y : IsQuotedFault single k here t.rest why at) × lines_first single k here t.rest why at y) (none_fits, x, first)
+      (λ c may m. record { fails = no_quoted single m.0 m.1; is_first = (looked_at a some lies c [], m.2) })
 
   module _ (deep : IsDeep t.held) (single : Bool) (ctx : Context) (same : ctx.indent ≡ t.held.indent) (more : List ℕ) (e : t.rest ≡ none.quote_of single ∷ more) where
     limit : (k : ℕ) → nat_lt (k + 1) ctx.indent ≡ nat_lt k least
@@ -143,16 +143,16 @@ module _ (text : List ℕ) (t : ScannerState) (a : Arrives text t) (some : is_em
 
               of : (why : Problem) (at : Position) → At why at ≡ f → Reason single least here within (past here) more why at → Wrong single least here (past_elements within x.es) (position_after (past here) x.body x.rest) x.rest why at → IsWhy text why at
               of why at is w (by_marker h) =
-                  none_begins text t a some lies QuotedDocumentMarker _
+                  none_begins a some lies QuotedDocumentMarker _
                   (none.unquoted single more QuotedDocumentMarker e (none_there (ap is_of_lines (sym is))) (none.by_marker x.body x.rest x.is_text (x.es, x.are) (marks true h)))
                   ((and_parts ((position_after (past here) x.body x.rest).col == 0) (is_document_marker x.rest) h).1, indented)
               of why at is w (placed _ _ free (by_end ends)) =
                   let all : more ≡ x.body = x.is_text ∙ (ap (λ r. x.body ++ r) ends ∙ append-nil x.body) in
-                  none_begins text t a some lies QuotedEnd _
+                  none_begins a some lies QuotedEnd _
                   (none.unquoted single more QuotedEnd e (none_there (ap is_of_lines (sym is))) (none.by_end (x.es, rw all x.are)))
                   (ap (λ b. has_marker b []) all ∙ (ap (λ r. has_marker x.body r) (sym ends) ∙ marks false free), indented)
               of why at is w (placed _ _ free (by_escape next _ double cut bad may)) =
-                  none_begins text t a some lies why _
+                  none_begins a some lies why _
                   (none.unquoted single more why e (none_there (ap is_of_lines (sym is) ∙ not_of_lines next why here bad)) (none.by_escape x.body next why double (x.is_text ∙ ap (λ r. x.body ++ r) cut) (x.es, x.are) bad))
                   (ap (λ r. has_marker x.body r) (sym cut) ∙ marks false free, indented_are least (past here).col (x.es ++ content 92 ∷ []) ∙ x.fits (content 92 ∷ []) may)
               of why at is w (placed _ _ free (by_column solid further low)) =
