@@ -1,7 +1,7 @@
 -- Faults of names, tags, plain and quoted scalars: no such piece begins with the text.
 use Rattle.proof_scanner.proofs.Common.{anchor_name, and_parts, ap, are_single, Arrives, context, false, Fault, fetch_anchor, fetch_flow_scalar, fetch_tag, has_no_nul, in_flow, is_empty, is_nul, List, mark_of, NameKind, names_end, node_start, not, Ok, quoted, Quotes, Read, refused_as, ScannerState, subst, sym, tags_end, true, ℕ, ◌∙◌, ◌∷◌, ◌≡◌, [], append_assoc, Bool, check_after_quoted, columns, Context, has_break, has_open_level, held_of, inr, is_indented_by_spaces, is_separation, may_not_stand, no_nul_after, Position, position_after, position_append, quoted_scalar, site_at_place, skip_to_next_token, ◌++◌, arith, eqb-true, nat_tests, AnchorName, TabInBlockIndentation, Alias, Anchor, allow_key, before_by, before_past, begins_left, collection_of, comes_plain, fetch_plain_scalar, goes_on, goes_over, HasNoPlainFault, HasTab, innermost, is_adjacent, IsPlainFault, IsPlainRefusal, least_column, nat_le, nat_lt, no_plain, Option, plain_first, Problem, scans_end, unroll_non_block_indents, without_open, FlowIndentation, PlainDashInFlow, PlainTab}
 use Rattle.proof_scanner.proofs.Refusals.Common.{Checked, Faults, IsDeep, LiesDeep, QuotedAs, Said, account_by, awaits_by, blocks_by, goes, in_line, in_turn, least_by, least_is, looked_at, mapped, none_begins, quoted_as, quoted_checked, read, same_has_break, saved_is, separation_append, stuck, AreClosed, IsWhy, less_or, saved_keys, solid_text, stuck_by, without_is}
-use Rattle.proof_scanner.proofs.Refusals.Quotes.{after_told, refused_told, closed, piece, is, fits}
+use Rattle.proof_scanner.proofs.Refusals.Quotes.{after_told, refused_told, tab_told}
 use Rattle.proof_scanner.proofs.Refusals.AfterQuoted.{unglued}
 use Rattle.proof_scanner.proofs.Refusals.Passing.{TabStands, skip_refused}
 use Rattle.model_scanner.specs.Tag as tags
@@ -71,55 +71,6 @@ module _ {text : List ℕ} {t : ScannerState} (a : Arrives text t) (some : is_em
       rw (saved_is t.held)
       (read (unroll_non_block_indents (allow_key false (record t.held { keys = saved_keys t.held }))) (plain ctx t.rest t.held.position) _ (λ f k. refused f (refused_as k
       (scans_end ctx t.rest t.held.position a.is_clean (solid_text t.rest some a.is_solid) (less_or (in_flow t.held) ctx.indent t.held.position.col (omega (arith, deep, levels.not_deeper)))))) (λ x k. goes))
-
--- ---- a TAB after a quoted scalar, on a later line, which would indent the next piece
-
-module _ {text : List ℕ} {t : ScannerState} (a : Arrives text t) (some : is_empty t.rest ≡ false) (lies : LiesDeep t) (single : Bool) (ctx : Context) (x : Read (List ℕ)) (q : QuotedAs single ctx t.held.position t.rest x) (same : ctx.indent ≡ t.held.indent) where
-  abbrev own : ScannerState
-  own = closed a some lies single ctx x q same
-
-  abbrev scalar : List ℕ
-  scalar = piece a some lies single ctx x q same
-
-  abbrev blocks : List ℕ
-  blocks = columns t.held.indent t.held.indents
-
-  abbrev awaits : Bool
-  awaits = has_open_level t.held.indents
-
-  module _ (v : ScannerState) (c : Checked scalar own v) where
-    abbrev spaces : List ℕ
-    spaces = c.spaces.blanks ++ c.spaces.comment
-
-    no_break : has_break spaces ≡ false
-    no_break = sym (same_has_break spaces) ∙ c.spaces.no_break
-
-    tab_stuck : {f : Fault} → TabStands blocks awaits quoted_scalar spaces v.rest v.held.position f → Said text f
-    tab_stuck d =
-        let gap : List ℕ = spaces ++ d.passed in
-        let cut : x.rest ≡ gap ++ d.rest = c.spaces.is_rest ∙ (sym (append_assoc c.spaces.blanks c.spaces.comment v.rest) ∙ (ap (λ r. spaces ++ r) d.cut ∙ sym (append_assoc spaces d.passed d.rest))) in
-        let is_filled : is_separation false gap d.rest ≡ true = separation_append false spaces d.passed d.rest (rw (sym d.cut) c.spaces.is_filled) d.is_filled in
-        let end : Position = position_after t.held.position scalar (gap ++ d.rest) in
-        let place : position_after v.held.position d.passed d.rest ≡ position_after end gap d.rest =
-        ap (λ p. position_after p d.passed d.rest) (ap (λ h. h.position) c.spaces.is_held ∙ ap (λ r. position_after x.position spaces r) d.cut) ∙
-        (sym (position_append x.position spaces d.passed d.rest) ∙ ap (λ p. position_after p gap d.rest) (q.end_is ∙ ap (λ r. position_after t.held.position scalar r) cut)) in
-        rw d.is_fault (λ _. rw place
-        (stuck a some [] TabInBlockIndentation (position_after end gap d.rest) (λ k may.
-        record {
-          fails = may_not_stand (defs.tab_after_quoted single scalar gap d.rest (q.cut ∙ ap (λ r. scalar ++ r) cut) (rw (sym cut) (is a some lies single ctx x q same)) is_filled d.goes_on d.is_solid
-              (ap (λ bs. is_indented_by_spaces quoted_scalar bs (site_at_place (account_by a some k []) t.held.position).awaits gap) (blocks_by a some k []) ∙
-              (ap (λ w. is_indented_by_spaces quoted_scalar blocks w gap) (awaits_by a some k []) ∙ d.is_indented_by_tab)));
-          is_first = (looked_at a some lies k [], rw (least_by a some k []) (fits a some lies single ctx x q same), rw (sym cut) (unglued (in_flow own.held) scalar x.rest c.may_end));
-        })))
-
-    told : Faults (Said text) (skip_to_next_token v)
-    told = mapped (λ f d. tab_stuck d) (skip_refused quoted_scalar blocks awaits spaces v (grind (arith, nat_tests, eqb-true, least_is, saved_is)) (λ _. (inr (record { leading_is = λ i. ap (λ h. h.leading) c.spaces.is_held ∙ sym no_break; col_is = λ b. absurd (cc (b, no_break)); spaced = λ b. absurd (cc (b, no_break)) }))))
-
-  -- what stands on the way to the next token after a quoted scalar
-  pub tab_told : (v : ScannerState) → check_after_quoted t.held.position.line own ≡ Ok v → Faults (Said text) (skip_to_next_token v)
-  tab_told v e =
-      let clean : has_no_nul x.rest ≡ true = no_nul_after scalar x.rest (subst (λ r. has_no_nul r ≡ true) q.cut a.is_clean) in
-      told v (held_of v (quoted_checked t.held.position scalar own (in_line single q.body) clean q.end_is) e)
 
 module _ {text : List ℕ} {t : ScannerState} (a : Arrives text t) (some : is_empty t.rest ≡ false) (lies : LiesDeep t) where
   -- `*` or `&`

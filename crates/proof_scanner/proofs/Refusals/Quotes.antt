@@ -1,13 +1,21 @@
 -- Faults of quoted scalars: a further line is not indented, or what stands after the scalar may not follow it.
-use Rattle.proof_scanner.proofs.Common.{inr, inl, cases_Bool, [], ap, append-nil, append_assoc, are_indented, AreNotIndented, arith, Arrives, At, begins_separation, begins_with, bodies_are_read, Bool, check_after_quoted, closed_first, content, Context, element_of, ends_before, ends_spaces, Err, false, Fault, go_on, has_marker, has_no_nul, held_of, in_flow, is_breakz, is_document_marker, is_empty, IsBadEscape, IsQuoted, IsQuotedFault, lines_first, List, may_follow_quoted, nat_lt, no_quoted, node_start, not-true, off_margin, Ok, on_held, past, past_elements, peek, Position, position_after, Problem, quote_of, quoted, quoted_lines_fit, quoted_may_end, Read, refl, Result, ScannerState, skip_spaces, Some, sym, tab, true, unled, value_of, within, Yes, ℕ, ◌++◌, ◌+◌, ◌-◌, ◌==◌, ◌∙◌, ◌∷◌, ◌≡◌, further_lines_fit, lines_of, eqb-true, nat_tests, and_parts, CommentNotSeparated, ContentAfterQuoted, QuotedDocumentMarker, QuotedEnd, QuotedIndentation, TabAsIndentation, neither}
+use Rattle.proof_scanner.proofs.Common.{inr, inl, cases_Bool, [], ap, append-nil, append_assoc, are_indented, AreNotIndented, arith, Arrives, At, begins_separation, begins_with, bodies_are_read, Bool, check_after_quoted, closed_first, content, Context, element_of, ends_before, ends_spaces, Err, false, Fault, go_on, has_marker, has_no_nul, held_of, in_flow, is_breakz, is_document_marker, is_empty, IsBadEscape, IsQuoted, IsQuotedFault, lines_first, List, may_follow_quoted, nat_lt, no_quoted, node_start, not-true, off_margin, Ok, on_held, past, past_elements, peek, Position, position_after, Problem, quote_of, quoted, quoted_lines_fit, quoted_may_end, Read, refl, Result, ScannerState, skip_spaces, Some, sym, tab, true, unled, value_of, within, Yes, ℕ, ◌++◌, ◌+◌, ◌-◌, ◌==◌, ◌∙◌, ◌∷◌, ◌≡◌, further_lines_fit, lines_of, eqb-true, nat_tests, and_parts, CommentNotSeparated, ContentAfterQuoted, QuotedDocumentMarker, QuotedEnd, QuotedIndentation, TabAsIndentation, neither, anchor_name, are_single, context, fetch_anchor, fetch_flow_scalar, fetch_tag, is_nul, mark_of, NameKind, names_end, not, Quotes, refused_as, subst, tags_end, columns, has_break, has_open_level, is_indented_by_spaces, is_separation, may_not_stand, no_nul_after, position_append, quoted_scalar, site_at_place, skip_to_next_token, AnchorName, TabInBlockIndentation, Alias, Anchor, allow_key, before_by, before_past, begins_left, collection_of, comes_plain, fetch_plain_scalar, goes_on, goes_over, HasNoPlainFault, HasTab, innermost, is_adjacent, IsPlainFault, IsPlainRefusal, least_column, nat_le, no_plain, Option, plain_first, scans_end, unroll_non_block_indents, without_open, FlowIndentation, PlainDashInFlow, PlainTab}
 use Rattle.proof_lexers.specs.QuotedScan as scans
-use Rattle.proof_scanner.proofs.Refusals.Common.{Faults, IsDeep, IsWhy, LiesDeep, QuotedAs, Said, Spaced, either, fault, followed_stuck, goes, in_turn, looked_at, none_begins, piece_of, saved_is, solid_past, some_chars, spaces_skipped, spaces_told, stuck_by, unglued}
+use Rattle.proof_scanner.proofs.Refusals.Common.{Faults, IsDeep, IsWhy, LiesDeep, QuotedAs, Said, Spaced, either, fault, followed_stuck, goes, in_turn, looked_at, none_begins, piece_of, saved_is, solid_past, some_chars, spaces_skipped, spaces_told, stuck_by, unglued, Checked, account_by, awaits_by, blocks_by, in_line, least_by, least_is, mapped, quoted_as, quoted_checked, read, same_has_break, separation_append, stuck, AreClosed, less_or, saved_keys, solid_text, without_is}
 use Rattle.proof_scanner.proofs.Sound.QuotedBreaks.{same_limit, has_elements, body_between}
-use Rattle.proof_scanner.proofs.Refusals.AfterQuoted.{check_passes}
+use Rattle.proof_scanner.proofs.Refusals.AfterQuoted.{check_passes, unglued as not_glued}
 use Rattle.proof_scanner.proofs.Refusals.QuotedReasons.{not_closed, after_quote_at, all_stand, indented_are, is_marked, by_end, by_escape, by_column, by_tab, by_marker, placed, Wrong, Reason, Parted, parted, lines_close}
 use Rattle.proof_scanner.specs.NoPiece as none
 use Rattle.proof_scanner.specs.QuotedLines as lines
 use Rattle.proof_scanner.proofs.Refusals.QuotedLines.{is_of_lines, refused, reads, quoted_ends}
+use Rattle.proof_scanner.proofs.Refusals.Passing.{TabStands, skip_refused}
+use Rattle.model_scanner.specs.Tag as tags
+use Rattle.proof_lexers.specs.NameEnds as names
+use Rattle.proof_lexers.specs.TagEnds as tag_ends
+use Rattle.proof_scanner.specs.Failing as defs
+use Rattle.defs_token.specs.Plain.{inside}
+use Rattle.model_scanner.specs.Plain.{plain}
+use Rattle.proof_lexers.specs.PlainEnds as plains
 
 -- ---- texts
 
@@ -89,6 +97,48 @@ module _ {text : List ℕ} {t : ScannerState} (a : Arrives text t) (some : is_em
   after_told =
       in_turn (spaces_told text Yes closed glued) (λ v e.
       either (may_follow_quoted (in_flow v.held) (t.held.position.line == v.held.position.line) (peek v.rest)) (λ _. goes) (λ n. fault {f = At ContentAfterQuoted v.held.position} (followed_by v e (held_of v (spaces_skipped Yes closed) e) n)))
+
+  -- ---- a TAB after a quoted scalar, on a later line, which would indent the next piece
+
+  abbrev blocks : List ℕ
+  blocks = columns t.held.indent t.held.indents
+
+  abbrev awaits : Bool
+  awaits = has_open_level t.held.indents
+
+  module _ (v : ScannerState) (c : Checked piece closed v) where
+    abbrev spaces : List ℕ
+    spaces = c.spaces.blanks ++ c.spaces.comment
+
+    no_break : has_break spaces ≡ false
+    no_break = sym (same_has_break spaces) ∙ c.spaces.no_break
+
+    tab_stuck : {f : Fault} → TabStands blocks awaits quoted_scalar spaces v.rest v.held.position f → Said text f
+    tab_stuck d =
+        let gap : List ℕ = spaces ++ d.passed in
+        let cut : x.rest ≡ gap ++ d.rest = c.spaces.is_rest ∙ (sym (append_assoc c.spaces.blanks c.spaces.comment v.rest) ∙ (ap (λ r. spaces ++ r) d.cut ∙ sym (append_assoc spaces d.passed d.rest))) in
+        let is_filled : is_separation false gap d.rest ≡ true = separation_append false spaces d.passed d.rest (rw (sym d.cut) c.spaces.is_filled) d.is_filled in
+        let end : Position = position_after t.held.position piece (gap ++ d.rest) in
+        let place : position_after v.held.position d.passed d.rest ≡ position_after end gap d.rest =
+        ap (λ p. position_after p d.passed d.rest) (ap (λ h. h.position) c.spaces.is_held ∙ ap (λ r. position_after x.position spaces r) d.cut) ∙
+        (sym (position_append x.position spaces d.passed d.rest) ∙ ap (λ p. position_after p gap d.rest) (q.end_is ∙ ap (λ r. position_after t.held.position piece r) cut)) in
+        rw d.is_fault (λ _. rw place
+        (stuck a some [] TabInBlockIndentation (position_after end gap d.rest) (λ k may.
+        record {
+          fails = may_not_stand (defs.tab_after_quoted single piece gap d.rest (q.cut ∙ ap (λ r. piece ++ r) cut) (rw (sym cut) (is)) is_filled d.goes_on d.is_solid
+              (ap (λ bs. is_indented_by_spaces quoted_scalar bs (site_at_place (account_by a some k []) t.held.position).awaits gap) (blocks_by a some k []) ∙
+              (ap (λ w. is_indented_by_spaces quoted_scalar blocks w gap) (awaits_by a some k []) ∙ d.is_indented_by_tab)));
+          is_first = (looked_at a some lies k [], rw (least_by a some k []) (fits), rw (sym cut) (not_glued (in_flow closed.held) piece x.rest c.may_end));
+        })))
+
+    told : Faults (Said text) (skip_to_next_token v)
+    told = mapped (λ f d. tab_stuck d) (skip_refused quoted_scalar blocks awaits spaces v (grind (arith, nat_tests, eqb-true, least_is, saved_is)) (λ _. (inr (record { leading_is = λ i. ap (λ h. h.leading) c.spaces.is_held ∙ sym no_break; col_is = λ b. absurd (cc (b, no_break)); spaced = λ b. absurd (cc (b, no_break)) }))))
+
+  -- what stands on the way to the next token after a quoted piece
+  pub tab_told : (v : ScannerState) → check_after_quoted t.held.position.line closed ≡ Ok v → Faults (Said text) (skip_to_next_token v)
+  tab_told v e =
+      let clean : has_no_nul x.rest ≡ true = no_nul_after piece x.rest (subst (λ r. has_no_nul r ≡ true) q.cut a.is_clean) in
+      told v (held_of v (quoted_checked t.held.position piece closed (in_line single q.body) clean q.end_is) e)
 
 -- ---- a text that is refused
 
