@@ -117,13 +117,11 @@ one_tag in_flow text why1 why2 x y =
 
 -- with the digits of a number, or else after them
 abbrev number_wrong : (digits : List ℕ) → (more : Option Problem) → Option Problem
-number_wrong [] more = Some VersionNumber
-number_wrong (c ∷ w) more = (if nat_le (length (c ∷ w)) 9 then more else Some VersionTooLong)
+number_wrong w more = (if is_empty w then Some VersionNumber else (if nat_le (length w) 9 then more else Some VersionTooLong))
 
 -- with the point and what stands after it
 abbrev point_wrong : List ℕ → Option Problem
-point_wrong [] = Some VersionDot
-point_wrong (c ∷ r) = (if c == 46 then number_wrong (leading is_decimal_digit r) None else Some VersionDot)
+point_wrong text = (if begins_with 46 text then number_wrong (leading is_decimal_digit (drop 1 text)) None else Some VersionDot)
 
 abbrev version_wrong : List ℕ → Option Problem
 version_wrong text = number_wrong (leading is_decimal_digit text) (point_wrong (after is_decimal_digit text))
@@ -204,8 +202,6 @@ refusal_is start line f (directives.by_comment before rest cut v) = grind (arith
 refusal_is start line f (directives.after_version rest v more begins) = after_it start line rest v ∙ rw begins refl
 refusal_is start line f (directives.after_declaration rest d more) = of_declaration start line d.is_declaration ∙ rw (declaration_right line rest d) refl
 
--- ---- one line
-
 -- ---- a plain scalar has one fault that comes first
 
 -- a dash before a flow indicator, and one behind it
@@ -281,10 +277,6 @@ kind_here s column (c ∷ r) = (if comes_plain s.in_flow s.adjacent column (c �
 
 pub same_setting : (a b : Account) (separation : List ℕ) (here : Position) → IsLike a b → setting_of a separation here ≡ setting_of b separation here
 same_setting a b separation here like = grind (arith, nat_tests, eqb-true, same_flow, many_alike)
-
--- two faults of one kind at one place
-abbrev pub AreSame : (why1 why2 : Problem) (at1 at2 : Position) → Type 0
-AreSame why1 why2 at1 at2 = (why1 ≡ why2) × (at1 ≡ at2)
 
 -- ---- what is passed on a line
 
@@ -462,7 +454,7 @@ colon_alone a b like separation more here is out seen apart why at x =
 
 -- ---- one reason
 
-one_in : (k : Kind) (s : Setting) (here : Position) (rest : List ℕ) (why1 why2 : Problem) (at1 at2 : Position) → has_no_nul rest ≡ true → InKind k s here rest why1 at1 → InKind k s here rest why2 at2 → AreSame why1 why2 at1 at2
+one_in : (k : Kind) (s : Setting) (here : Position) (rest : List ℕ) (why1 why2 : Problem) (at1 at2 : Position) → has_no_nul rest ≡ true → InKind k s here rest why1 at1 → InKind k s here rest why2 at2 → (why1 ≡ why2) × (at1 ≡ at2)
 unfolding is_nul is_blank_or_end is_blank is_break is_alpha is_decimal_digit is_letter
 one_in plain_scalar s here rest why1 why2 at1 at2 clean r q = one_plain s.in_flow s.blocks here rest why1 why2 at1 at2 r q
 one_in in_single_quotes s here rest why1 why2 at1 at2 clean r q = one_quoted (least_column s.blocks s.awaits) here rest clean why1 why2 at1 at2 r q
@@ -473,11 +465,9 @@ one_in directive_line s here rest why1 why2 at1 at2 clean r q = grind (arith, na
 one_in dots s here rest why1 why2 at1 at2 clean r q = grind (arith, separations, ends_before, no_nul_after)
 one_in k s here rest why1 why2 at1 at2 clean r q = grind (arith, separations, nat_tests, eqb-true, first_tab)
 
-one_of_two : (s : Setting) (here : Position) (rest : List ℕ) (why1 why2 : Problem) (at1 at2 : Position) → has_no_nul rest ≡ true → Reason s here rest why1 at1 → Reason s here rest why2 at2 → AreSame why1 why2 at1 at2
-one_of_two s here rest why1 why2 at1 at2 clean r q = grind (arith, nat_tests, eqb-true, one_in)
-
 -- At like accounts, after the same separation, what fails first is of one kind and at one position.
 pub one_reason : (a b : Account) → IsLike a b → (separation : List ℕ) (here : Position) (rest : List ℕ) → has_no_nul rest ≡ true → (why1 why2 : Problem) (at1 at2 : Position) → FailsFirst a separation here rest why1 at1 → FailsFirst b separation here rest why2 at2 → (why1 ≡ why2) × (at1 ≡ at2)
 one_reason a b like separation here rest clean why1 why2 at1 at2 x y =
-    one_of_two (setting_of a separation here) here rest why1 why2 at1 at2 clean (reason_of a separation here rest why1 at1 x)
-    (subst (λ s. Reason s here rest why2 at2) (sym (same_setting a b separation here like)) (reason_of b separation here rest why2 at2 y))
+    let first = reason_of a separation here rest why1 at1 x in
+    let second : Reason (setting_of a separation here) here rest why2 at2 = subst (λ s. Reason s here rest why2 at2) (sym (same_setting a b separation here like)) (reason_of b separation here rest why2 at2 y) in
+    grind (arith, nat_tests, eqb-true, one_in, first, second, clean)

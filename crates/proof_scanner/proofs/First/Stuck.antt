@@ -142,15 +142,6 @@ claim_of text why at (key_waits a separation rest why2 begin here at2 g inside f
 
 -- ---- what is kept along two ways
 
-itself : IsLike first_account first_account
-itself = (refl, tt, tt)
-
-gives_up_second : (x y z : Account) → GivesUp y z → IsLike x y → IsLike x z
-gives_up_second x y z g i = like_sym z x (gives_up_like y z x g (like_sym x y i))
-
-abbrev Nothing : Account → Account → List ℕ → Type 0
-Nothing x y after = Unit {0}
-
 -- The second way is the beginning of a row. So is the first; or it has given up a key, which still waits in the second one.
 abbrev BeginsOrApart : (text : List ℕ) → Account → Account → List ℕ → Type 0
 BeginsOrApart text x y after = Begins text after y × ((Together x y × Begins text after x) ⊎ ((q : Position) × Apart q x y))
@@ -180,20 +171,20 @@ module _ (text : List ℕ) {why1 why2 : Problem} {at1 at2 : Position} (f : Claim
 
   failing_once : FailsFirst f.account f.separation f.here f.rest why1 at1 → FailsFirst g.account g.separation g.here g.rest why2 at2 → (why1 ≡ why2) × (at1 ≡ at2)
   failing_once x y =
-      elim (meet GivesUp GivesUp Nothing (record { first = λ x y z after g r. (gives_up_like x z y g r.0, tt); second = λ x y z after g r. (gives_up_second x y z g r.0, tt); both = λ x y a b v c next i r k l e f. tt })
-      f.way.steps g.way.steps after1 after2 first_account first_account f.account g.account itself tt f.way.leads g.way.leads (f.way.spells ∙ sym g.way.spells) (clean_way text f.way.steps after1 f.way.spells)) [
+      elim (meet GivesUp GivesUp (λ x y after. Unit {0}) (record { first = λ x y z after g r. (gives_up_like x z y g r.0, tt); second = λ x y z after g r. (like_sym z x (gives_up_like y z x g (like_sym x y r.0)), tt); both = λ x y a b v c next i r k l e f. tt })
+      f.way.steps g.way.steps after1 after2 first_account first_account f.account g.account (refl, tt, tt) tt f.way.leads g.way.leads (f.way.spells ∙ sym g.way.spells) (clean_way text f.way.steps after1 f.way.spells)) [
         | same_place like r e ↦
             let cut = one_cut f.stands g.stands like (clean_place f.way) e in
             one_reason f.account g.account like f.separation f.here f.rest (no_nul_after f.separation f.rest (clean_place f.way)) why1 why2 at1 at2 x (rw cut.0 (rw cut.1 (rw cut.2 y)))
-        | second_on n ↦ fails_before GivesUp gives_up_site Nothing f.stands g.stands n (clean_place f.way) why1 why2 at1 at2 x y
+        | second_on n ↦ fails_before GivesUp gives_up_site (λ x y after. Unit {0}) f.stands g.stands n (clean_place f.way) why1 why2 at1 at2 x y
         | first_on n ↦
-            let turned = fails_before GivesUp gives_up_site (λ x y. Nothing y x) g.stands f.stands n (clean_place g.way) why2 why1 at2 at1 y x in
+            let turned = fails_before GivesUp gives_up_site (λ x y after. Unit {0}) g.stands f.stands n (clean_place g.way) why2 why1 at2 at1 y x in
             (sym turned.0, sym turned.1)
       ]
 
   -- A colon for which no key waits is the only one of its text, and nothing else fails.
   keyless_once : Keyless text g.account g.separation g.rest g.here → (why1 ≡ ValueNotAllowed) × (at1 ≡ g.here)
-  keyless_once z = by (meet GivesUp Same (BeginsOrApart text) (keeps_apart text) f.way.steps way.steps after1 after2 first_account first_account f.account g.account itself (begins, inl (first_together, begins)) f.way.leads way.leads (f.way.spells ∙ sym way.spells) (clean_way text f.way.steps after1 f.way.spells))
+  keyless_once z = by (meet GivesUp Same (BeginsOrApart text) (keeps_apart text) f.way.steps way.steps after1 after2 first_account first_account f.account g.account (refl, tt, tt) (begins, inl (first_together, begins)) f.way.leads way.leads (f.way.spells ∙ sym way.spells) (clean_way text f.way.steps after1 f.way.spells))
     where
       way : Way Same text after2 g.account
       way = strict_way text after2 g.account z.place.begins

@@ -2,10 +2,11 @@
 use Rattle.proof_scanner.proofs.Common.{Account, ap, Begins, FailingPlacesHaveNoRow, Fails, false, HasNoKey, HasRow, is_in_flow, is_separation, is_taken, is_value_here, IsPlace, List, Position, position_after, Problem, refl, Row, Site, true, ℕ, ◌++◌, ◌∙◌, ◌∷◌, ◌≡◌}
 use Rattle.defs_text.specs.Classes as classes
 use Rattle.proof_scanner.specs.Failing as defs
-use Rattle.proof_scanner.proofs.Refusals.OtherRows.{StepAt, IsClearAfter, IsClearGapAfter, clear_of_gap, RowAt, row_at}
+use Rattle.proof_scanner.proofs.Refusals.OtherRows.{StepAt, IsClearAfter, IsClearGapAfter, RowAt, row_at}
 use Rattle.proof_scanner.proofs.Refusals.PiecesRefused.{OfQuoted, no_colon_here, no_tab_after_quoted, not_followed, spaces_indent, stands_nowhere}
 use Rattle.proof_scanner.proofs.Refusals.PlainsRefused.{no_plain_stands}
 use Rattle.proof_scanner.proofs.Refusals.TextsRefused.{lines_stand, no_block_stands, no_piece_stands}
+use Rattle.proof_scanner.proofs.Refusals.Common.{gap_is_separation}
 
 -- No step stands where a condition fails, but for a TAB after a quoted scalar.
 pub step_refuted : {a : Account} {separation rest : List ℕ} {here : Position} (s : StepAt a separation rest here) (T : Problem → Position → Type 0) → IsClearGapAfter s → OfQuoted s T → (why : Problem) (at : Position) → Fails a separation here rest why at → T why at
@@ -33,7 +34,7 @@ no_keyless_colon text separation more a here r p is out line none row =
 -- None stands there, if no TAB indents what comes after the step.
 pub no_step_stands : {a : Account} {separation rest : List ℕ} {here : Position} (s : StepAt a separation rest here) → IsClearAfter s → (why : Problem) (at : Position) → Fails a separation here rest why at → ⊥
 no_step_stands s clear =
-    step_refuted s (λ why at. ⊥) (clear_of_gap s clear) (λ single piece gap content e is fills some solid tab. no_tab_after_quoted s single piece gap content e is fills some solid tab clear)
+    step_refuted s (λ why at. ⊥) (λ before gap content cut white. clear gap content cut (gap_is_separation gap content white)) (λ single piece gap content e is fills some solid tab. no_tab_after_quoted s single piece gap content e is fills some solid tab clear)
 
 pub failing_places_have_no_row : FailingPlacesHaveNoRow
 failing_places_have_no_row text separation rest a here at why r p solid some f row =

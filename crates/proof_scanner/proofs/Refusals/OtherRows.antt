@@ -89,9 +89,6 @@ abbrev pub IsClearGapAfter : {a : Account} {separation rest : List ℕ} {here : 
 IsClearGapAfter s =
     s.past.site.before ≡ plain_scalar → (gap content : List ℕ) → s.next ≡ gap ++ content → is_gap gap ≡ true → begins_separation content ≡ false → is_empty content ≡ false → is_indented_by_spaces s.past.site.before s.past.site.blocks s.past.site.awaits gap ≡ true
 
-pub clear_of_gap : {a : Account} {separation rest : List ℕ} {here : Position} (s : StepAt a separation rest here) → IsClearAfter s → IsClearGapAfter s
-clear_of_gap s clear before gap content cut white = clear gap content cut (gap_is_separation gap content white)
-
 -- The next step of a row at a place; and a row may begin so that it leads to the account there.
 pub record RowAt (text : List ℕ) (a : Account) (separation rest : List ℕ) (here : Position) : Type 0 where
   pub step_at : StepAt a separation rest here

@@ -61,9 +61,6 @@ none_begins x piece t a again b d is h = grind arith
 none_ends : (x : Site) (piece : List ℕ) (t : Tok) (next : List ℕ) (again is_key : Bool) (o : Option Line) → act_of t ≡ gives_colon → is_taken_line o ≡ true → ((q : Position) → o ≡ Some (waits q) → is_near q x.position ≡ true → ⊥) → past_piece x piece t next again is_key o [] ≡ None
 none_ends x piece t a again b d is h e = grind arith
 
-gone : (b : Bool) (piece : List ℕ) (x : Option Account) (y : Account) → x ≡ None → (if b then on_one_line piece x else None) ≡ Some y → ⊥
-gone a piece x y e k = grind arith
-
 -- ---- TABs after `?`
 
 tabbed : (in_comment : Bool) (passed content : List ℕ) → is_separation in_comment passed (9 ∷ content) ≡ true → has_tab_before_piece in_comment (passed ++ 9 ∷ content) ≡ true
@@ -144,7 +141,8 @@ module _ {a : Account} {separation rest : List ℕ} {here : Position} (s : StepA
   goes_on : (es : List Entry) → s.account.entries ≡ es
       → past_piece there s.step.piece s.step.shown s.next (is_renewed s.account.site.before s.step.separation) s.step.key (line_past_separation (is_in_flow es) (begins_free_line s.account.site.before s.step.separation) s.account.line) es ≡ None → ⊥
   goes_on es i e =
-      gone (may_stand (is_in_flow s.account.entries) s.account.site there s.step.separation s.step.piece s.step.shown s.next) s.step.piece _ s.past
+      let gone : (b : Bool) (x : Option Account) → x ≡ None → (if b then on_one_line s.step.piece x else None) ≡ Some s.past → ⊥ = λ b x e k. grind arith in
+      gone (may_stand (is_in_flow s.account.entries) s.account.site there s.step.separation s.step.piece s.step.shown s.next) _
       (ap (λ es. past_piece there s.step.piece s.step.shown s.next (is_renewed s.account.site.before s.step.separation) s.step.key (line_past_separation (is_in_flow es) (begins_free_line s.account.site.before s.step.separation) s.account.line) es) i ∙ e) s.is_past
 
   -- ---- the piece of a token
