@@ -47,9 +47,6 @@ comment_is style line before text h lacks is cut =
 -- ---- one reason why a line is no header
 
 module _ (style : BlockStyle) (here : Position) (line : List ℕ) (lacks : header_of (indicator_of style ∷ line) ≡ None) where
-  zero_first : has_zero line ≡ true → begins_with 48 (past_indicators line) ≡ true
-  zero_first zero = grind (arith, nat_tests)
-
   abbrev HeaderReason : Problem → Position → Type 0
   HeaderReason why at =
       ((has_zero line ≡ true) × (why ≡ BlockScalarZero) × (at ≡ here)) ⊎
@@ -62,7 +59,9 @@ module _ (style : BlockStyle) (here : Position) (line : List ℕ) (lacks : heade
   header_reason why at (none.by_text no_zero more begins) = inr (inr (no_zero, begins, refl, refl))
 
   one_header : (why1 why2 : Problem) (at1 at2 : Position) → IsNoHeader style here line why1 at1 → IsNoHeader style here line why2 at2 → (why1 ≡ why2) × (at1 ≡ at2)
-  one_header why1 why2 at1 at2 x y = let r = header_reason why1 at1 x in let q = header_reason why2 at2 y in grind (arith, r, q, zero_first, append_cancel_right)
+  one_header why1 why2 at1 at2 x y =
+      let zero_first : has_zero line ≡ true → begins_with 48 (past_indicators line) ≡ true = λ zero. grind (arith, nat_tests) in
+      let r = header_reason why1 at1 x in let q = header_reason why2 at2 y in grind (arith, r, q, zero_first, append_cancel_right)
 
 -- ---- all reasons
 
@@ -136,9 +135,6 @@ version_is text why (directives.no_point major is e) = number_right (leading is_
 version_is text why (directives.no_minor major r is cut e) = number_right (leading is_decimal_digit text) _ major is ∙ rw (cut, e) refl
 version_is text why (directives.long_minor major r is cut e) = number_right (leading is_decimal_digit text) _ major is ∙ rw cut (grind (arith, e))
 
-version_right : (line rest : List ℕ) → IsVersionBefore line rest → version_wrong (said line) ≡ None
-version_right line rest v = number_right (leading is_decimal_digit (said line)) _ v.major v.is_major ∙ rw v.has_point (number_right (leading is_decimal_digit v.point) None v.minor v.is_minor)
-
 -- ---- what is wrong with a declaration first
 
 -- with the characters of a prefix, or else after them
@@ -152,18 +148,14 @@ prefix_wrong r = (if begins_prefix r then characters_wrong (decoded (leading is_
 abbrev declaration_wrong : List ℕ → Option Problem
 declaration_wrong text = (if begins_handle text then prefix_wrong (from_prefix text) else (if begins_with_mark text then Some TagDirectiveHandle else Some TagStart))
 
-no_mark_no_handle : (text : List ℕ) → begins_with_mark text ≡ false → begins_handle text ≡ false
-no_mark_no_handle a e = grind arith
-
 declaration_is : (text : List ℕ) (why : Problem) → IsNoDeclaration text why → declaration_wrong text ≡ Some why
-declaration_is text why (directives.no_mark e) = rw (no_mark_no_handle text e, e) refl
+declaration_is text why (directives.no_mark e) =
+    let no_mark_no_handle : begins_handle text ≡ false = grind (arith, e) in
+    rw (no_mark_no_handle, e) refl
 declaration_is text why (directives.open_name c name rest e lead none) = let lacks = no_handle c name rest lead none in rw e (rw lacks refl)
 declaration_is text why (directives.no_prefix is e) = rw (is, e) refl
 declaration_is text why (directives.by_octets f is begins e) = rw (is, begins, e) refl
 declaration_is text why (directives.goes_on prefix is begins e apart) = rw (is, begins, e, apart) refl
-
-declaration_right : (line rest : List ℕ) → IsDeclarationBefore line rest → declaration_wrong (said line) ≡ None
-declaration_right line rest d = rw (d.has_handle, d.has_prefix, d.is_prefix, d.is_before, d.is_apart) refl
 
 -- ---- what is wrong with a line first
 
@@ -191,7 +183,9 @@ of_declaration : (start : Position) (line : List ℕ) → HasName (codes "TAG") 
 of_declaration start line h = rw (h.is_name, h.is_whole) refl
 
 after_it : (start : Position) (line rest : List ℕ) → IsVersionBefore line rest → line_wrong start line ≡ tail_wrong start line rest
-after_it start line rest v = of_version start line v.is_version ∙ rw (version_right line rest v, v.has_point, v.is_before) refl
+after_it start line rest v =
+    let version_right : version_wrong (said line) ≡ None = number_right (leading is_decimal_digit (said line)) _ v.major v.is_major ∙ rw v.has_point (number_right (leading is_decimal_digit v.point) None v.minor v.is_minor) in
+    of_version start line v.is_version ∙ rw (version_right, v.has_point, v.is_before) refl
 
 refusal_is : (start : Position) (line : List ℕ) (f : Fault) → IsDirectiveRefusal start line f → line_wrong start line ≡ f
 refusal_is start line f (directives.no_name e) = rw e refl
@@ -200,7 +194,9 @@ refusal_is start line f (directives.by_version why h n) = of_version start line 
 refusal_is start line f (directives.by_declaration why h n) = of_declaration start line h ∙ rw (declaration_is (said line) why n) refl
 refusal_is start line f (directives.by_comment before rest cut v) = grind (arith, nat_tests, eqb-true, length-append, after_it)
 refusal_is start line f (directives.after_version rest v more begins) = after_it start line rest v ∙ rw begins refl
-refusal_is start line f (directives.after_declaration rest d more) = of_declaration start line d.is_declaration ∙ rw (declaration_right line rest d) refl
+refusal_is start line f (directives.after_declaration rest d more) =
+    let declaration_right : declaration_wrong (said line) ≡ None = rw (d.has_handle, d.has_prefix, d.is_prefix, d.is_before, d.is_apart) refl in
+    of_declaration start line d.is_declaration ∙ rw declaration_right refl
 
 -- ---- a plain scalar has one fault that comes first
 

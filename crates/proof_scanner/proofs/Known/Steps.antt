@@ -23,10 +23,6 @@ known_at_start text after p whole = record { waiting = λ b begin g e l i. absur
 
 -- ---- lines
 
--- where a line is taken, and no line begins, none like it is free
-none_free : (broken c : Bool) (k : Option Key) (l n u m : Line) → line_past_separation false broken l ≡ Some n → n ≡ taken → LikeLine (line_by c k l) u → line_past_separation false broken u ≡ Some m → m ≡ free → ⊥
-none_free a c k l n u m h t i j f = grind arith
-
 -- whether a key may begin with a piece
 abbrev pub begins_key : Act → Bool
 begins_key gives_node = true
@@ -107,7 +103,10 @@ module _ (text : List ℕ) (s : Site) (l line_here : Line) (allowed : Bool) (k :
     where
       opened : (d : Bool) (y : Option Key) → allowed ≡ d → k ≡ y → (b : Account) (begin : Position) (x : Past b) → Waits (is_in_column here.col at.blocks) here at.blocks (act_of w.shown) x.line x.after begin → p.line ≤ begin.line → p.index ≤ begin.index + 1024 → IsAt (saved d new y) begin
       opened true y i j b begin x (begun act f h bs) near_line near_index = place ∙ h
-      opened false y i j b begin x (begun act f h bs) near_line near_index = absurd (none_free (begins_free_line s.before w.separation) c k l line_here x.from.line x.line sep_is (grind (arith, line_is)) x.is_like x.sep f)
+      opened false y i j b begin x (begun act f h bs) near_line near_index =
+          -- where a line is taken, and no line begins, none like it is free
+          let none_free : (broken c : Bool) (k : Option Key) (l n u m : Line) → line_past_separation false broken l ≡ Some n → n ≡ taken → LikeLine (line_by c k l) u → line_past_separation false broken u ≡ Some m → m ≡ free → ⊥ = λ a c k l n u m h t i j f. grind arith in
+          absurd (none_free (begins_free_line s.before w.separation) c k l line_here x.from.line x.line sep_is (grind (arith, line_is)) x.is_like x.sep f)
       opened d y i j b begin x (kept act f bs) near_line near_index =
           let old : (d : Bool) (y : Option Key) → allowed ≡ d → k ≡ y → IsAt y begin → IsAt (saved d new y) begin = λ a y i j h. grind arith in
           old d y i j (rw (sym j) (n.waiting x.from begin x.begins (waited false (begins_free_line s.before w.separation) x.from.line x.line begin x.sep f).0 near_line near_index))

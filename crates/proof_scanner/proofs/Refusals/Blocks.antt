@@ -111,9 +111,6 @@ piece_tab_fault collection o here text piece next b e is tabbed =
 
 -- ---- what stands after a scalar without content
 
-rest_fails : (t y l d : Bool) → t ≡ true → (t && (not y || l || d)) ≡ false → (y ≡ true) × (l ≡ false) × (d ≡ false)
-rest_fails t y l d e k = grind arith
-
 column_fault : (indent : ℕ) (bs : List ℕ) (here : Position) (text piece next : List ℕ) (b : BlockRead) → IsLeast indent bs → text ≡ piece ++ next → has_no_nul next ≡ true → block_read (collection_of indent) piece next ≡ Some b → is_tabbed piece next ≡ false → is_shallow indent here b piece next ≡ true
     → FirstFault bs here text BlockScalarIndentation (scan.further_position here piece next)
 column_fault indent bs here text piece next b least e clean is untabbed low = by (is_at_end next) refl (elim (cases_Bool (block_may_end bs piece next)) [ inl i ↦ absurd (cc ((block_is_clear indent here b piece next bs least is clean i).deep, low)) | inr i ↦ i ])
@@ -121,6 +118,7 @@ column_fault indent bs here text piece next b least e clean is untabbed low = by
     by : (x : Bool) → is_at_end next ≡ x → (x || read_may_end bs (block_read (innermost bs) piece next) piece next) ≡ false → FirstFault bs here text BlockScalarIndentation (scan.further_position here piece next)
     by true further k = absurd (cc k)
     by false further k =
+        let rest_fails : (t y l d : Bool) → t ≡ true → (t && (not y || l || d)) ≡ false → (y ≡ true) × (l ≡ false) × (d ≡ false) = λ t y l d e k. grind arith in
         let w : Written piece next = written (collection_of indent) piece next b is further in
         let no_tab : not (is_empty (texts w.lines) && begins_with tab next) ≡ true = grind (arith, (ap (λ x. scan.is_single x && begins_with tab next) (sym (lines_written piece next w)) ∙ untabbed)) in
         let q = rest_fails (not (is_empty (texts w.lines) && begins_with tab next)) (are_empty b.column (texts w.lines)) (nat_lt (leading_spaces next) (least_column bs true)) (nat_le b.column (leading_spaces next)) no_tab (lines_asked indent b piece next bs least is w ∙ k) in

@@ -78,11 +78,9 @@ module _ {text : List ℕ} {t : ScannerState} (a : Arrives text t) (some : is_em
 
 -- ---- the text's end
 
-end_told : (text : List ℕ) (t : ScannerState) → (has_required t.held.keys ≡ true → IsRowless text) → Faults (Said text) (fetch_stream_end t)
-unfolding fetch_stream_end
-end_told text t rowless = tried t (rowless_told text (has_required t.held.keys) KeyExpected (next_line t.held.position) _ refl rowless)
-
 -- a token of a text that goes on, or the stream's end
 pub here_told : (text : List ℕ) (t : ScannerState) → Arrives text t → Faults (Said text) (fetch_here t)
-unfolding fetch_here
-here_told text t a = either (peek t.rest == 0) (λ e. end_told text t (end_rowless text t a (no_end t.rest a.is_clean e))) (λ e. content_told a (goes_on_here t.rest e))
+unfolding fetch_here fetch_stream_end
+here_told text t a =
+    let end_told : (text : List ℕ) (t : ScannerState) → (has_required t.held.keys ≡ true → IsRowless text) → Faults (Said text) (fetch_stream_end t) = λ text t rowless. tried t (rowless_told text (has_required t.held.keys) KeyExpected (next_line t.held.position) _ refl rowless) in
+    either (peek t.rest == 0) (λ e. end_told text t (end_rowless text t a (no_end t.rest a.is_clean e))) (λ e. content_told a (goes_on_here t.rest e))

@@ -107,10 +107,6 @@ module _ {text : List ℕ} {t : ScannerState} (a : Arrives text t) (some : is_em
       → (x : IsFollowed (in_flow t.held) t.held.position t.rest why (position_after p passed content)) → HasFirst why (position_after p passed content) x → Said text (At why q)
   followed_at why q p passed content e x first = λ _. rw e (followed_stuck a some lies why (position_after p passed content) x first)
 
-  marked_state : (tok : Tok) (c : ℕ) (more : List ℕ) → t.rest ≡ c ∷ c ∷ c ∷ more → Holds (λ u. (u.rest ≡ more) × (u.held.position ≡ further 3 t.held.position)) (fetch_document_marker tok t)
-  unfolding fetch_document_marker
-  marked_state tok c more e = holds.chained (line_stays t) (λ u s. holds.went (ap (λ r. after (after (after r))) (s.0 ∙ e), ap (λ p. past (past (past p))) s.1 ∙ (grind arith)))
-
   end_checked : (u v : ScannerState) (more : List ℕ) → t.rest ≡ 46 ∷ 46 ∷ 46 ∷ more → is_at_gap more ≡ true → t.held.position.col ≡ 0 → (u.rest ≡ more) × (u.held.position ≡ further 3 t.held.position) → Spaced Yes u v → Faults (Said text) (check_document_end v)
   unfolding check_document_end
   end_checked u v more e gap col m s =
@@ -120,9 +116,10 @@ module _ {text : List ℕ} {t : ScannerState} (a : Arrives text t) (some : is_em
       (none.after_end more (s.blanks ++ s.comment) v.rest col e gap (record { is_text = sym m.0 ∙ (s.is_rest ∙ sym (append_assoc s.blanks s.comment v.rest)); is_filled = s.is_filled; is_on_line = s.no_break }) (not_at_end v.rest i) (solid_past v.rest s.ends i)) (λ c may. tt)))
 
   pub document_end_told : (more : List ℕ) → t.rest ≡ 46 ∷ 46 ∷ 46 ∷ more → is_at_gap more ≡ true → t.held.position.col ≡ 0 → Faults (Said text) (fetch_document_end t)
-  unfolding fetch_document_end
+  unfolding fetch_document_end fetch_document_marker
   document_end_told more e gap col =
-      knowing (marked_state Tok.document_end 46 more e) (marker_told Tok.document_end col) (λ u m.
+      let marked_state : Holds (λ u. (u.rest ≡ more) × (u.held.position ≡ further 3 t.held.position)) (fetch_document_marker Tok.document_end t) = holds.chained (line_stays t) (λ u s. holds.went (ap (λ r. after (after (after r))) (s.0 ∙ e), ap (λ p. past (past (past p))) s.1 ∙ (grind arith))) in
+      knowing marked_state (marker_told Tok.document_end col) (λ u m.
       knowing (spaces_skipped Yes u) (spaces_told text Yes u (λ h. absurd (cc (h, ap (λ r. begins_with 35 r) m.0, no_comment more gap)))) (λ v s. end_checked u v more e gap col m s))
 
   -- ---- what may begin
@@ -133,11 +130,10 @@ module _ {text : List ℕ} {t : ScannerState} (a : Arrives text t) (some : is_em
   abbrev broken : Bool
   broken = begins_free_line a.base.site.before a.separation
 
-  outer_line : is_empty t.held.flow ≡ true → line_past_separation false broken a.base.line ≡ Some a.line_here
-  outer_line out = subst (λ b. line_past_separation (not b) broken a.base.line ≡ Some a.line_here) out a.is_line
-
   line_taken : (c : Bool) (cs : List Bool) → IsAllowed a some c → is_empty t.held.flow ≡ true → t.held.key_allowed ≡ false → is_taken (chosen c cs t.held.keys a.base) a.separation ≡ true
-  line_taken c cs h e f = grind (arith, nat_tests, eqb-true, arrivals.not_free, arrivals.unbroken, some, is_taken_line, line_past_separation, line_by, outer_line, waits, outside_key, not, free, taken, is_free)
+  line_taken c cs h e f =
+      let outer_line : is_empty t.held.flow ≡ true → line_past_separation false broken a.base.line ≡ Some a.line_here = λ out. subst (λ b. line_past_separation (not b) broken a.base.line ≡ Some a.line_here) out a.is_line in
+      grind (arith, nat_tests, eqb-true, arrivals.not_free, arrivals.unbroken, some, is_taken_line, line_past_separation, line_by, outer_line, waits, outside_key, not, free, taken, is_free)
 
   line_not_taken : (c : Bool) (cs : List Bool) → IsAllowed a some c → is_empty t.held.flow ≡ true → t.held.key_allowed ≡ true → is_taken (chosen c cs t.held.keys a.base) a.separation ≡ false
   line_not_taken c cs may out allowed = grind arith
@@ -187,14 +183,11 @@ module _ {text : List ℕ} {t : ScannerState} (a : Arrives text t) (some : is_em
       followed_at TabAfterDash _ (further 1 t.held.position) (blanks_and_comment more) rest (line_place h.position more place)
       (none.tab_after_dash more (blanks_and_comment more) rest outside e gap (line_goes_on more) (has_more (leading is_blank more) _ first.0) (grind (arith, nat_tests, eqb-true, gap_here, first.1, second.1))) (λ c may. line_not_taken c [] may (is_outside outside) allowed)) (λ _. goes))
 
-  -- no comment stands after what was passed behind a dash
-  dash_spaced : (u : ScannerState) → Holds (λ v. (begins_with 35 v.rest ≡ false) × (v.held.keys ≡ u.held.keys)) (lexed (space Yes u.rest u.held.position) u.held check_dash)
-  unfolding check_dash
-  dash_spaced u = grind (arith, nat_tests, eqb-true, spaced, check_dash, begins_with, holds.checked, slice_index, is_blank_or_breakz, TabAfterDash, holds.went, no_comment_left)
-
   pub dash_told : (more : List ℕ) → t.rest ≡ 45 ∷ more → is_at_gap more ≡ true → Faults (Said text) (fetch_block_entry t)
-  unfolding fetch_block_entry roll_entry
+  unfolding fetch_block_entry roll_entry check_dash
   dash_told more e gap =
+      -- no comment stands after what was passed behind a dash
+      let dash_spaced : (u : ScannerState) → Holds (λ v. (begins_with 35 v.rest ≡ false) × (v.held.keys ≡ u.held.keys)) (lexed (space Yes u.rest u.held.position) u.held check_dash) = λ u. grind (arith, nat_tests, eqb-true, spaced, check_dash, begins_with, holds.checked, slice_index, is_blank_or_breakz, TabAfterDash, holds.went, no_comment_left) in
       known_turn _ (held_exactly t (entry_outside t.held)) (tried t (entry_checked more e gap)) (λ was.
       let rolled : ScannerState = on_held (roll_indent t.held.position.col None Tok.block_sequence_start t.held.position) (skip_indicator t) in
       let stays = rolled_stays t.held.position.col None Tok.block_sequence_start t.held.position (skip_indicator t).held in
@@ -213,10 +206,6 @@ module _ {text : List ℕ} {t : ScannerState} (a : Arrives text t) (some : is_em
       (λ n _. stuck a some [] KeyNotAllowed t.held.position (λ c may.
       record { fails = may_not_stand (defs.question_not_free more e gap (in_flow_is a some c [] ∙ o) (line_taken c [] may (is_outside o) (not-true t.held.key_allowed n))); is_first = looked_at a some lies c [] })) (λ _. goes))
 
-  key_place : Holds (λ s. Stays s t.held × ((in_flow t.held || t.held.key_allowed) ≡ true)) (begin_key t.held)
-  unfolding begin_key
-  key_place = grind (arith, nat_tests, eqb-true, holds.either, in_flow, holds.went, holds.checked, not, KeyNotAllowed, rolled_stays, not-false)
-
   white_told : (in_flow t.held || t.held.key_allowed) ≡ true → (more : List ℕ) → t.rest ≡ 63 ∷ more → is_at_gap more ≡ true → (u : ScannerState) → u.rest ≡ more → u.held.position ≡ past t.held.position → Faults (Said text) (skip_yaml_whitespace u)
   unfolding skip_yaml_whitespace
   white_told asked more e gap u left place = elim (white_or_missed more u.held gap) [
@@ -227,12 +216,10 @@ module _ {text : List ℕ} {t : ScannerState} (a : Arrives text t) (some : is_em
         (none.no_space more [] more e gap (record { is_text = refl; is_filled = refl; is_on_line = refl }) m.no_space m.ends) (λ c may. (asks asked c may, refl))))
   ]
 
-  tab_first : (r : List ℕ) → (peek r == 9) ≡ true → r ≡ 9 ∷ after r
-  tab_first r h = grind arith
-
   space_checked : (in_flow t.held || t.held.key_allowed) ≡ true → (more : List ℕ) → t.rest ≡ 63 ∷ more → is_at_gap more ≡ true → (u w : ScannerState) → u.rest ≡ more → u.held.position ≡ past t.held.position → skip_yaml_whitespace u ≡ Ok w → Faults (Said text) (check_key_space w)
   unfolding skip_yaml_whitespace check_key_space
   space_checked asked more e gap u w left place k =
+      let tab_first : (r : List ℕ) → (peek r == 9) ≡ true → r ≡ 9 ∷ after r = λ r h. grind arith in
       let exact : (w ≡ past_white_space u) × (is_separation false (white_of false u.rest) (past_white false u.rest) ≡ true) = held_of w (white_exactly u) k in
       let begins : begins_with_space_or_break more ≡ true = held_of w (white_first more u.held gap) (ap (λ r. white false false r u.held) (sym left) ∙ k) in
       let separation : List ℕ = white_of false u.rest in
@@ -245,8 +232,9 @@ module _ {text : List ℕ} {t : ScannerState} (a : Arrives text t) (some : is_em
       (λ c may. (asks asked c may, begins, no_tab_in false u.rest))) (λ _. goes))
 
   pub question_told : (more : List ℕ) → t.rest ≡ 63 ∷ more → is_at_gap more ≡ true → Faults (Said text) (fetch_key t)
-  unfolding fetch_key
+  unfolding fetch_key begin_key
   question_told more e gap =
+      let key_place : Holds (λ s. Stays s t.held × ((in_flow t.held || t.held.key_allowed) ≡ true)) (begin_key t.held) = grind (arith, nat_tests, eqb-true, holds.either, in_flow, holds.went, holds.checked, not, KeyNotAllowed, rolled_stays, not-false) in
       knowing {P = λ v. (v.rest ≡ t.rest) × Stays v.held t.held × ((in_flow t.held || t.held.key_allowed) ≡ true)} (holds.tried t (begin_key t.held) key_place (λ s k. (refl, k.0, k.1))) (tried t (key_begun more e gap)) (λ u first.
       known_turn _ (held_exactly u (key_removed u.held)) (tried u (remove_told text u.held (λ must. absurd (cc (must, ap (λ ks. is_required (top_key ks)) first.1.1, not_required a some first.2))))) (λ _.
       let here : ScannerState = skip_indicator (on_held (λ s. allow_key (not (in_flow s)) s) (record u { held = record u.held { keys = with_top None u.held.keys } })) in
@@ -340,10 +328,6 @@ module _ {text : List ℕ} {t : ScannerState} (a : Arrives text t) (some : is_em
       followed_at CommentNotSeparated (past u.held.position) (further 1 t.held.position) [] (after u.rest) (ap past h.1)
       (none.glued c more e is (ap (λ r. begins_with 35 (after r)) (sym e) ∙ (ap (λ r. begins_with 35 (after r)) (sym h.0) ∙ k))) (λ d may. ap (λ n. opens c && nat_le 255 n) (sym many_here) ∙ room))
 
-  begun_here : (kind : Collection) → Holds (λ s. (s.position ≡ t.held.position) × (nat_le 255 (length t.held.flow) ≡ false)) (begin_flow kind t.held)
-  unfolding begin_flow increase_flow_level
-  begun_here kind = grind (arith, nat_tests, eqb-true, saved_is, rolled_one_is, holds.refused, holds.went)
-
   flow_begun : (kind : Collection) (bracket : ℕ) (more : List ℕ) → t.rest ≡ bracket ∷ more → (bracket ≡ 91) ⊎ (bracket ≡ 123) → Faults (Said text) (begin_flow kind t.held)
   unfolding begin_flow increase_flow_level
   flow_begun kind bracket more e is =
@@ -354,10 +338,11 @@ module _ {text : List ℕ} {t : ScannerState} (a : Arrives text t) (some : is_em
       record { fails = may_not_stand (defs.too_deep bracket more e is (omega (arith, many_here, room))); is_first = looked_at a some lies c [] })) (λ _. goes)))
 
   pub opening_told : (kind : Collection) (bracket : ℕ) (more : List ℕ) → t.rest ≡ bracket ∷ more → (bracket ≡ 91) ⊎ (bracket ≡ 123) → Faults (Said text) (fetch_flow_collection_start kind t)
-  unfolding fetch_flow_collection_start
+  unfolding fetch_flow_collection_start begin_flow increase_flow_level
   opening_told kind bracket more e is =
+      let begun_here : Holds (λ s. (s.position ≡ t.held.position) × (nat_le 255 (length t.held.flow) ≡ false)) (begin_flow kind t.held) = grind (arith, nat_tests, eqb-true, saved_is, rolled_one_is, holds.refused, holds.went) in
       let by : (c : ℕ) → (c ≡ 91) ⊎ (c ≡ 123) → none.is_flow_indicator c ≡ true = λ c a. grind arith in
-      knowing {P = λ u. IsHere u × (nat_le 255 (length t.held.flow) ≡ false)} (holds.tried t (begin_flow kind t.held) (begun_here kind) (λ s k. ((refl, k.0), k.1))) (tried t (flow_begun kind bracket more e is)) (λ u h.
+      knowing {P = λ u. IsHere u × (nat_le 255 (length t.held.flow) ≡ false)} (holds.tried t (begin_flow kind t.held) begun_here (λ s k. ((refl, k.0), k.1))) (tried t (flow_begun kind bracket more e is)) (λ u h.
       in_turn (indicator_passed bracket more e (by bracket is) (ap (λ b. opens bracket && b) h.1 ∙ and_false (opens bracket)) u h.0) (λ v j. goes))
 
   pub closing_told : (kind : Collection) (c : ℕ) (more : List ℕ) → t.rest ≡ c ∷ more → (c ≡ 93) ⊎ (c ≡ 125) → Faults (Said text) (fetch_flow_collection_end kind t)

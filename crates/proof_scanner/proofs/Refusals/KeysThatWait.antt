@@ -14,10 +14,6 @@ pub first_stays : (col : ℕ) (bs : List ℕ) → IsNotRight (innermost (not_end
 first_stays col [] = tt
 first_stays col (n ∷ ns) = grind (arith, first_stays col ns)
 
--- where none is right of a column, none ends there or right of it
-all_stay : (q c : ℕ) (bs : List ℕ) → IsNotRight (innermost bs) q → q ≤ c → not_ended c bs ≡ bs
-all_stay q c a h l = grind (arith, nat_tests)
-
 -- ---- the line of a key
 
 -- a site on the line of a key that waits, and right of it, after a piece there that is no directive
@@ -78,14 +74,6 @@ pub record Apart (q : Position) (x y : Account) : Type 0 where
   pub one : y.line ≡ waits q
   pub on : OnLine q y.site
 
--- a node that must be a key is one
-must_wait : (must : Bool) (here : Position) (bs : List ℕ) (k : Act) (c : Bool) (n o : Line) (v : Outside) → LikeLine n o → n ≡ free → k ≡ gives_node → must ≡ true → line_past must here bs k c o ≡ Some v → v.line ≡ waits here
-must_wait must here bs k a n o v i f g m e = grind arith
-
--- after a node a key still waits
-waits_on : (must : Bool) (here : Position) (bs : List ℕ) (k : Act) (c : Bool) (o : Line) (v : Outside) (q : Position) → o ≡ waits q → k ≡ gives_node → line_past must here bs k c o ≡ Some v → v.line ≡ waits q
-waits_on must here bs k c o v q w g e = grind arith
-
 known_after : (s : Site) (l m : Line) (ds es : List Entry) (w : Step) (c : Bool) (next : List ℕ) (a b : Account) → LikeLine l m → LikeEntries ds es → Waiting l s
     → ((q : Position) → l ≡ waits q → IsNotRight (innermost s.blocks) q.col × (is_in_column q.col s.blocks ≡ true → m ≡ waits q))
     → account_past (with_entries s l ds) w next ≡ Some a → account_past (with_entries s m es) (With w c) next ≡ Some b
@@ -102,9 +90,15 @@ known_after s l m ds es w c next a b i j on known e1 e2 q wt = by (made s l ds w
         → line_past (is_in_column at.position.col at.blocks) at.position at.blocks (act_of w.shown) c o ≡ Some v → Waits (is_in_column at.position.col at.blocks) at.position at.blocks (act_of w.shown) n u q
         → IsNotRight (innermost u.blocks) q.col × (is_in_column q.col u.blocks ≡ true → v.line ≡ waits q)
     both n o u v sep1 sep2 past (begun act fr h bs) =
+        -- a node that must be a key is one
+        let must_wait : (must : Bool) (here : Position) (bs : List ℕ) (k : Act) (c : Bool) (n o : Line) (v : Outside) → LikeLine n o → n ≡ free → k ≡ gives_node → must ≡ true → line_past must here bs k c o ≡ Some v → v.line ≡ waits here = λ must here bs k a n o v i f g m e. grind arith in
         let going : at.blocks ≡ not_ended at.position.col s.blocks = ap (λ k. blocks_at false k at.position.col s.blocks) act in
         rw (bs, ← h) (rw going (first_stays at.position.col s.blocks), λ col. must_wait _ at.position at.blocks _ c n o v (like_past false broken l m n o i sep1 sep2) fr act col past)
     both n o u v sep1 sep2 past (kept act is bs) =
+        -- after a node a key still waits
+        let waits_on : (must : Bool) (here : Position) (bs : List ℕ) (k : Act) (c : Bool) (o : Line) (v : Outside) (q : Position) → o ≡ waits q → k ≡ gives_node → line_past must here bs k c o ≡ Some v → v.line ≡ waits q = λ must here bs k c o v q w g e. grind arith in
+        -- where none is right of a column, none ends there or right of it
+        let all_stay : (q c : ℕ) (bs : List ℕ) → IsNotRight (innermost bs) q → q ≤ c → not_ended c bs ≡ bs = λ q c a h l. grind (arith, nat_tests) in
         let was : (l ≡ waits q) × (broken ≡ false) = waited false broken l n q sep1 is in
         let right = (here_on q s w.separation (w.piece ++ next) (on q was.0) was.1).1 in
         let going : at.blocks ≡ s.blocks = ap (λ k. blocks_at false k at.position.col s.blocks) act ∙ all_stay q.col at.position.col s.blocks (known q was.0).0 (omega (arith, right)) in
@@ -202,15 +196,13 @@ texts_with_a_row_are_not_stuck text why at r row (key_waits a separation rest wh
 
 -- ---- a row that goes through a place
 
--- steps lead on from an account
-some_past : (o : Option Account) (ws : List Step) (after : List ℕ) (b : Account) → Leads o ws after b → (c : Account) × (o ≡ Some c) × Leads (Some c) ws after b
-some_past o ws after b h = grind (arith, nat_tests, eqb-true)
-
 -- what each step keeps, a beginning does
 along : (P : Account → List ℕ → Type 0) → ((x y : Account) (w : Step) (next : List ℕ) → P x (w.separation ++ (w.piece ++ next)) → IsWritten x w next → account_past x w next ≡ Some y → P y next)
     → (ws : List Step) (after : List ℕ) (a b : Account) → P a (spelled ws after) → Leads (Some a) ws after b → P b after
 along P keeps [] after a b p e = subst (λ x. P x after) e p
 along P keeps (w ∷ ws) after a b p h =
+    -- steps lead on from an account
+    let some_past : (o : Option Account) (ws : List Step) (after : List ℕ) (b : Account) → Leads o ws after b → (c : Account) × (o ≡ Some c) × Leads (Some c) ws after b = λ o ws after b h. grind (arith, nat_tests, eqb-true) in
     let c = some_past (account_past a w (spelled ws after)) ws after b h.1 in
     along P keeps ws after c.0 b (keeps a c.0 w (spelled ws after) p h.0 c.1) c.2
 

@@ -82,10 +82,6 @@ pub record TabStands (bs : List ℕ) (awaits : Bool) (before : Previous) (separa
   pub is_fault : f ≡ At TabInBlockIndentation (position_after p passed rest)
   pub is_indented_by_tab : is_indented_by_spaces before bs awaits (separation ++ passed) ≡ false
 
--- two beginnings of a text that are equally long are the same
-same_length : (a b r s : List ℕ) → a ++ r ≡ b ++ s → length a ≡ length b → a ≡ b
-same_length a b r s e n = sym (take-append_seam a r) ∙ (ap (λ k. take k (a ++ r)) n ∙ (ap (λ x. take (length b) x) e ∙ take-append_seam b s))
-
 blanks_fill : (bs rest : List ℕ) → is_blanks bs ≡ true → is_separation false bs rest ≡ true
 blanks_fill [] rest h = refl
 blanks_fill (c ∷ bs) rest h = grind (arith, fills_blank, same_blank, blanks_fill bs rest)
@@ -114,6 +110,8 @@ skip_refused before bs awaits separation t l known = elim (cases_Bool (begins_se
     told begins x p goes = goes
     told begins x (reads u passed e) (fault d) = absurd (cc e)
     told begins x (refuses g (tab_left first blanks rest cut fills left are token) e) (fault {f = f} d) =
+        -- two beginnings of a text that are equally long are the same
+        let same_length : (a b r s : List ℕ) → a ++ r ≡ b ++ s → length a ≡ length b → a ≡ b = λ a b r s e n. sym (take-append_seam a r) ∙ (ap (λ k. take k (a ++ r)) n ∙ (ap (λ x. take (length b) x) e ∙ take-append_seam b s)) in
         let q : Position = position_after t.held.position (first ++ 9 ∷ blanks) rest in
         let same : At TabInBlockIndentation d.place ≡ At TabInBlockIndentation q = sym d.is_fault ∙ fault_of e in
         let place : d.place ≡ q = cc same in

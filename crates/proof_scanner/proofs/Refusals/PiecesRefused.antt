@@ -14,11 +14,10 @@ use Rattle.defs_token.specs.FlowEntry as entry
 
 -- ---- the text at a piece says what piece it is; one that stands for the document begins in column 0
 
-line_begins : (p x : List ℕ) (d : Directive) → directive_of p ≡ Some d → begins_with 37 (p ++ x) ≡ true
-line_begins p x d e = let b = directive_begins p d e in ap (λ z. begins_with 37 (z ++ x)) b.1
-
 pub marker_begins : (a : pieces.Account) (p x : List ℕ) (f : Option Tok) (m : Position) (t : Tok) → IsPiece a p x f m t → is_marker (act_of t) ≡ true → begins_document_at a.position (p ++ x) ≡ true
-marker_begins a p x f m t h k = grind (arith, nat_tests, eqb-true, line_begins, or_true, dash_marks, dot_marks)
+marker_begins a p x f m t h k =
+    let line_begins : (p x : List ℕ) (d : Directive) → directive_of p ≡ Some d → begins_with 37 (p ++ x) ≡ true = λ p x d e. let b = directive_begins p d e in ap (λ z. begins_with 37 (z ++ x)) b.1 in
+    grind (arith, nat_tests, eqb-true, line_begins, or_true, dash_marks, dot_marks)
 
 -- entries that are alike are as many
 pub many_alike : (ds es : List Entry) → LikeEntries ds es → length ds ≡ length es
@@ -226,12 +225,10 @@ module _ {a : Account} {separation rest : List ℕ} {here : Position} (s : StepA
   pub flow_is : pieces.is_in_flow acct ≡ is_in_flow a.entries
   flow_is = (grind arith) ∙ sym (same_flow a.entries s.account.entries s.is_like.2)
 
-  pub adjacent_is : is_adjacent acct.before ≡ is_adjacent (before_past (before_by a.site.before) separation)
-  adjacent_is = ap (λ f. is_adjacent (before_past (before_by s.account.site.before) f)) s.separation_is ∙ ap (λ (x : Site). is_adjacent (before_past (before_by x.before) separation)) (sym s.is_like.0)
-
   colon_here : (more : List ℕ) → rest ≡ 58 ∷ more → is_value_here a separation more ≡ true → Here colon
   unfolding is_blank_or_end is_blank is_break is_nul is_flow
   colon_here more e is =
+      let adjacent_is : is_adjacent acct.before ≡ is_adjacent (before_past (before_by a.site.before) separation) = ap (λ f. is_adjacent (before_past (before_by s.account.site.before) f)) s.separation_is ∙ ap (λ (x : Site). is_adjacent (before_past (before_by x.before) separation)) (sym s.is_like.0) in
       let colon_kind : (fl adjacent : Bool) (column : ℕ) → is_value_indicator fl adjacent more ≡ true → kind_at fl adjacent column (58 ∷ more) ≡ colon = λ fl adjacent column h. rw h refl in
       subst Here (colon_kind (pieces.is_in_flow acct) (is_adjacent acct.before) acct.position.col
       (ap (λ b. is_value_indicator b (is_adjacent acct.before) more) flow_is ∙ (ap (λ b. is_value_indicator (is_in_flow a.entries) b more) adjacent_is ∙ is)))
@@ -286,11 +283,10 @@ module _ {a : Account} {separation rest : List ℕ} {here : Position} (s : StepA
 
   -- ---- where a piece stands
 
-  least_at_most : (t : Tok) (x : Site) → least_column x.blocks x.awaits ≤ least_for t x
-  least_at_most t x = grind arith
-
   too_shallow : (t : Tok) (x : Site) → is_marker (act_of t) ≡ false → nat_le (least_column x.blocks x.awaits) x.position.col ≡ false → (is_marker (act_of t) || nat_le (least_for t x) x.position.col) ≡ false
-  too_shallow t x e f = ap (λ b. b || nat_le (least_for t x) x.position.col) e ∙ (let up = least_at_most t x in grind (arith, nat_tests, up, f))
+  too_shallow t x e f =
+      let least_at_most : least_column x.blocks x.awaits ≤ least_for t x = grind arith in
+      ap (λ b. b || nat_le (least_for t x) x.position.col) e ∙ (let up = least_at_most in grind (arith, nat_tests, up, f))
 
   no_room : 255 ≤ length a.entries → nat_lt (length acct.levels) 255 ≡ true → ⊥
   no_room many room = grind (arith, nat_tests, many, room, (length-map s.account.entries level_of ∙ sym (many_alike a.entries s.account.entries s.is_like.2)))

@@ -18,10 +18,6 @@ use Rattle.proof_scanner.specs.NoPiece as none
 
 -- ---- the gap after it
 
--- No TAB indents what comes after the gap, if a piece does: the next step of the row asks for that.
-pub next_clear : (indent : ℕ) (bs gap : List ℕ) (aw : Bool) → is_gap gap ≡ true → least_column bs true ≡ indent → is_indented_by_spaces steps.plain_scalar bs aw gap ≡ true → has_break gap ≡ true → has_tab_within indent (last_line gap) ≡ false
-next_clear indent bs gap aw white least h broken = grind (arith, no_comment, or-true)
-
 pub stand_over : (s : Stand) (r g : List ℕ) → stand_after s (r ++ g) ≡ stand_after (stand_after s r) g
 stand_over s [] g = refl
 stand_over s (c ∷ r) g = stand_over (past s c) r g
@@ -57,12 +53,11 @@ tab_less k column c l h = by (column - k) refl h
     by zero e f = let none : column - suc k ≡ 0 = omega (arith, e) in rw none refl
     by (suc n) e f = let less : column - suc k ≡ n = omega (arith, e) in rw less (neither _ _ f).1
 
-line_less : (k column c : ℕ) (l : List ℕ) → is_blank c ≡ true → line_is k column (c ∷ l) ≡ true → line_is (suc k) column l ≡ true
-line_less k column c l b h = grind (arith, nat_tests, eqb-true, tab_less)
-
 module _ (column : ℕ) (c : ℕ) (r : List ℕ) where
   line_goes : (s : Stand) → lines_from column s (c ∷ r) ≡ true → lines_from column (past s c) r ≡ true
-  line_goes s h = grind (arith, nat_tests, eqb-true, feed_first, all_lines, line_is, first_line, others_are, and_parts, joined, line_less, first_is)
+  line_goes s h =
+      let line_less : (k column c : ℕ) (l : List ℕ) → is_blank c ≡ true → line_is k column (c ∷ l) ≡ true → line_is (suc k) column l ≡ true = λ k column c l b h. grind (arith, nat_tests, eqb-true, tab_less) in
+      grind (arith, nat_tests, eqb-true, feed_first, all_lines, line_is, first_line, others_are, and_parts, joined, line_less, first_is)
 
 lines_go : (column : ℕ) (s : Stand) (before t : List ℕ) → lines_from column s (before ++ t) ≡ true → lines_from column (stand_after s before) t ≡ true
 lines_go column s [] t h = h
@@ -151,10 +146,6 @@ pub gap_tab : (n k : ℕ) (q blanks : List ℕ) → is_gap q ≡ true → is_bla
 gap_tab n k q blanks g b low e =
     let br : has_break q ≡ true = breaks_in inside q refl (ap is_on_line e) in
     (rw (break_append q (9 ∷ blanks), br) refl, tab_in_last n k inside q blanks g b (grind (arith, nat_tests, low)) br e)
-
--- what begins with a token is some text and no separation
-pub token_begins : (r : List ℕ) → begins_token r ≡ true → (begins_separation r ≡ false) × (is_empty r ≡ false)
-token_begins a h = grind arith
 
 -- ---- dashes
 
@@ -245,10 +236,14 @@ module _ {a : Account} {separation rest : List ℕ} {here : Position} (s : StepA
       -- or in the gap after it
       in_gap : (q : List ℕ) → s.next ≡ q ++ 9 ∷ (blanks ++ more) → stand_after inside q ≡ on_line column → goes_on fl coll inside q (9 ∷ (blanks ++ more)) ≡ true → stops fl coll inside s.next ≡ true → ⊥
       in_gap q e stand goes ends =
+          -- what begins with a token is some text and no separation
+          let token_begins : (begins_separation more ≡ false) × (is_empty more ≡ false) = grind (arith, token) in
+          -- No TAB indents what comes after the gap, if a piece does: the next step of the row asks for that.
+          let next_clear : (indent : ℕ) (bs gap : List ℕ) (aw : Bool) → is_gap gap ≡ true → least_column bs true ≡ indent → is_indented_by_spaces steps.plain_scalar bs aw gap ≡ true → has_break gap ≡ true → has_tab_within indent (last_line gap) ≡ false = λ indent bs gap aw white least h broken. grind (arith, no_comment, or-true) in
           let gap : is_gap q ≡ true = white_between fl coll inside q (9 ∷ (blanks ++ more)) goes (ap (stops fl coll inside) (sym e) ∙ ends) in
           let whole : is_gap (q ++ 9 ∷ blanks) ≡ true = gap_more q blanks gap are in
           let tab = gap_tab least column q blanks gap are low stand in
-          let solid = token_begins more token in
+          let solid = token_begins in
           let spaced : is_indented_by_spaces steps.plain_scalar s.past.site.blocks s.past.site.awaits (q ++ 9 ∷ blanks) ≡ true =
           subst (λ y. is_indented_by_spaces y s.past.site.blocks s.past.site.awaits (q ++ 9 ∷ blanks) ≡ true) before_is (is_clear before_is (q ++ 9 ∷ blanks) more (e ∙ sym (append_assoc q (9 ∷ blanks) more)) whole solid.0 solid.1) in
           cc (tab.1, next_clear least s.past.site.blocks (q ++ 9 ∷ blanks) s.past.site.awaits whole (ap (λ (x : Site). least_column x.blocks true) past_is ∙ ap (λ (x : Site). least_column x.blocks true) site_is) spaced tab.0)

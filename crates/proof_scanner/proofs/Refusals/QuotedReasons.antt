@@ -141,11 +141,10 @@ fits_at least past_escaped k es = lines_from k least true (lines_of es)
 deep_is : (k least : ℕ) → fits_from k least true [] ≡ not (nat_lt k least)
 deep_is k least = grind arith
 
-blank_is : (k least c : ℕ) (holds : Bool) (bs : List ℕ) → fits_from k least holds (c ∷ bs) ≡ (not ((c == 9) && nat_lt k least) && fits_from (suc k) least holds bs)
-blank_is k least c holds bs = grind arith
-
 blanks_are : (k least c : ℕ) (e : Bool) (ls : Lines) → lines_from k least e (begun_with (blank c) ls) ≡ (not ((c == 9) && nat_lt k least) && lines_from (suc k) least false ls)
-blanks_are k least c e a = grind (arith, and_false, blank_is, lines_fit, has_more)
+blanks_are k least c e a =
+    let blank_is : (k least c : ℕ) (holds : Bool) (bs : List ℕ) → fits_from k least holds (c ∷ bs) ≡ (not ((c == 9) && nat_lt k least) && fits_from (suc k) least holds bs) = λ k least c holds bs. grind arith in
+    grind (arith, and_false, blank_is, lines_fit, has_more)
 
 fits_past : (least : ℕ) (s : LineStand) (k : ℕ) (e : Element) (fs : List Element) → fits_at least s k (e ∷ fs) ≡ (stands least s k e && fits_at least (past_element s e) (column_past k e) fs)
 fits_past least a k b fs = grind (arith, lines_here, and_false, blanks_are, lines_fit, empty_here, deep_is)
@@ -193,10 +192,6 @@ record Begins (single : Bool) (c : ℕ) (b : List ℕ) (es : List Element) : Typ
 own : (single : Bool) (c : ℕ) (b : List ℕ) (s : Spelled) → element_of single c b ≡ Some s → Local (element_of single c) b s
 own single c b s is = subst (λ o. LocalOf (element_of single c) b o) is (local single c b)
 
--- its characters are there
-enough : (single : Bool) (c : ℕ) (b : List ℕ) (s : Spelled) → element_of single c b ≡ Some s → s.further ≤ length b
-enough single c b s is = let f = (own single c b s is).fits in omega (arith, f, length-take s.further b)
-
 -- ---- escapes that are none
 
 -- what is wrong with one
@@ -237,11 +232,6 @@ none_here single r why e b = grind (arith, bad_none)
 
 not_solid : (c : ℕ) (b : List ℕ) → is_white c ≡ true → begins_solid (c ∷ b) ≡ true → ⊥
 not_solid c b h e = grind (arith, same_break, same_blank)
-
--- where a scalar ends, no element begins with the quote
-quote_ends : (single : Bool) (next : List ℕ) → ends_before single next ≡ true → element_of single (quote_of single) next ≡ None
-unfolding single_quoted_element double_quoted_element classes.is_nul
-quote_ends a next ends = grind arith
 
 -- the element that begins there, and what follows it
 abbrev further_of : Option Spelled → ℕ
@@ -363,6 +353,8 @@ module _ (single : Bool) (least : ℕ) (start : Position) where
             arrived (subst (λ x. (all_stand least (past_elements s x) p.col last ≡ true → is_marked p r ≡ false → k ≡ false → G (past_elements s x) p r) → all_stand least s p.col (x ++ last) ≡ true → G s p r) none (λ f x. f x g (sym own ∙ g)) end fit)
       ]
   walk_of G last k r no_feed marker zero (c ∷ b) es s p l h fit m end =
+      -- its characters are there
+      let enough : (single : Bool) (c : ℕ) (b : List ℕ) (s : Spelled) → element_of single c b ≡ Some s → s.further ≤ length b = λ single c b s is. let f = (own single c b s is).fits in omega (arith, f, length-take s.further b) in
       let f : Begins single c b es = grind arith in
       let e : Spelled = f.first in
       let fits : e.further ≤ length b = enough single c b e f.is in
@@ -446,7 +438,11 @@ module _ (single : Bool) (least : ℕ) (start : Position) where
       same_fault why1 why2 at1 at2 (sym (judged _ (λ o. o ≡ Some (why1, at1)) (wrong_judged why1 at1) s p text x) ∙ judged _ (λ o. o ≡ Some (why2, at2)) (wrong_judged why2 at2) s p text y)
 
   closed_judged : (s : LineStand) (p : Position) (next : List ℕ) → ends_before single next ≡ true → all_stand least s p.col (before_quote s) ≡ true → is_marked p (quote_of single ∷ next) ≡ false → judge 0 s p (quote_of single ∷ next) ≡ None
-  closed_judged s p next ends fit none = grind (arith, nat_tests, quote_ends)
+  unfolding single_quoted_element double_quoted_element classes.is_nul
+  closed_judged s p next ends fit none =
+      -- where a scalar ends, no element begins with the quote
+      let quote_ends : (single : Bool) (next : List ℕ) → ends_before single next ≡ true → element_of single (quote_of single) next ≡ None = λ a next ends. grind arith in
+      grind (arith, nat_tests, quote_ends)
 
   -- Nothing but a marker is wrong where a body stands whose lines are indented, and its closing quote.
   pub not_closed : (s : LineStand) (p : Position) (body next : List ℕ) (es : List Element) → ends_before single next ≡ true → elements (element_of single) 0 body ≡ Some es → all_stand least s p.col (es ++ before_quote (past_elements s es)) ≡ true

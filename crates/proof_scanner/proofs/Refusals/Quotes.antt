@@ -24,11 +24,6 @@ pub is_quoted : (single : Bool) (body next value : List ℕ) → value_of single
 is_quoted true body next value is ends = (value, (body, refl, is, not-true (begins_with 39 next) ends))
 is_quoted false body next value is ends = (value, (body, refl, is))
 
--- what stands after blanks and may not follow, is no separation
-solid_left : (flow same : Bool) (r : List ℕ) → ends_spaces Yes r ≡ true → may_follow_quoted flow same (peek r) ≡ false → begins_separation r ≡ false
-unfolding may_follow_quoted
-solid_left flow same r h n = solid_past r h (neither (is_breakz (peek r)) _ n).0
-
 -- ---- no scalar
 
 -- what a quoted scalar is for the scan
@@ -83,14 +78,17 @@ module _ {text : List ℕ} {t : ScannerState} (a : Arrives text t) (some : is_em
 
   -- other text on its line
   followed_by : (v : ScannerState) → skip_spaces Yes closed ≡ Ok v → Spaced Yes closed v → may_follow_quoted (in_flow v.held) (t.held.position.line == v.held.position.line) (peek v.rest) ≡ false → Said text (At ContentAfterQuoted v.held.position)
+  unfolding may_follow_quoted
   followed_by v e s n =
+      -- what stands after blanks and may not follow, is no separation
+      let solid_left : begins_separation v.rest ≡ false = solid_past v.rest s.ends (neither (is_breakz (peek v.rest)) _ n).0 in
       let end : Position = position_after t.held.position piece x.rest in
       let passed : List ℕ = s.blanks ++ s.comment in
       let place : v.held.position ≡ position_after end passed v.rest = ap (λ h. h.position) s.is_held ∙ ap (λ p. position_after p passed v.rest) q.end_is in
       λ _. rw place
       (followed_stuck a some lies ContentAfterQuoted (position_after end passed v.rest)
       (none.after_quoted single piece x.rest passed v.rest q.cut is (may_not_end v e n) (record { is_text = s.is_rest ∙ sym (append_assoc s.blanks s.comment v.rest); is_filled = s.is_filled; is_on_line = s.no_break })
-      (solid_left (in_flow v.held) (t.held.position.line == v.held.position.line) v.rest s.ends n)) (λ c may. (fits, held_of v (unglued Yes closed) e)))
+      solid_left) (λ c may. (fits, held_of v (unglued Yes closed) e)))
 
   pub after_told : Faults (Said text) (check_after_quoted t.held.position.line closed)
   unfolding check_after_quoted

@@ -34,12 +34,10 @@ record Overdue (k : Option Key) (p : Position) : Type 0 where
   is_far : is_far key.position p ≡ true
   must : key.required ≡ true
 
-overdue : (p : Position) (k : Option Key) (ks : List (Option Key)) → ks ≡ k ∷ [] → list_any (is_overdue p) ks ≡ true → Overdue k p
-overdue p k ks e h = grind arith
-
 stale_told : (text : List ℕ) → has_no_nul text ≡ true → (u : ScannerState) → Stands text u → Faults (Said text) (stale u.held)
 unfolding stale drop_stale
 stale_told text nul u s =
+    let overdue : (p : Position) (k : Option Key) (ks : List (Option Key)) → ks ≡ k ∷ [] → list_any (is_overdue p) ks ≡ true → Overdue k p = λ p k ks e h. grind arith in
     either (in_flow u.held) (λ _. faults.goes) (λ o. faults.kept (with_keys u.held) (λ e. refl) (λ x. faults.goes)
     (rowless_told text (list_any (is_overdue u.held.position) u.held.keys) KeyWithoutColon u.held.position (map (still u.held.position) u.held.keys) refl (λ h.
     let out : is_empty u.held.flow ≡ true = not-false (is_empty u.held.flow) o in

@@ -22,9 +22,6 @@ no_mark : is_alpha 33 ≡ false
 unfolding is_alpha is_decimal_digit is_letter
 no_mark = refl
 
-closes_not : (start p : Position) (uri r : List ℕ) → begins_with 62 r ≡ false → verbatim_end start uri r p ≡ Err (At VerbatimTagEnd start)
-closes_not start p uri r h = grind arith
-
 -- a word and a second mark begin no verbatim tag
 no_angle : (name rest : List ℕ) → all_of is_alpha name ≡ true → (slice_index (name ++ 33 ∷ rest) 0 == 60) ≡ false
 no_angle [] rest h = refl
@@ -40,7 +37,9 @@ unmarked text h = grind arith
 pub refusal_fails : (flow : Bool) (text : List ℕ) (why : Problem) (p : Position) → IsTagRefusal flow text why → tag flow (33 ∷ text) p ≡ Err (At why p)
 unfolding tag verbatim shorthand named
 refusal_fails flow text why p (verbatim_octets rest f cut e) = rw (cut, (uris_are_read p rest (past (past p)) []).0, e) refl
-refusal_fails flow text why p (unclosed rest uri cut e lacks) = rw (cut, (uris_are_read p rest (past (past p)) []).0, e, closes_not p (further (length (leading is_uri rest)) (past (past p))) uri (after is_uri rest) lacks) refl
+refusal_fails flow text why p (unclosed rest uri cut e lacks) =
+    let closes_not : verbatim_end p uri (after is_uri rest) (further (length (leading is_uri rest)) (past (past p))) ≡ Err (At VerbatimTagEnd p) = grind (arith, lacks) in
+    rw (cut, (uris_are_read p rest (past (past p)) []).0, e, closes_not) refl
 refusal_fails flow text why p (verbatim_goes_on rest uri more cut e ends goes) = rw (cut, (uris_are_read p rest (past (past p)) []).0, e, ends, same_end flow more, goes) refl
 refusal_fails flow text why p (suffix_octets name rest f cut all e) =
     let z = leading_all is_alpha name (33 ∷ rest) all no_mark in
@@ -88,10 +87,6 @@ piece_line collection piece next r clean is = grind (arith, end_no_text, append-
 
 -- ---- a TAB after a header
 
--- a block scalar that was read ends before the text after it
-ended_body : (collection : Option ℕ) (h : Option Header) (b : Body) (next : List ℕ) (r : BlockRead) → read_body h collection b next ≡ Some r → (column : ℕ) × (is_past column next ≡ true)
-ended_body collection h b next r e = grind arith
-
 not_past : (column : ℕ) (r : List ℕ) → is_further_text column (10 ∷ r) ≡ false
 unfolding is_break are_marks
 not_past column r = grind arith
@@ -126,6 +121,8 @@ module _ (collection : Option ℕ) (header more : List ℕ) where
 
       by : (complete : List (List ℕ)) (last : List ℕ) (ended : Bool) → (split own).complete ≡ complete → (split own).last ≡ last → is_at_end (d ∷ next) ≡ ended → read_lines collection ((split own).complete) ((split own).last) (d ∷ next) (is_at_end (d ∷ next)) ≡ Some r → ⊥
       by (l ∷ ls) [] false e f g k =
+          -- a block scalar that was read ends before the text after it
+          let ended_body : (collection : Option ℕ) (h : Option Header) (b : Body) (next : List ℕ) (r : BlockRead) → read_body h collection b next ≡ Some r → (column : ℕ) × (is_past column next ≡ true) = λ collection h b next r e. grind arith in
           let read : read_body (header_of l) collection (body ls further_text) (d ∷ next) ≡ Some r = rw (e, f, g) at k in
           let past = ended_body collection (header_of l) (body ls further_text) (d ∷ next) r read in
           elim (cases_Bool (d == 10)) [
