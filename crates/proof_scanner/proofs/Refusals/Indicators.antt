@@ -23,21 +23,15 @@ use Rattle.proof_scanner.proofs.Sound.Arrivals as arrivals
 use Rattle.proof_scanner.specs.NoPiece as none
 use Rattle.proof_scanner.specs.Failing as defs
 
--- ---- levels of indentation that a bracket begins
-
-unfoldable pub one_indents : Held → List Indent
-one_indents s = (if in_block s then level s.indent false ∷ s.indents else s.indents)
-
-unfoldable pub one_indent : Held → ℕ
-one_indent s = (if in_block s then s.indent + 1 else s.indent)
-
-pub rolled_one_is : (s : Held) → roll_one_col_indent s ≡ record s { indents = one_indents s; indent = one_indent s }
-unfolding roll_one_col_indent one_indents one_indent
-rolled_one_is a = grind (arith, nat_tests, eqb-true)
+-- ---- levels of indentation
 
 -- the position and the open keys stay
 abbrev pub Stays : Held → Held → Type 0
 Stays u s = (u.position ≡ s.position) × (u.keys ≡ s.keys)
+
+rolled_one_stays : (s : Held) → Stays (roll_one_col_indent s) s × ((roll_one_col_indent s).flow ≡ s.flow)
+unfolding roll_one_col_indent
+rolled_one_stays s = grind arith
 
 pub rolled_stays : (col : ℕ) (number : Option ℕ) (tok : Tok) (p : Position) (s : Held) → Stays (roll_indent col number tok p s) s
 unfolding roll_indent drop_open_level deepen
@@ -195,7 +189,7 @@ module _ {text : List ℕ} {t : ScannerState} (a : Arrives text t) (some : is_em
       knowing (dash_spaced rolled) (read rolled.held (space Yes rolled.rest rolled.held.position) check_dash (λ f k. space_told text Yes rolled.rest rolled.held.position (λ h. absurd (cc (h, ap (λ r. begins_with 35 r) left, no_comment more gap))) f k)
       (λ x k. dash_checked more e gap was.0 was.1 rolled.held stays.0 x (ap (λ r. space Yes r rolled.held.position) (sym left) ∙ k)))
       (λ v spaced_on. knowing (spaces_skipped No v) (spaces_told text No v (λ h. absurd (cc (h, spaced_on.0)))) (λ w skipped.
-      let keys : (roll_entry w).held.keys ≡ t.held.keys = (grind (arith, rolled_one_is)) ∙ (ap (λ h. h.keys) skipped.is_held ∙ (spaced_on.1 ∙ stays.1)) in
+      let keys : (roll_entry w).held.keys ≡ t.held.keys = (grind (arith, rolled_one_stays)) ∙ (ap (λ h. h.keys) skipped.is_held ∙ (spaced_on.1 ∙ stays.1)) in
       in_turn (tried (roll_entry w) (remove_told text (roll_entry w).held (λ must. absurd (cc (must, ap (λ ks. is_required (top_key ks)) keys, not_required a some (ap (λ b. in_flow t.held || b) was.1 ∙ or_true (in_flow t.held))))))) (λ x l. goes))))
 
   key_begun : (more : List ℕ) → t.rest ≡ 63 ∷ more → is_at_gap more ≡ true → Faults (Said text) (begin_key t.held)
@@ -331,7 +325,8 @@ module _ {text : List ℕ} {t : ScannerState} (a : Arrives text t) (some : is_em
   flow_begun : (kind : Collection) (bracket : ℕ) (more : List ℕ) → t.rest ≡ bracket ∷ more → (bracket ≡ 91) ⊎ (bracket ≡ 123) → Faults (Said text) (begin_flow kind t.held)
   unfolding begin_flow increase_flow_level
   flow_begun kind bracket more e is =
-      rw (ap roll_one_col_indent (saved_is t.held) ∙ rolled_one_is (record t.held { keys = saved_keys t.held }))
+      let rolled = rolled_one_stays (record t.held { keys = saved_keys t.held }) in
+      rw (ap roll_one_col_indent (saved_is t.held), rolled.1, rolled.0.0)
       (kept deepened_flow (λ e. refl) (λ x. goes) (checked (nat_le 255 (length t.held.flow)) (At FlowTooDeep t.held.position) (λ full _.
       stuck a some [] FlowTooDeep t.held.position (λ c may.
       let room : 255 ≤ length t.held.flow = grind (arith, nat_tests, full) in
@@ -340,7 +335,7 @@ module _ {text : List ℕ} {t : ScannerState} (a : Arrives text t) (some : is_em
   pub opening_told : (kind : Collection) (bracket : ℕ) (more : List ℕ) → t.rest ≡ bracket ∷ more → (bracket ≡ 91) ⊎ (bracket ≡ 123) → Faults (Said text) (fetch_flow_collection_start kind t)
   unfolding fetch_flow_collection_start begin_flow increase_flow_level
   opening_told kind bracket more e is =
-      let begun_here : Holds (λ s. (s.position ≡ t.held.position) × (nat_le 255 (length t.held.flow) ≡ false)) (begin_flow kind t.held) = grind (arith, nat_tests, eqb-true, saved_is, rolled_one_is, holds.refused, holds.went) in
+      let begun_here : Holds (λ s. (s.position ≡ t.held.position) × (nat_le 255 (length t.held.flow) ≡ false)) (begin_flow kind t.held) = grind (arith, nat_tests, eqb-true, saved_is, rolled_one_stays, holds.refused, holds.went) in
       let by : (c : ℕ) → (c ≡ 91) ⊎ (c ≡ 123) → none.is_flow_indicator c ≡ true = λ c a. grind arith in
       knowing {P = λ u. IsHere u × (nat_le 255 (length t.held.flow) ≡ false)} (holds.tried t (begin_flow kind t.held) begun_here (λ s k. ((refl, k.0), k.1))) (tried t (flow_begun kind bracket more e is)) (λ u h.
       in_turn (indicator_passed bracket more e (by bracket is) (ap (λ b. opens bracket && b) h.1 ∙ and_false (opens bracket)) u h.0) (λ v j. goes))
