@@ -2,7 +2,7 @@
 use Rattle.proof_scanner.proofs.Common.{[], after_chars, allow_key, and_parts, ap, append-nil, are_empty, AreLines, arith, Arrives, begins_with, block, block_first, block_may_end, block_read, BlockRead, BlockStyle, body, Bool, Break, collection_of, columns, Err, false, Fault, fetch_block_scalar, folded, further_text, has_no_nul, header_of, Held, if◌then◌else◌, indicator_of, innermost, is_at_end, is_break, is_empty, is_in_line, is_literal, is_literal_style, is_nul, is_shallow, is_tabbed, IsBlockFault, leading_spaces, least_column, List, literal, nat_le, nat_lt, nat_tests, no_block, no_nul_after, None, not, Option, past, Position, position_after, Problem, read_body, read_lines, read_may_end, refl, refused_as, ScannerState, Some, spell, spell_more, split, split_spell, style_inner, subst, sym, tab, texts, true, unroll_non_block_indents, ℕ, ◌&&◌, ◌++◌, ◌||◌, ◌∙◌, ◌∷◌, ◌≡◌, eqb-true, cases_Bool, inl, inr, after_line, first_content, first_empty, first_header, further_position, is_empty_line, is_spaces, length, lines_may_end, ◌+◌, ◌≤◌, BlockScalarHeader, BlockScalarIndentation, BlockScalarTab, BlockScalarZero, CommentNotSeparated}
 use Rattle.model_scanner.specs.declared.kind.BlockStyle.TheVariants.{Literal, Folded}
 use Rattle.proof_lexers.proofs.Blocks.Written.{Line, put}
-use Rattle.proof_scanner.proofs.Refusals.Common.{Faults, IsWhy, LiesDeep, Said, end_no_text, goes, looked_at, none_begins, read, saved_is, saved_keys, some_chars, stuck_by, without_is}
+use Rattle.proof_scanner.proofs.Refusals.Common.{Faults, IsWhy, LiesDeep, Told, end_no_text, goes, looked_at, none_begins, read, saved_is, saved_keys, some_chars, stuck_by, without_is}
 use Rattle.proof_scanner.proofs.Sound.BlockEnds.{IsLeast, Written, written, spaces_col, ends_at_margin}
 use Rattle.proof_scanner.proofs.Refusals.TextsRefused.{header_alone}
 use Rattle.model_scanner.specs.declared.kind.BlockStyle as kind
@@ -151,7 +151,7 @@ module _ {text : List ℕ} {t : ScannerState} (a : Arrives text t) (some : is_em
       (λ c may m. record { fails = no_block m.0 m.1; is_first = (looked_at a some lies c [], m.2) })
 
   -- `|` or `>`
-  header_told : (style : BlockStyle) (line after : List ℕ) → t.rest ≡ indicator_of style ∷ (line ++ after) → is_in_line line ≡ true → headers.ends_line after ≡ true → (g : Fault) → headers.IsHeaderRefusal t.held.position style line after g → Said text g
+  header_told : (style : BlockStyle) (line after : List ℕ) → t.rest ≡ indicator_of style ∷ (line ++ after) → is_in_line line ≡ true → headers.ends_line after ≡ true → (g : Fault) → headers.IsHeaderRefusal t.held.position style line after g → Told text g
   unfolding is_break
   header_told style line after e inline ends g (headers.tabbed h is begins) =
       let f : TabAfter after = grind arith in
@@ -167,11 +167,11 @@ module _ {text : List ℕ} {t : ScannerState} (a : Arrives text t) (some : is_em
   header_told style line after e inline ends g (headers.no_header lacks zero more begins) =
       λ _. none_begins a some lies BlockScalarHeader _ (none.headless style line after BlockScalarHeader t.held.position (ap not out) e inline ends lacks (none.by_text zero more begins)) tt
 
-  block_refused : (style : BlockStyle) (indent : ℕ) (more : List ℕ) → t.rest ≡ indicator_of style ∷ more → IsLeast indent collections → (f : Fault) → block (is_literal_style style) indent t.rest t.held.position ≡ Err f → Said text f
+  block_refused : (style : BlockStyle) (indent : ℕ) (more : List ℕ) → t.rest ≡ indicator_of style ∷ more → IsLeast indent collections → (f : Fault) → block (is_literal_style style) indent t.rest t.held.position ≡ Err f → Told text f
   block_refused style indent more e deep f k =
       by f (refused_as (ap (λ r. block (is_literal_style style) indent r t.held.position) (sym e) ∙ k) (blocks.scans_end style indent more t.held.position (some_chars more ((and_parts (not (is_nul (indicator_of style))) (has_no_nul more) (subst (λ r. has_no_nul r ≡ true) e a.is_clean)).1))))
     where
-      by : (g : Fault) → block_ends.IsBlockRefusal style indent t.held.position more g → Said text g
+      by : (g : Fault) → block_ends.IsBlockRefusal style indent t.held.position more g → Told text g
       by g (block_ends.bad_header line after cut inline ends why) = header_told style line after (e ∙ ap (λ r. indicator_of style ∷ r) cut) inline ends g why
       by g (block_ends.after_piece piece next b it (scan.shallow free low)) =
           λ _. block_stuck BlockScalarIndentation (scan.further_position t.held.position piece next)
@@ -179,7 +179,7 @@ module _ {text : List ℕ} {t : ScannerState} (a : Arrives text t) (some : is_em
       by g (block_ends.after_piece piece next b it (scan.tabbed begins)) =
           λ _. block_stuck BlockScalarTab t.held.position (piece_tab_fault collections (collection_of indent) t.held.position t.rest piece next b (e ∙ it.is_text) it.is_read begins)
 
-  pub block_told : (style : kind.BlockStyle) (more : List ℕ) → t.rest ≡ (if is_literal style then 124 else 62) ∷ more → Faults (Said text) (fetch_block_scalar style t)
+  pub block_told : (style : kind.BlockStyle) (more : List ℕ) → t.rest ≡ (if is_literal style then 124 else 62) ∷ more → Faults (Told text) (fetch_block_scalar style t)
   unfolding fetch_block_scalar
   block_told Literal more e = read _ (block true _ t.rest t.held.position) _ (λ f k. block_refused literal _ more e (least _ (saved_is t.held)) f k) (λ x k. goes)
   block_told Folded more e = read _ (block false _ t.rest t.held.position) _ (λ f k. block_refused folded _ more e (least _ (saved_is t.held)) f k) (λ x k. goes)

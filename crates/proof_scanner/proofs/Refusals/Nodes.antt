@@ -1,6 +1,6 @@
 -- Faults of names, tags, plain and quoted scalars: no such piece begins with the text.
 use Rattle.proof_scanner.proofs.Common.{anchor_name, and_parts, ap, are_single, Arrives, context, false, Fault, fetch_anchor, fetch_flow_scalar, fetch_tag, has_no_nul, in_flow, is_empty, is_nul, List, mark_of, NameKind, names_end, node_start, not, Ok, quoted, Quotes, Read, refused_as, ScannerState, subst, sym, tags_end, true, ℕ, ◌∙◌, ◌∷◌, ◌≡◌, [], append_assoc, Bool, check_after_quoted, columns, Context, has_break, has_open_level, held_of, inr, is_indented_by_spaces, is_separation, may_not_stand, no_nul_after, Position, position_after, position_append, quoted_scalar, site_at_place, skip_to_next_token, ◌++◌, arith, eqb-true, nat_tests, AnchorName, TabInBlockIndentation, Alias, Anchor, allow_key, before_by, before_past, begins_left, collection_of, comes_plain, fetch_plain_scalar, goes_on, goes_over, HasNoPlainFault, HasTab, innermost, is_adjacent, IsPlainFault, IsPlainRefusal, least_column, nat_le, nat_lt, no_plain, Option, plain_first, Problem, scans_end, unroll_non_block_indents, without_open, FlowIndentation, PlainDashInFlow, PlainTab}
-use Rattle.proof_scanner.proofs.Refusals.Common.{Checked, Faults, IsDeep, LiesDeep, QuotedAs, Said, account_by, awaits_by, blocks_by, goes, in_line, in_turn, least_by, least_is, looked_at, mapped, none_begins, quoted_as, quoted_checked, read, same_has_break, saved_is, separation_append, stuck, AreClosed, IsWhy, less_or, saved_keys, solid_text, stuck_by, without_is}
+use Rattle.proof_scanner.proofs.Refusals.Common.{Checked, Faults, IsDeep, LiesDeep, QuotedAs, Told, account_by, awaits_by, blocks_by, goes, in_line, in_turn, least_by, least_is, looked_at, mapped, none_begins, quoted_as, quoted_checked, read, same_has_break, saved_is, separation_append, stuck, AreClosed, IsWhy, less_or, saved_keys, solid_text, stuck_by, without_is}
 use Rattle.proof_scanner.proofs.Refusals.Quotes.{after_told, refused_told, tab_told}
 use Rattle.proof_scanner.proofs.Refusals.AfterQuoted.{unglued}
 use Rattle.proof_scanner.proofs.Refusals.Passing.{TabStands, skip_refused}
@@ -52,7 +52,7 @@ module _ {text : List ℕ} {t : ScannerState} (a : Arrives text t) (some : is_em
   no_tab_fault : (HasTab ctx t.rest → ⊥) → HasNoPlainFault ctx.flow collections t.held.position t.rest PlainTab
   no_tab_fault free place a = grind (arith, nat_tests, eqb-true, over_alike, collection_is, least_by_levels)
 
-  refused : (f : Fault) → IsPlainRefusal ctx t.held.position t.rest f → Said text f
+  refused : (f : Fault) → IsPlainRefusal ctx t.held.position t.rest f → Told text f
   refused f (plains.by_column flow left) =
       let shallow : nat_le (least_column collections true) t.held.position.col ≡ false = grind (arith, nat_tests, least_by_levels, left) in
       λ _. plain_stuck FlowIndentation t.held.position (none.by_column flow shallow) tt
@@ -65,7 +65,7 @@ module _ {text : List ℕ} {t : ScannerState} (a : Arrives text t) (some : is_em
       (none.by_dash before rest flow cut begins (sym (over_alike ctx (innermost collections) before (45 ∷ rest) collection_is) ∙ over) apart)
       (no_column deep, no_tab_fault free)
 
-  pub plain_told : Faults (Said text) (fetch_plain_scalar t)
+  pub plain_told : Faults (Told text) (fetch_plain_scalar t)
   unfolding fetch_plain_scalar unroll_non_block_indents
   plain_told =
       rw (saved_is t.held)
@@ -74,26 +74,26 @@ module _ {text : List ℕ} {t : ScannerState} (a : Arrives text t) (some : is_em
 
 module _ {text : List ℕ} {t : ScannerState} (a : Arrives text t) (some : is_empty t.rest ≡ false) (lies : LiesDeep t) where
   -- `*` or `&`
-  pub name_told : (kind : NameKind) (more : List ℕ) → t.rest ≡ mark_of kind ∷ more → Faults (Said text) (fetch_anchor kind t)
+  pub name_told : (kind : NameKind) (more : List ℕ) → t.rest ≡ mark_of kind ∷ more → Faults (Told text) (fetch_anchor kind t)
   unfolding fetch_anchor
   name_told kind more e = read (node_start t.held) (anchor_name t.rest t.held.position) _ (λ f k. by kind e f (refused_as (ap (λ r. anchor_name r t.held.position) (sym e) ∙ k) (names_end (mark_of kind) more t.held.position))) (λ x k. goes)
     where
-      by : (kind : NameKind) → t.rest ≡ mark_of kind ∷ more → (f : Fault) → names.IsNameRefusal t.held.position more f → Said text f
+      by : (kind : NameKind) → t.rest ≡ mark_of kind ∷ more → (f : Fault) → names.IsNameRefusal t.held.position more f → Told text f
       by Alias e f (names.nameless lacks) = λ _. none_begins a some lies AnchorName _ (none.nameless true more e lacks) tt
       by Anchor e f (names.nameless lacks) = λ _. none_begins a some lies AnchorName _ (none.nameless false more e lacks) tt
 
   -- `!`
-  pub tag_told : (more : List ℕ) → t.rest ≡ 33 ∷ more → Faults (Said text) (fetch_tag t)
+  pub tag_told : (more : List ℕ) → t.rest ≡ 33 ∷ more → Faults (Told text) (fetch_tag t)
   unfolding fetch_tag
   tag_told more e =
       read (node_start t.held) (tags.tag (in_flow t.held) t.rest t.held.position) _
       (λ f k. by f (refused_as (ap (λ r. tags.tag (in_flow t.held) r t.held.position) (sym e) ∙ k) (tags_end (in_flow t.held) more t.held.position))) (λ x k. goes)
     where
-      by : (f : Fault) → tag_ends.IsTagFault (in_flow t.held) t.held.position more f → Said text f
+      by : (f : Fault) → tag_ends.IsTagFault (in_flow t.held) t.held.position more f → Told text f
       by f (tag_ends.at_start why reason) = λ _. none_begins a some lies why _ (none.tagless more why e reason) tt
 
   -- `'` or `"`
-  pub quoted_told : IsDeep t.held → (quotes : Quotes) (more : List ℕ) → t.rest ≡ none.quote_of (are_single quotes) ∷ more → Faults (Said text) (fetch_flow_scalar quotes t)
+  pub quoted_told : IsDeep t.held → (quotes : Quotes) (more : List ℕ) → t.rest ≡ none.quote_of (are_single quotes) ∷ more → Faults (Told text) (fetch_flow_scalar quotes t)
   unfolding fetch_flow_scalar
   quoted_told deep quotes more e =
       let same : (context (node_start t.held)).indent ≡ t.held.indent = ap (λ h. h.indent) (saved_is t.held) in

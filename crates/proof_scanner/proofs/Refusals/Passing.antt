@@ -1,7 +1,7 @@
 -- Faults on the way to the next token, from a state between two fetches.
 use Rattle.proof_scanner.proofs.Common.{take, [], and_parts, ap, append-nil, append_assoc, arith, begins_white, Bool, chained, chosen, drop_stale, either, eqb-true, Err, fails, false, Fault, fetch, fetch_here, fetch_next, follows_plain, Held, Holds, in_flow, is_empty, is_far, is_indented_by_spaces, is_one_of, is_renewed, is_separation, IsPlace, IsReadOn, IsStuck, Key, key_waits, List, map, may_not_stand, MayChoose, not, Ok, on_held, or_right, outside_key, Position, position_after, position_append, Previous, refl, refused, Result, ScannerState, skip_to_next_token, Some, stale, Stands, still, sym, top_key, tried, true, unroll_indent, went, ℕ, ◌++◌, ◌+◌, ◌<◌, ◌==◌, ◌∙◌, ◌∷◌, ◌≡◌, nat_tests, cases_Bool, inl, inr, TabInBlockIndentation, At, begins_line, begins_separation, between, fills_blank, Gap, has_tab_within, is_before_indent, is_blanks, IsTabRefusal, last_line, least_column, length, not-true, same_blank, same_break, separations_are_passed, skip, suc, ◌&&◌, ◌||◌, ◌≤◌, EndsAs, reads, refuses, tab_left}
 use Rattle.proof_scanner.proofs.Refusals.Common.{Exact, index_after, is_in, last_more, least_is, no_entries, not_before_after, same_flow, separation_append, skip_stays}
-use Rattle.proof_scanner.proofs.Refusals.Places.{Faults, mapped, entries_alike, Said, IsWhy, Where, placed, behind, where_is, fault, goes}
+use Rattle.proof_scanner.proofs.Refusals.Places.{Faults, mapped, entries_alike, Told, IsWhy, Where, placed, behind, where_is, fault, goes}
 use Rattle.yaml_chars.specs.Class.{is_break}
 use Rattle.proof_scanner.proofs.Sound.Skips.{line_more, IsLeast, IsAt, IsIn, IsPassed, skip_tells}
 use Rattle.proof_scanner.specs.Failing as defs
@@ -159,9 +159,9 @@ fetch_near t started = either t.held.started (λ _. next_near t) (λ n. absurd (
 
 module _ (text : List ℕ) (t : ScannerState) (s : Stands text t) (near : HasNear t.held) where
   -- a TAB indents the line of what comes next
-  tab_stuck : {f : Fault} → TabStands s.base.site.blocks s.base.site.awaits s.base.site.before s.separation t.rest t.held.position f → Said text f
+  tab_stuck : {f : Fault} → TabStands s.base.site.blocks s.base.site.awaits s.base.site.before s.separation t.rest t.held.position f → Told text f
   unfolding is_far
-  tab_stuck d = rw d.is_fault (λ _. by (where_is (outside_key s.base.entries t.held.keys) t.held.position t.rest d.is_some))
+  tab_stuck d = rw d.is_fault (λ _. record { is_stuck = by (where_is (outside_key s.base.entries t.held.keys) t.held.position t.rest d.is_some); stands = λ k. absurd (cc k) })
     where
       here : Position
       here = position_after t.held.position d.passed d.rest
@@ -192,11 +192,8 @@ module _ (text : List ℕ) (t : ScannerState) (s : Stands text t) (near : HasNea
         is_here = here_is;
       }
 
-      said : IsStuck text TabInBlockIndentation here → IsWhy text TabInBlockIndentation here
-      said h = record { is_stuck = h; stands = λ k. absurd (cc k) }
-
-      by : Where (outside_key s.base.entries t.held.keys) t.held.position t.rest → IsWhy text TabInBlockIndentation here
-      by (placed c may) = said (fails (chosen c [] t.held.keys s.base) (s.separation ++ d.passed) d.rest TabInBlockIndentation here here (place c may) d.goes_on d.is_solid (record { fails = may_not_stand (defs.tab_indents d.is_indented_by_tab); is_first = no_plain }))
+      by : Where (outside_key s.base.entries t.held.keys) t.held.position t.rest → IsStuck text TabInBlockIndentation here
+      by (placed c may) = fails (chosen c [] t.held.keys s.base) (s.separation ++ d.passed) d.rest TabInBlockIndentation here here (place c may) d.goes_on d.is_solid (record { fails = may_not_stand (defs.tab_indents d.is_indented_by_tab); is_first = no_plain })
       by (behind x e must late) = elim (cases_Bool (is_empty t.held.flow)) [
         | inl out ↦
             let none : s.base.entries ≡ [] = no_entries t.held.key_allowed (is_renewed s.base.site.before s.separation) t.held.flow t.held.keys s.base.entries out s.are_entries in
@@ -204,11 +201,11 @@ module _ (text : List ℕ) (t : ScannerState) (s : Stands text t) (near : HasNea
         | inr i ↦
             let later = (not_before_after t.held.position d.passed d.rest).0 in
             let inside : is_empty s.base.entries ≡ false = sym (same_flow t.held.key_allowed (is_renewed s.base.site.before s.separation) t.held.flow t.held.keys s.base.entries s.are_entries) ∙ i in
-            said (key_waits (chosen false [] t.held.keys s.base) (s.separation ++ d.passed) d.rest TabInBlockIndentation x.position here here
+            key_waits (chosen false [] t.held.keys s.base) (s.separation ++ d.passed) d.rest TabInBlockIndentation x.position here here
             (rw (sym (ap (λ r. s.separation ++ r) d.cut ∙ sym (append_assoc s.separation d.passed d.rest))) (s.carries [] x e must inside d.is_some))
-            (ap not (entries_alike [] t.held.keys s.base.entries ∙ inside)) filled here_is (omega (arith, later, late)) d.goes_on d.is_solid (record { fails = may_not_stand (defs.tab_indents d.is_indented_by_tab); is_first = no_plain }))
+            (ap not (entries_alike [] t.held.keys s.base.entries ∙ inside)) filled here_is (omega (arith, later, late)) d.goes_on d.is_solid (record { fails = may_not_stand (defs.tab_indents d.is_indented_by_tab); is_first = no_plain })
       ]
 
-  pub passing_told : Faults (Said text) (skip_to_next_token t)
+  pub passing_told : Faults (Told text) (skip_to_next_token t)
   passing_told =
       mapped (λ f d. tab_stuck d) (skip_refused s.base.site.before s.base.site.blocks s.base.site.awaits s.separation t (least_is s.base.site.blocks s.base.site.awaits t.held s.blocks_are s.awaits_is s.are_levels) (λ h. is_in text t s h))

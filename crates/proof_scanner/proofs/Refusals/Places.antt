@@ -79,22 +79,18 @@ pub data Asked (text : List ℕ) (why : Problem) : Type 0 where
   kind : is_told why ≡ true → Asked text why
   with_row : (r : Row) → HasRow text r → Asked text why
 
--- what is to be said of a fault
-abbrev pub Told : (text : List ℕ) → Fault → Type 0
-Told text OutOfMemory = ⊥
-Told text (At why at) = Asked text why → IsStuck text why at
-
 -- The text is stuck by it; and if it is one that stands in the text by itself, it stands there.
 pub record IsWhy (text : List ℕ) (why : Problem) (at : Position) : Type 0 where
   pub is_stuck : IsStuck text why at
   pub stands : is_shown (At why at) ≡ true → IsThere text (At why at)
 
-abbrev pub Said : (text : List ℕ) → Fault → Type 0
-Said text OutOfMemory = ⊥
-Said text (At why at) = Asked text why → IsWhy text why at
+-- what is to be said of a fault
+abbrev pub Told : (text : List ℕ) → Fault → Type 0
+Told text OutOfMemory = ⊥
+Told text (At why at) = Asked text why → IsWhy text why at
 
 -- a check whose fault is of a kind that is not told: where it fails the text has no row
-pub rowless_told : (text : List ℕ) {A : Type 0} (b : Bool) (why : Problem) (p : Position) (x : A) → is_told why ≡ false → (b ≡ true → IsRowless text) → Faults (Said text) (if b then Err (At why p) else Ok x)
+pub rowless_told : (text : List ℕ) {A : Type 0} (b : Bool) (why : Problem) (p : Position) (x : A) → is_told why ≡ false → (b ≡ true → IsRowless text) → Faults (Told text) (if b then Err (At why p) else Ok x)
 rowless_told text a why p x e rowless = grind (arith, nat_tests, fault, eqb-true, goes)
 
 -- as many flow levels as entries
@@ -179,13 +175,13 @@ module _ {text : List ℕ} {t : ScannerState} (a : Arrives text t) (some : is_em
 -- ---- faults of what is passed between pieces
 
 -- over blanks and a comment in a line; what is to be said of a comment that no blank parts from what stands before it
-pub space_told : (text : List ℕ) (tabs : SkipTabs) (more : List ℕ) (p : Position) → (begins_with 35 more ≡ true → Said text (At CommentNotSeparated p)) → (f : Fault) → space tabs more p ≡ Err f → Said text f
+pub space_told : (text : List ℕ) (tabs : SkipTabs) (more : List ℕ) (p : Position) → (begins_with 35 more ≡ true → Told text (At CommentNotSeparated p)) → (f : Fault) → space tabs more p ≡ Err f → Told text f
 space_told text tabs more p why f k = by f (refused_as k (spaces_are_passed tabs more p))
   where
-    by : (g : Fault) → IsGlued p more g → Said text g
+    by : (g : Fault) → IsGlued p more g → Told text g
     by g (glued begins) = why begins
 
-pub spaces_told : (text : List ℕ) (tabs : SkipTabs) (t : ScannerState) → (begins_with 35 t.rest ≡ true → Said text (At CommentNotSeparated t.held.position)) → Faults (Said text) (skip_spaces tabs t)
+pub spaces_told : (text : List ℕ) (tabs : SkipTabs) (t : ScannerState) → (begins_with 35 t.rest ≡ true → Told text (At CommentNotSeparated t.held.position)) → Faults (Told text) (skip_spaces tabs t)
 unfolding skip_spaces
 spaces_told text tabs t why = read t.held (space tabs t.rest t.held.position) _ (λ f k. space_told text tabs t.rest t.held.position why f k) (λ x k. goes)
 

@@ -1,7 +1,7 @@
 -- Faults of quoted scalars: a further line is not indented, or what stands after the scalar may not follow it.
 use Rattle.proof_scanner.proofs.Common.{inr, inl, cases_Bool, [], ap, append-nil, append_assoc, are_indented, AreNotIndented, arith, Arrives, At, begins_separation, begins_with, bodies_are_read, Bool, check_after_quoted, closed_first, content, Context, element_of, ends_before, ends_spaces, Err, false, Fault, go_on, has_marker, has_no_nul, held_of, in_flow, is_breakz, is_document_marker, is_empty, IsBadEscape, IsQuoted, IsQuotedFault, lines_first, List, may_follow_quoted, nat_lt, no_quoted, node_start, not-true, off_margin, Ok, on_held, past, past_elements, peek, Position, position_after, Problem, quote_of, quoted, quoted_lines_fit, quoted_may_end, Read, refl, Result, ScannerState, skip_spaces, Some, sym, tab, true, unled, value_of, within, Yes, ℕ, ◌++◌, ◌+◌, ◌-◌, ◌==◌, ◌∙◌, ◌∷◌, ◌≡◌, further_lines_fit, lines_of, eqb-true, nat_tests, and_parts, CommentNotSeparated, ContentAfterQuoted, QuotedDocumentMarker, QuotedEnd, QuotedIndentation, TabAsIndentation, neither, anchor_name, are_single, context, fetch_anchor, fetch_flow_scalar, fetch_tag, is_nul, mark_of, NameKind, names_end, not, Quotes, refused_as, subst, tags_end, columns, has_break, has_open_level, is_indented_by_spaces, is_separation, may_not_stand, no_nul_after, position_append, quoted_scalar, site_at_place, skip_to_next_token, AnchorName, TabInBlockIndentation, Alias, Anchor, allow_key, before_by, before_past, begins_left, collection_of, comes_plain, fetch_plain_scalar, goes_on, goes_over, HasNoPlainFault, HasTab, innermost, is_adjacent, IsPlainFault, IsPlainRefusal, least_column, nat_le, no_plain, Option, plain_first, scans_end, unroll_non_block_indents, without_open, FlowIndentation, PlainDashInFlow, PlainTab}
 use Rattle.proof_lexers.specs.QuotedScan as scans
-use Rattle.proof_scanner.proofs.Refusals.Common.{Faults, IsDeep, IsWhy, LiesDeep, QuotedAs, Said, Spaced, either, fault, followed_stuck, goes, in_turn, looked_at, none_begins, piece_of, saved_is, solid_past, some_chars, spaces_skipped, spaces_told, stuck_by, unglued, Checked, account_by, awaits_by, blocks_by, in_line, least_by, least_is, mapped, quoted_as, quoted_checked, read, same_has_break, separation_append, stuck, AreClosed, less_or, saved_keys, solid_text, without_is}
+use Rattle.proof_scanner.proofs.Refusals.Common.{Faults, IsDeep, IsWhy, LiesDeep, QuotedAs, Told, Spaced, either, fault, followed_stuck, goes, in_turn, looked_at, none_begins, piece_of, saved_is, solid_past, some_chars, spaces_skipped, spaces_told, stuck_by, unglued, Checked, account_by, awaits_by, blocks_by, in_line, least_by, least_is, mapped, quoted_as, quoted_checked, read, same_has_break, separation_append, stuck, AreClosed, less_or, saved_keys, solid_text, without_is}
 use Rattle.proof_scanner.proofs.Sound.QuotedBreaks.{same_limit, has_elements, body_between}
 use Rattle.proof_scanner.proofs.Refusals.AfterQuoted.{check_passes, unglued as not_glued}
 use Rattle.proof_scanner.proofs.Refusals.QuotedReasons.{not_closed, after_quote_at, all_stand, indented_are, is_marked, by_end, by_escape, by_column, by_tab, by_marker, placed, Wrong, Reason, Parted, parted, lines_close}
@@ -60,7 +60,7 @@ module _ {text : List ℕ} {t : ScannerState} (a : Arrives text t) (some : is_em
   fits = ap (λ n. quoted_lines_fit (n - 1) (element_of single) piece) (sym same) ∙ q.fits
 
   -- a comment right after the quote
-  glued : begins_with 35 x.rest ≡ true → Said text (At CommentNotSeparated x.position)
+  glued : begins_with 35 x.rest ≡ true → Told text (At CommentNotSeparated x.position)
   glued h =
       λ _. rw q.end_is
       (followed_stuck a some lies CommentNotSeparated (position_after t.held.position piece x.rest) (none.glued_to_quoted single piece x.rest q.cut is h) (λ c may. fits))
@@ -77,7 +77,7 @@ module _ {text : List ℕ} {t : ScannerState} (a : Arrives text t) (some : is_em
   ]
 
   -- other text on its line
-  followed_by : (v : ScannerState) → skip_spaces Yes closed ≡ Ok v → Spaced Yes closed v → may_follow_quoted (in_flow v.held) (t.held.position.line == v.held.position.line) (peek v.rest) ≡ false → Said text (At ContentAfterQuoted v.held.position)
+  followed_by : (v : ScannerState) → skip_spaces Yes closed ≡ Ok v → Spaced Yes closed v → may_follow_quoted (in_flow v.held) (t.held.position.line == v.held.position.line) (peek v.rest) ≡ false → Told text (At ContentAfterQuoted v.held.position)
   unfolding may_follow_quoted
   followed_by v e s n =
       -- what stands after blanks and may not follow, is no separation
@@ -90,7 +90,7 @@ module _ {text : List ℕ} {t : ScannerState} (a : Arrives text t) (some : is_em
       (none.after_quoted single piece x.rest passed v.rest q.cut is (may_not_end v e n) (record { is_text = s.is_rest ∙ sym (append_assoc s.blanks s.comment v.rest); is_filled = s.is_filled; is_on_line = s.no_break })
       solid_left) (λ c may. (fits, held_of v (unglued Yes closed) e)))
 
-  pub after_told : Faults (Said text) (check_after_quoted t.held.position.line closed)
+  pub after_told : Faults (Told text) (check_after_quoted t.held.position.line closed)
   unfolding check_after_quoted
   after_told =
       in_turn (spaces_told text Yes closed glued) (λ v e.
@@ -111,7 +111,7 @@ module _ {text : List ℕ} {t : ScannerState} (a : Arrives text t) (some : is_em
     no_break : has_break spaces ≡ false
     no_break = sym (same_has_break spaces) ∙ c.spaces.no_break
 
-    tab_stuck : {f : Fault} → TabStands blocks awaits quoted_scalar spaces v.rest v.held.position f → Said text f
+    tab_stuck : {f : Fault} → TabStands blocks awaits quoted_scalar spaces v.rest v.held.position f → Told text f
     tab_stuck d =
         let gap : List ℕ = spaces ++ d.passed in
         let cut : x.rest ≡ gap ++ d.rest = c.spaces.is_rest ∙ (sym (append_assoc c.spaces.blanks c.spaces.comment v.rest) ∙ (ap (λ r. spaces ++ r) d.cut ∙ sym (append_assoc spaces d.passed d.rest))) in
@@ -129,11 +129,11 @@ module _ {text : List ℕ} {t : ScannerState} (a : Arrives text t) (some : is_em
           is_first = (looked_at a some lies k [], rw (least_by a some k []) (fits), rw (sym cut) (not_glued (in_flow closed.held) piece x.rest c.may_end));
         })))
 
-    told : Faults (Said text) (skip_to_next_token v)
+    told : Faults (Told text) (skip_to_next_token v)
     told = mapped (λ f d. tab_stuck d) (skip_refused quoted_scalar blocks awaits spaces v (grind (arith, nat_tests, eqb-true, least_is, saved_is)) (λ _. (inr (record { leading_is = λ i. ap (λ h. h.leading) c.spaces.is_held ∙ sym no_break; col_is = λ b. absurd (cc (b, no_break)); spaced = λ b. absurd (cc (b, no_break)) }))))
 
   -- what stands on the way to the next token after a quoted piece
-  pub tab_told : (v : ScannerState) → check_after_quoted t.held.position.line closed ≡ Ok v → Faults (Said text) (skip_to_next_token v)
+  pub tab_told : (v : ScannerState) → check_after_quoted t.held.position.line closed ≡ Ok v → Faults (Told text) (skip_to_next_token v)
   tab_told v e =
       let clean : has_no_nul x.rest ≡ true = no_nul_after piece x.rest (subst (λ r. has_no_nul r ≡ true) q.cut a.is_clean) in
       told v (held_of v (quoted_checked t.held.position piece closed (in_line single q.body) clean q.end_is) e)
@@ -214,7 +214,7 @@ module _ {text : List ℕ} {t : ScannerState} (a : Arrives text t) (some : is_em
                   (lines.by_tab x.body next x.es (e ∙ ap (λ r. none.quote_of single ∷ r) (x.is_text ∙ ap (λ r. x.body ++ r) cut)) x.are further (ap (λ (q : Position). nat_lt q.col least) (sym same_place) ∙ low))
                   (ap (λ r. has_marker x.body r) (sym cut) ∙ marks false free, indented))
 
-    pub refused_told : has_no_nul more ≡ true → (f : Fault) → quoted single ctx (none.quote_of single ∷ more) here ≡ Err f → Said text f
+    pub refused_told : has_no_nul more ≡ true → (f : Fault) → quoted single ctx (none.quote_of single ∷ more) here ≡ Err f → Told text f
     refused_told clean f fails = elim (quoted_ends single ctx here least limit (omega (arith, deep, same)) more (some_chars more clean)) [
       | reads y w i ↦ absurd (cc (i, fails))
       | refused why at h i ↦ let is : At why at ≡ f = cc (i, fails) in rw (sym is) (λ _. told_by f fails why at is h)
