@@ -45,9 +45,6 @@ pub record IsClear (indent : ℕ) (p : Position) (b : BlockRead) (piece next : L
   pub deep : is_shallow indent p b piece next ≡ false
 
 module _ (indent : ℕ) (p : Position) (b : BlockRead) (piece next bs : List ℕ) (least : IsLeast indent bs) (is : block_read (collection_of indent) piece next ≡ Some b) where
-  abbrev Clear : Type 0
-  Clear = IsClear indent p b piece next
-
   -- before further text
   module _ (further : is_at_end next ≡ false) (may : read_may_end bs (block_read (innermost bs) piece next) piece next ≡ true) where
     w : Written piece next
@@ -62,11 +59,11 @@ module _ (indent : ℕ) (p : Position) (b : BlockRead) (piece next bs : List ℕ
         let spaces = spaces_col (position_after p piece next) next in
         omega (arith, margin, spaces)
 
-    before_text : Clear
+    before_text : IsClear indent p b piece next
     before_text = grind (arith, nat_tests, eqb-true, lines_written, w, both, column_is, none_is_empty, first_header)
 
   -- What stands after a block scalar that may end is not refused.
-  pub block_is_clear : has_no_nul next ≡ true → block_may_end bs piece next ≡ true → Clear
+  pub block_is_clear : has_no_nul next ≡ true → block_may_end bs piece next ≡ true → IsClear indent p b piece next
   block_is_clear clean may = grind (arith, nat_tests, eqb-true, end_no_text, before_text)
 
 -- ---- texts

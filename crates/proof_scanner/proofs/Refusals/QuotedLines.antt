@@ -42,12 +42,9 @@ escaped_goes false ctx start double d (f ∷ a) p u e = elim (cases_Bool ((d == 
 escaped_goes a ctx start double d b p u e = grind (arith, past_line, past_is, and_false)
 
 module _ (single : Bool) (ctx : Context) (start : Position) (least : ℕ) (limit : (k : ℕ) → nat_lt (k + 1) ctx.indent ≡ nat_lt k least) where
-  abbrev pub Why : LineStand → Position → List ℕ → Problem → Position → Type 0
-  Why s p text why at = Reason single least start s p text why at
-
   -- How a scan ends of a text from an element on.
   pub data Ends (s : LineStand) (p : Position) (text : List ℕ) (x : Result (Read (List ℕ)) Fault) : Type 0 where
-    refused : (why : Problem) (at : Position) → Why s p text why at → x ≡ Err (At why at) → Ends s p text x
+    refused : (why : Problem) (at : Position) → Reason single least start s p text why at → x ≡ Err (At why at) → Ends s p text x
     reads : (y : Read (List ℕ)) → Closed single least start s p text y.rest y.position → x ≡ Ok y → Ends s p text x
 
   ends_on : (s : LineStand) (p : Position) (text : List ℕ) (x y : Result (Read (List ℕ)) Fault) → x ≡ y → Ends s p text y → Ends s p text x

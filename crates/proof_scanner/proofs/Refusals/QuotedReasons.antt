@@ -74,12 +74,9 @@ line_marks (c ∷ w) body rest h = grind (arith, line_marks w body rest)
 -- ---- an element
 
 module _ (single : Bool) (c : ℕ) (b : List ℕ) (e : Spelled) (is : element_of single c b ≡ Some e) where
-  abbrev pub own_text : List ℕ
-  own_text = c ∷ take e.further b
-
   -- the position after it
   abbrev pub after_it : Position → Position
-  after_it p = position_after p own_text (drop e.further b)
+  after_it p = position_after p (c ∷ take e.further b) (drop e.further b)
 
   pub kind_of : Kind single c b e
   kind_of = subst (λ o. KindOf single c b o) is (kind single c b)
