@@ -91,14 +91,10 @@ module _ {text : List ℕ} {t : ScannerState} (a : Arrives text t) (some : is_em
 
   -- ---- what follows
 
-  -- what is tried before what follows a piece
-  abbrev HasFirst : (why : Problem) (at : Position) → IsFollowed (in_flow t.held) t.held.position t.rest why at → Type 0
-  HasFirst why at x =
-      (c : Bool) → IsAllowed a some c → followed_first (in_flow t.held) (t.held.indent - 1) (is_taken (account_by a some c []) a.separation) (is_full (account_by a some c [])) t.held.position t.rest why at x
-
   -- a fault at the end of what was passed on the line
   followed_at : (why : Problem) (q : Position) (p : Position) (passed content : List ℕ) → q ≡ position_after p passed content
-      → (x : IsFollowed (in_flow t.held) t.held.position t.rest why (position_after p passed content)) → HasFirst why (position_after p passed content) x → Told text (At why q)
+      → (x : IsFollowed (in_flow t.held) t.held.position t.rest why (position_after p passed content))
+      → ((c : Bool) → IsAllowed a some c → followed_first (in_flow t.held) (t.held.indent - 1) (is_taken (account_by a some c []) a.separation) (is_full (account_by a some c [])) t.held.position t.rest why (position_after p passed content) x) → Told text (At why q)
   followed_at why q p passed content e x first = λ _. rw e (followed_stuck a some lies why (position_after p passed content) x first)
 
   end_checked : (u v : ScannerState) (more : List ℕ) → t.rest ≡ 46 ∷ 46 ∷ 46 ∷ more → is_at_gap more ≡ true → t.held.position.col ≡ 0 → (u.rest ≡ more) × (u.held.position ≡ further 3 t.held.position) → Spaced Yes u v → Faults (Told text) (check_document_end v)

@@ -8,10 +8,6 @@ use Rattle.proof_scanner.proofs.Cut.Pieces.Separations.{gap_is_separation}
 
 -- ---- a plain scalar begins with content
 
--- a character that isn't white
-abbrev IsSolid : ℕ → Type 0
-IsSolid c = not (is_white c) ≡ true
-
 -- ---- in flow a dash before a flow indicator is refused
 
 pub same_flow_start : (r : List ℕ) → model_classes.is_flow (slice_index r 0) ≡ begins_flow r
