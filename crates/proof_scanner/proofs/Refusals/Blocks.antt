@@ -72,12 +72,6 @@ inner_first : (a b : List ℕ) → is_in_line (a ++ b) ≡ true → is_in_line a
 inner_first [] b h = refl
 inner_first (c ∷ a) b h = let parts = and_parts (not (is_break c)) (is_in_line (a ++ b)) h in rw parts.0 (inner_first a b parts.1)
 
--- a break, and a TAB after it
-record TabAfter (after : List ℕ) : Type 0 where
-  by : Break
-  more : List ℕ
-  is : after ≡ put by (tab ∷ more)
-
 -- a fault that comes first
 abbrev FirstFault : (collection : List ℕ) (here : Position) (text : List ℕ) (why : Problem) (at : Position) → Type 0
 FirstFault collection here text why at = (x : IsBlockFault collection here text why at) × block_first collection here text why at x
@@ -151,9 +145,10 @@ module _ {text : List ℕ} {t : ScannerState} (a : Arrives text t) (some : is_em
   header_told : (style : BlockStyle) (line after : List ℕ) → t.rest ≡ indicator_of style ∷ (line ++ after) → is_in_line line ≡ true → headers.ends_line after ≡ true → (g : Fault) → headers.IsHeaderRefusal t.held.position style line after g → Told text g
   unfolding is_break
   header_told style line after e inline ends g (headers.tabbed h is begins) =
-      let f : TabAfter after = grind arith in
+      -- a break, and a TAB after it
+      let f : (by : Break) × (more : List ℕ) × (after ≡ put by (tab ∷ more)) = grind arith in
       λ _. block_stuck BlockScalarTab t.held.position
-      (tab_fault collections t.held.position t.rest (indicator_of style ∷ line) f.more f.by h (e ∙ ap (λ r. indicator_of style ∷ (line ++ r)) f.is) (style_inner style line inline) is)
+      (tab_fault collections t.held.position t.rest (indicator_of style ∷ line) f.1 f.0 h (e ∙ ap (λ r. indicator_of style ∷ (line ++ r)) f.2) (style_inner style line inline) is)
   header_told style line after e inline ends g (headers.zero_digit lacks zero) =
       λ _. none_begins a some lies BlockScalarZero _ (none.headless style line after BlockScalarZero t.held.position (ap not out) e inline ends lacks (none.by_zero zero)) tt
   header_told style line after e inline ends g (headers.comment h before more lacks is cut) =

@@ -27,24 +27,18 @@ stuck_never text at (key_waits a separation rest _ begin spot _ g flowing filled
 
 -- ---- a fetch
 
--- an open key that is far and must be one
-record Overdue (k : Option Key) (p : Position) : Type 0 where
-  key : Key
-  is_open : k ≡ Some key
-  is_far : is_far key.position p ≡ true
-  must : key.required ≡ true
-
 stale_told : (text : List ℕ) → has_no_nul text ≡ true → (u : ScannerState) → Stands text u → Faults (Told text) (stale u.held)
 unfolding stale drop_stale
 stale_told text nul u s =
-    let overdue : (p : Position) (k : Option Key) (ks : List (Option Key)) → ks ≡ k ∷ [] → list_any (is_overdue p) ks ≡ true → Overdue k p = λ p k ks e h. grind arith in
+    -- the open key is far and must be one
+    let overdue : (p : Position) (k : Option Key) (ks : List (Option Key)) → ks ≡ k ∷ [] → list_any (is_overdue p) ks ≡ true → (x : Key) × (k ≡ Some x) × (is_far x.position p ≡ true) × (x.required ≡ true) = λ p k ks e h. grind arith in
     either (in_flow u.held) (λ _. faults.goes) (λ o. faults.kept (with_keys u.held) (λ e. refl) (λ x. faults.goes)
     (rowless_told text (list_any (is_overdue u.held.position) u.held.keys) KeyWithoutColon u.held.position (map (still u.held.position) u.held.keys) refl (λ h.
     let out : is_empty u.held.flow ≡ true = not-false (is_empty u.held.flow) o in
     let only = one_key u.held.keys u.held.flow s.one_each out in
     let far = overdue u.held.position only.0 u.held.keys only.1 h in
     let none_in : s.base.entries ≡ [] = no_entries u.held.key_allowed _ u.held.flow u.held.keys s.base.entries out s.are_entries in
-    stale_rowless text u s nul far.key (ap (λ es. outside_key es u.held.keys) none_in ∙ (ap top_key only.1 ∙ far.is_open)) far.must far.is_far)))
+    stale_rowless text u s nul far.0 (ap (λ es. outside_key es u.held.keys) none_in ∙ (ap top_key only.1 ∙ far.1)) far.3 far.2)))
 
 -- where no key must be one none is refused
 none_overdue : (p : Position) (ks : List (Option Key)) → has_required ks ≡ false → list_any (is_overdue p) ks ≡ false
