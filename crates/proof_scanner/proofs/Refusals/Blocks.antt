@@ -16,12 +16,8 @@ use Rattle.proof_scanner.specs.NoPiece as none
 -- ---- a scalar without content
 
 -- A line in which no content begins is of spaces alone, and ends at the column or left of it.
-record Passed (column : ℕ) (w y : List ℕ) (p : Position) : Type 0 where
-  are_spaces : is_spaces w ≡ true
-  is_short : p.col + length w ≤ column
-
-passed : (column : ℕ) (w y : List ℕ) (p : Position) → is_in_line w ≡ true → p.col ≤ column → first_content column false p (w ++ y) ≡ None → Passed column w y p
-passed column [] y p inner low h = record { are_spaces = refl; is_short = omega (arith, low) }
+passed : (column : ℕ) (w y : List ℕ) (p : Position) → is_in_line w ≡ true → p.col ≤ column → first_content column false p (w ++ y) ≡ None → (is_spaces w ≡ true) × (p.col + length w ≤ column)
+passed column [] y p inner low h = (refl, omega (arith, low))
 passed column (c ∷ w) y p inner low h = grind (arith, passed column w y (past p))
 
 none_is_empty : (column : ℕ) (ls : List Line) (p : Position) → AreLines ls [] → p.col ≡ 0 → first_content column false p (spell ls []) ≡ None → are_empty column (texts ls) ≡ true

@@ -178,14 +178,6 @@ within_alike least k j (content c ∷ es) = within_alike least k j es
 within_alike least k j (blank c ∷ es) = within_alike least (suc k) (suc j) es
 within_alike least k j a = grind arith
 
--- the elements of a body begin with one
-record Begins (single : Bool) (c : ℕ) (b : List ℕ) (es : List Element) : Type 0 where
-  first : Spelled
-  is : element_of single c b ≡ Some first
-  others : List Element
-  are : elements (element_of single) first.further b ≡ Some others
-  all : es ≡ first.element ∷ others
-
 own : (single : Bool) (c : ℕ) (b : List ℕ) (s : Spelled) → element_of single c b ≡ Some s → Local (element_of single c) b s
 own single c b s is = subst (λ o. LocalOf (element_of single c) b o) is (local single c b)
 
@@ -352,23 +344,24 @@ module _ (single : Bool) (least : ℕ) (start : Position) where
   walk_of G last k r no_feed marker zero (c ∷ b) es s p l h fit m end =
       -- its characters are there
       let enough : (single : Bool) (c : ℕ) (b : List ℕ) (s : Spelled) → element_of single c b ≡ Some s → s.further ≤ length b = λ single c b s is. let f = (own single c b s is).fits in omega (arith, f, length-take s.further b) in
-      let f : Begins single c b es = grind arith in
-      let e : Spelled = f.first in
-      let fits : e.further ≤ length b = enough single c b e f.is in
-      let is : element_of single c (b ++ r) ≡ Some e = (own single c b e f.is).onward r no_feed in
+      -- the elements of a body begin with one
+      let f : (x : Spelled) × (element_of single c b ≡ Some x) × (others : List Element) × (elements (element_of single) x.further b ≡ Some others) × (es ≡ x.element ∷ others) = grind arith in
+      let e : Spelled = f.0 in
+      let fits : e.further ≤ length b = enough single c b e f.1 in
+      let is : element_of single c (b ++ r) ≡ Some e = (own single c b e f.1).onward r no_feed in
       let q : Position = after_it single c (b ++ r) e is p in
       let rest : drop e.further (b ++ r) ≡ drop e.further b ++ r = drop-append-le e.further b r fits in
       let whole : take e.further (b ++ r) ++ drop e.further b ≡ b = ap (λ x. x ++ drop e.further b) (take-append-le e.further b r fits) ∙ take-append-drop e.further b in
       let at : position_after p (c ∷ b) r ≡ position_after q (drop e.further b) r = ap (λ x. position_after p (c ∷ x) r) (sym whole) ∙ place c (b ++ r) e is p (drop e.further b) r rest in
-      let parts = and_parts (stands least s p.col e.element) (all_stand least (past_element s e.element) (column_past p.col e.element) (f.others ++ last)) (ap (λ x. all_stand least s p.col (x ++ last)) (sym f.all) ∙ fit) in
+      let parts = and_parts (stands least s p.col e.element) (all_stand least (past_element s e.element) (column_past p.col e.element) (f.2 ++ last)) (ap (λ x. all_stand least s p.col (x ++ last)) (sym f.4) ∙ fit) in
       let End : List Element → Position → Type 0 = λ x z. all_stand least (past_elements s x) z.col last ≡ true → is_marked z r ≡ false → k ≡ false → G (past_elements s x) z r in
-      let later : End (e.element ∷ f.others) (position_after q (drop e.further b) r) = subst (λ z. End (e.element ∷ f.others) z) at (subst (λ x. End x (position_after p (c ∷ b) r)) f.all end) in
+      let later : End (e.element ∷ f.2) (position_after q (drop e.further b) r) = subst (λ z. End (e.element ∷ f.2) z) at (subst (λ x. End x (position_after p (c ∷ b) r)) f.4 end) in
       elim (cases_Bool (is_marked p (c ∷ (b ++ r)))) [
         | inl g ↦ arrived (marker s p (c ∷ (b ++ r)) g (sym m ∙ ap (λ x. x || has_marker (c ∷ b) r) g))
         | inr g ↦
             let marks : marked_from q.col (drop e.further b) r ≡ k = sym (marks_after single c (b ++ r) e is p (drop e.further b) r) ∙ (ap (λ x. has_marker (c ∷ x) r) whole ∙ (sym (ap (λ x. x || has_marker (c ∷ b) r) g) ∙ m)) in
             stepped c (b ++ r) e is parts.0 g (subst (λ x. Walk G (past_element s e.element) q x) (sym rest)
-            (walk_of G last k r no_feed marker e.further b f.others (past_element s e.element) q fits f.are (sym (columns_are c (b ++ r) e is s p (f.others ++ last)) ∙ parts.1) marks later))
+            (walk_of G last k r no_feed marker e.further b f.2 (past_element s e.element) q fits f.3 (sym (columns_are c (b ++ r) e is s p (f.2 ++ last)) ∙ parts.1) marks later))
       ]
 
   -- an element that may not stand
