@@ -1,14 +1,11 @@
 -- Faults of names, tags, plain and quoted scalars: no such piece begins with the text.
-use Rattle.proof_scanner.proofs.Common.{anchor_name, and_parts, ap, are_single, Arrives, context, false, Fault, fetch_anchor, fetch_flow_scalar, fetch_tag, has_no_nul, in_flow, is_empty, is_nul, List, mark_of, NameKind, names_end, node_start, not, Ok, quoted, Quotes, Read, refused_as, ScannerState, subst, sym, tags_end, true, ℕ, ◌∙◌, ◌∷◌, ◌≡◌, [], append_assoc, Bool, check_after_quoted, columns, Context, has_break, has_open_level, held_of, inr, is_indented_by_spaces, is_separation, may_not_stand, no_nul_after, Position, position_after, position_append, quoted_scalar, site_at_place, skip_to_next_token, ◌++◌, arith, eqb-true, nat_tests, AnchorName, TabInBlockIndentation, Alias, Anchor, allow_key, before_by, before_past, begins_left, collection_of, comes_plain, fetch_plain_scalar, goes_on, goes_over, HasNoPlainFault, HasTab, innermost, is_adjacent, IsPlainFault, IsPlainRefusal, least_column, nat_le, nat_lt, no_plain, Option, plain_first, Problem, scans_end, unroll_non_block_indents, without_open, FlowIndentation, PlainDashInFlow, PlainTab}
-use Rattle.proof_scanner.proofs.Refusals.Common.{Checked, Faults, IsDeep, LiesDeep, QuotedAs, Told, account_by, awaits_by, blocks_by, goes, in_line, in_turn, least_by, least_is, looked_at, mapped, none_begins, quoted_as, quoted_checked, read, same_has_break, saved_is, separation_append, stuck, AreClosed, IsWhy, less_or, saved_keys, solid_text, stuck_by, without_is}
+use Rattle.proof_scanner.proofs.Common.{anchor_name, and_parts, ap, are_single, Arrives, context, false, Fault, fetch_anchor, fetch_flow_scalar, fetch_tag, has_no_nul, in_flow, is_empty, is_nul, List, mark_of, NameKind, names_end, node_start, not, Ok, quoted, Quotes, Read, refused_as, ScannerState, subst, sym, tags_end, true, ℕ, ◌∙◌, ◌∷◌, ◌≡◌, [], columns, Context, Position, position_after, ◌++◌, arith, eqb-true, nat_tests, AnchorName, Alias, Anchor, allow_key, before_by, before_past, begins_left, collection_of, comes_plain, fetch_plain_scalar, goes_on, goes_over, HasNoPlainFault, HasTab, innermost, is_adjacent, IsPlainFault, IsPlainRefusal, least_column, nat_le, nat_lt, no_plain, Option, plain_first, Problem, scans_end, unroll_non_block_indents, without_open, FlowIndentation, PlainDashInFlow, PlainTab}
+use Rattle.proof_scanner.proofs.Refusals.Common.{Faults, IsDeep, LiesDeep, QuotedAs, Told, goes, in_turn, looked_at, none_begins, quoted_as, read, saved_is, AreClosed, IsWhy, less_or, saved_keys, solid_text, stuck_by, without_is}
 use Rattle.proof_scanner.proofs.Refusals.Quotes.{after_told, refused_told, tab_told}
-use Rattle.proof_scanner.proofs.Refusals.AfterQuoted.{unglued}
-use Rattle.proof_scanner.proofs.Refusals.Passing.{TabStands, skip_refused}
 use Rattle.model_scanner.specs.Tag as tags
 use Rattle.proof_lexers.specs.NameEnds as names
 use Rattle.proof_lexers.specs.TagEnds as tag_ends
 use Rattle.proof_scanner.specs.NoPiece as none
-use Rattle.proof_scanner.specs.Failing as defs
 use Rattle.defs_token.specs.Plain.{inside}
 use Rattle.model_scanner.specs.Plain.{plain}
 use Rattle.proof_lexers.specs.PlainEnds as plains

@@ -1,7 +1,7 @@
 -- Faults of quoted scalars: a further line is not indented, or what stands after the scalar may not follow it.
-use Rattle.proof_scanner.proofs.Common.{inr, inl, cases_Bool, [], ap, append-nil, append_assoc, are_indented, AreNotIndented, arith, Arrives, At, begins_separation, begins_with, bodies_are_read, Bool, check_after_quoted, closed_first, content, Context, element_of, ends_before, ends_spaces, Err, false, Fault, go_on, has_marker, has_no_nul, held_of, in_flow, is_breakz, is_document_marker, is_empty, IsBadEscape, IsQuoted, IsQuotedFault, lines_first, List, may_follow_quoted, nat_lt, no_quoted, node_start, not-true, off_margin, Ok, on_held, past, past_elements, peek, Position, position_after, Problem, quote_of, quoted, quoted_lines_fit, quoted_may_end, Read, refl, Result, ScannerState, skip_spaces, Some, sym, tab, true, unled, value_of, within, Yes, ℕ, ◌++◌, ◌+◌, ◌-◌, ◌==◌, ◌∙◌, ◌∷◌, ◌≡◌, further_lines_fit, lines_of, eqb-true, nat_tests, and_parts, CommentNotSeparated, ContentAfterQuoted, QuotedDocumentMarker, QuotedEnd, QuotedIndentation, TabAsIndentation, neither, anchor_name, are_single, context, fetch_anchor, fetch_flow_scalar, fetch_tag, is_nul, mark_of, NameKind, names_end, not, Quotes, refused_as, subst, tags_end, columns, has_break, has_open_level, is_indented_by_spaces, is_separation, may_not_stand, no_nul_after, position_append, quoted_scalar, site_at_place, skip_to_next_token, AnchorName, TabInBlockIndentation, Alias, Anchor, allow_key, before_by, before_past, begins_left, collection_of, comes_plain, fetch_plain_scalar, goes_on, goes_over, HasNoPlainFault, HasTab, innermost, is_adjacent, IsPlainFault, IsPlainRefusal, least_column, nat_le, no_plain, Option, plain_first, scans_end, unroll_non_block_indents, without_open, FlowIndentation, PlainDashInFlow, PlainTab}
+use Rattle.proof_scanner.proofs.Common.{inr, inl, cases_Bool, [], ap, append-nil, append_assoc, are_indented, AreNotIndented, arith, Arrives, At, begins_separation, begins_with, bodies_are_read, Bool, check_after_quoted, closed_first, content, Context, element_of, ends_before, Err, false, Fault, go_on, has_marker, has_no_nul, held_of, in_flow, is_breakz, is_document_marker, is_empty, IsBadEscape, IsQuoted, IsQuotedFault, lines_first, List, may_follow_quoted, nat_lt, no_quoted, node_start, not-true, off_margin, Ok, on_held, past, past_elements, peek, Position, position_after, Problem, quote_of, quoted, quoted_lines_fit, quoted_may_end, Read, refl, Result, ScannerState, skip_spaces, Some, sym, tab, true, unled, value_of, within, Yes, ℕ, ◌++◌, ◌+◌, ◌-◌, ◌==◌, ◌∙◌, ◌∷◌, ◌≡◌, further_lines_fit, lines_of, eqb-true, nat_tests, and_parts, CommentNotSeparated, ContentAfterQuoted, QuotedDocumentMarker, QuotedEnd, QuotedIndentation, TabAsIndentation, neither, subst, columns, has_break, has_open_level, is_indented_by_spaces, is_separation, may_not_stand, no_nul_after, position_append, quoted_scalar, site_at_place, skip_to_next_token, TabInBlockIndentation}
 use Rattle.proof_lexers.specs.QuotedScan as scans
-use Rattle.proof_scanner.proofs.Refusals.Common.{Faults, IsDeep, IsWhy, LiesDeep, QuotedAs, Told, Spaced, either, fault, followed_stuck, goes, in_turn, looked_at, none_begins, piece_of, saved_is, solid_past, some_chars, spaces_skipped, spaces_told, stuck_by, unglued, Checked, account_by, awaits_by, blocks_by, in_line, least_by, least_is, mapped, quoted_as, quoted_checked, read, same_has_break, separation_append, stuck, AreClosed, less_or, saved_keys, solid_text, without_is}
+use Rattle.proof_scanner.proofs.Refusals.Common.{Faults, IsDeep, IsWhy, LiesDeep, QuotedAs, Told, Spaced, either, fault, followed_stuck, goes, in_turn, looked_at, none_begins, piece_of, saved_is, solid_past, some_chars, spaces_skipped, spaces_told, stuck_by, unglued, Checked, account_by, awaits_by, blocks_by, in_line, least_by, least_is, mapped, quoted_checked, same_has_break, separation_append, stuck}
 use Rattle.proof_scanner.proofs.Sound.QuotedBreaks.{same_limit, has_elements, body_between}
 use Rattle.proof_scanner.proofs.Refusals.AfterQuoted.{check_passes, unglued as not_glued}
 use Rattle.proof_scanner.proofs.Refusals.QuotedReasons.{not_closed, after_quote_at, all_stand, indented_are, is_marked, by_end, by_escape, by_column, by_tab, by_marker, placed, Wrong, Reason, Parted, parted, lines_close}
@@ -9,13 +9,7 @@ use Rattle.proof_scanner.specs.NoPiece as none
 use Rattle.proof_scanner.specs.QuotedLines as lines
 use Rattle.proof_scanner.proofs.Refusals.QuotedLines.{is_of_lines, refused, reads, quoted_ends}
 use Rattle.proof_scanner.proofs.Refusals.Passing.{TabStands, skip_refused}
-use Rattle.model_scanner.specs.Tag as tags
-use Rattle.proof_lexers.specs.NameEnds as names
-use Rattle.proof_lexers.specs.TagEnds as tag_ends
 use Rattle.proof_scanner.specs.Failing as defs
-use Rattle.defs_token.specs.Plain.{inside}
-use Rattle.model_scanner.specs.Plain.{plain}
-use Rattle.proof_lexers.specs.PlainEnds as plains
 
 -- ---- texts
 

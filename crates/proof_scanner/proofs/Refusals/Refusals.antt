@@ -1,5 +1,5 @@
 -- Where the scanner's model refuses a text with a fault of a kind that is told, the text is stuck.
-use Rattle.proof_scanner.proofs.Common.{OutOfMemory, [], ap, Arrives, At, begins, cleared, drop_stale, false, Fares, Fault, fetch, fetch_here, fetch_next, fetch_stream_end, fetch_stream_start, has_no_nul, has_required, held_of, here, Holds, in_flow, inl, inr, is_empty, is_far, is_overdue, IsRefused, Key, List, list_any, map, next_line, not-false, Ok, on_held, Option, outside_key, over, peek, Position, Reaches, refl, RefusedTextsAreStuck, ScannerState, Some, stale, Stands, start, still, sym, there, top_key, true, unroll_indent, ℕ, ◌+◌, ◌==◌, ◌∙◌, ◌∷◌, ◌≡◌, ◌⊎◌, arith, eqb-true, nat_tests, Account, Bool, Fails, fails, IsStuck, key_waits, AnchorIndentation, KeyExpected, KeyWithoutColon, goes}
+use Rattle.proof_scanner.proofs.Common.{[], ap, Arrives, At, begins, cleared, drop_stale, false, Fares, Fault, fetch, fetch_here, fetch_next, fetch_stream_end, fetch_stream_start, has_no_nul, has_required, held_of, here, Holds, in_flow, inl, inr, is_empty, is_far, is_overdue, IsRefused, Key, List, list_any, map, next_line, not-false, Ok, on_held, Option, outside_key, over, peek, Position, Reaches, refl, RefusedTextsAreStuck, ScannerState, Some, stale, Stands, start, still, sym, there, top_key, true, unroll_indent, ℕ, ◌+◌, ◌==◌, ◌∙◌, ◌∷◌, ◌≡◌, ◌⊎◌, arith, eqb-true, nat_tests, Account, Bool, Fails, fails, IsStuck, key_waits, AnchorIndentation, KeyExpected, KeyWithoutColon, goes}
 use Rattle.model_scanner.specs.Keys.{with_keys}
 use Rattle.proof_scanner.proofs.Refusals.Common.{Faults, Told, content_kept, either, fault_is, fetch_keeps, first_fetch, goes_on_here, kind, no_entries, one_key, passed_stands, reached, rowless_told, tried}
 use Rattle.proof_scanner.specs.Never.{AnchorIndentationNeverComes}
