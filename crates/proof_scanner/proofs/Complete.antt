@@ -44,7 +44,7 @@ texts_with_a_row_are_read text tokens nul (r, h, is) = by (run_ends text nul)
   where
     not_refused : (f : Fault) → Told text f → ⊥
     not_refused OutOfMemory t = t
-    not_refused (At why at) t = texts_with_a_row_are_not_stuck text why at r h (t (with_row r h))
+    not_refused (At why at) t = texts_with_a_row_are_not_stuck text why at r h (t (with_row r h)).is_stuck
 
     by : Outcome (start text) → HasTokens text tokens
     by (ends u run ended) =

@@ -10,7 +10,6 @@ pub mod OtherRows
 pub mod Passing
 pub mod PiecesRefused
 pub mod Places
-pub mod Plains
 pub mod PlainsRefused
 pub mod QuotedLines
 pub mod QuotedReasons

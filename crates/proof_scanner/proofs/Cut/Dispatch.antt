@@ -77,10 +77,6 @@ module _ (Q : Result ScannerState Fault → Type 0) (t : ScannerState) (adjacent
   no_separation : (c : ℕ) → (is_white c || (c == 35)) ≡ true → Reads c
   no_separation c h more e = absurd (cc (h, ap begins_separation (sym e) ∙ solid))
 
-  no_nul : Reads 0
-  unfolding classes.is_nul
-  no_nul more e = let none : has_no_nul (0 ∷ more) ≡ true = ap has_no_nul (sym e) ∙ clean in absurd (cc none)
-
   dash : Reads 45
   unfolding class_of
   dash more e = grind (arith, nat_tests, eqb-true, gap_after, plain_here)
@@ -93,30 +89,20 @@ module _ (Q : Result ScannerState Fault → Type 0) (t : ScannerState) (adjacent
   unfolding class_of
   colon more e = grind (arith, nat_tests, eqb-true, plain_here, value_is)
 
-  -- an indicator outside flow, which in flow begins a plain scalar
-  bar : Reads 124
-  unfolding class_of
-  bar more e = grind (arith, plain_here)
-
-  greater : Reads 62
-  unfolding class_of
-  greater more e = grind (arith, plain_here)
-
-  is_plain : (c : ℕ) → IsNone told c → token_by (class_of c) t ≡ fetch_plain_scalar t
-  unfolding class_of
-  is_plain c o = grind arith
-
   other : (c : ℕ) → IsNone told c → Reads c
-  unfolding classes.is_blank_or_end classes.is_blank classes.is_break classes.is_nul classes.is_flow
-  other c o more e = rw (is_plain c o) (plain_here c more e (grind arith))
+  unfolding classes.is_blank_or_end classes.is_blank classes.is_break classes.is_nul classes.is_flow class_of
+  other c o more e =
+      let is_plain : token_by (class_of c) t ≡ fetch_plain_scalar t = grind (arith, o) in
+      rw is_plain (plain_here c more e (grind arith))
 
   each : (c : ℕ) → Reads c
-  unfolding class_of classes.is_blank classes.is_break
+  unfolding class_of classes.is_blank classes.is_break classes.is_nul
   each c =
+      let no_nul : Reads 0 = λ more e. let none : has_no_nul (0 ∷ more) ≡ true = ap has_no_nul (sym e) ∙ clean in absurd (cc none) in
       each_of Reads c told (also no_nul (also (no_separation 32 refl) (also (no_separation 9 refl) (also (no_separation 10 refl)
       (also (no_separation 13 refl) (also (no_separation 35 refl) (also dash (also question (also colon (also h.comma (also h.open_bracket
-      (also h.close_bracket (also h.open_brace (also h.close_brace (also (h.anchor Alias) (also (h.anchor Anchor) (also h.tag (also bar
-      (also greater (also (h.quoted Single) (also (h.quoted Double) (also h.percent (also h.at_sign (also h.backtick tt)))))))))))))))))))))))) (other c)
+      (also h.close_bracket (also h.open_brace (also h.close_brace (also (h.anchor Alias) (also (h.anchor Anchor) (also h.tag (also (grind (arith, plain_here))
+      (also (grind (arith, plain_here)) (also (h.quoted Single) (also (h.quoted Double) (also h.percent (also h.at_sign (also h.backtick tt)))))))))))))))))))))))) (other c)
 
   pub token_holds : is_empty t.rest ≡ false → Q (fetch_token t)
   unfolding fetch_token

@@ -19,13 +19,12 @@ not_before_after p (c ∷ a) next =
     let q : Position = position_past p c (a ++ next) in
     not_before_then p q (position_after q a next) (weaker p q (grind arith)) (not_before_after q a next)
 
-index_past : (p : Position) (c : ℕ) (next : List ℕ) → (position_past p c next).index ≡ suc p.index
-index_past p c next = grind arith
-
 -- the index counts characters
 pub index_after : (p : Position) (a next : List ℕ) → (position_after p a next).index ≡ p.index + length a
 index_after p [] next = omega arith
-index_after p (c ∷ a) next = omega (arith, index_after (position_past p c (a ++ next)) a next, index_past p c (a ++ next))
+index_after p (c ∷ a) next =
+    let index_past : (position_past p c (a ++ next)).index ≡ suc p.index = grind arith in
+    omega (arith, index_after (position_past p c (a ++ next)) a next, index_past)
 
 -- the position after a piece
 pub after_piece : (p : Position) (piece next : List ℕ) → is_empty piece ≡ false → After p (position_after p piece next)

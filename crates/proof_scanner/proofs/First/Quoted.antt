@@ -6,6 +6,7 @@ use Rattle.proof_scanner.specs.NoPiece as none
 use Rattle.proof_scanner.specs.NoPiece.{quote_of}
 use Rattle.proof_scanner.specs.QuotedLines as lines
 use Rattle.proof_scanner.proofs.Refusals.Common.{ends_before, same_has_break}
+use Rattle.proof_scanner.proofs.Refusals.TextsRefused.{begins_lines}
 use Rattle.proof_scanner.proofs.Refusals.QuotedReasons.{one_reason, walk_of, after_quote_at, all_stand, indented_are, is_marked, by_end, by_escape, by_column, by_tab, by_marker, placed, Place, Wrong, Reason}
 
 -- ---- the quote
@@ -87,23 +88,18 @@ module _ (least : ℕ) (here : Position) (rest : List ℕ) where
   closed : (single : Bool) (piece next : List ℕ) (why : Problem) (at : Position) → rest ≡ piece ++ next → IsQuoted single piece next → closed_first single least piece → After piece next why at → QuotedReason why at
   closed single piece next why at e is fit a = let z = begins_quoted single rest piece next e is in (single, z.0, z.1, inr (piece, next, e, is, fit, a))
 
-  -- a quote begins a text that is refused for a line
-  begins_lines : (single : Bool) (why : Problem) (at : Position) → IsQuotedFault single least here rest why at → (more : List ℕ) × (rest ≡ quote_of single ∷ more)
-  begins_lines a why b d = grind (arith, nat_tests, tab, eqb-true)
-
   pub unquoted : (single : Bool) (more : List ℕ) (why : Problem) → rest ≡ quote_of single ∷ more → HasNoQuoted single rest → (n : IsNotQuoted single more why) → quoted_first single least more why n → QuotedReason why here
   unquoted single more why e lacks n first = (single, more, e, inl (by_text single more why n first, λ piece next f is fit. lacks piece next f is))
 
   pub no_quoted : (single : Bool) (why : Problem) (at : Position) → AreNotIndented single least rest → (n : IsQuotedFault single least here rest why at) → lines_first single least here rest why at n → QuotedReason why at
-  no_quoted single why at h n e = grind (arith, nat_tests, eqb-true, begins_lines, by_lines)
+  no_quoted single why at h n e = grind (arith, nat_tests, eqb-true, begins_lines least here rest, by_lines)
 
   pub glued_to_quoted : (single : Bool) (piece more : List ℕ) → rest ≡ piece ++ more → IsQuoted single piece more → begins_with 35 more ≡ true → closed_first single least piece → QuotedReason CommentNotSeparated (position_after here piece more)
   glued_to_quoted single piece more e is begins fit = closed single piece more _ _ e is fit (inl (begins, refl, refl))
 
   pub after_quoted : (single : Bool) (piece more passed content : List ℕ) → rest ≡ piece ++ more → IsQuoted single piece more → GoesOn more passed content → begins_separation content ≡ false → closed_first single least piece × (begins_with 35 more ≡ false)
       → QuotedReason ContentAfterQuoted (position_after (position_after here piece more) passed content)
-  after_quoted single piece more passed left e is on solid first =
-      closed single piece more _ _ e is first.0 (inr (first.1, passed, left, on.is_text, on.is_filled, solid, rw (sym (same_has_break passed) ∙ on.is_on_line) refl, refl))
+  after_quoted single piece more passed left e is on solid first = grind (arith, nat_tests, eqb-true, closed, same_has_break)
 
   -- a TAB indents a line of its own
   own_line : (blocks : List ℕ) (awaits : Bool) (gap : List ℕ) → is_indented_by_spaces quoted_scalar blocks awaits gap ≡ false → has_break gap ≡ true
@@ -111,8 +107,7 @@ module _ (least : ℕ) (here : Position) (rest : List ℕ) where
 
   pub tab_after_quoted : (single : Bool) (piece gap content : List ℕ) (blocks : List ℕ) (awaits : Bool) → rest ≡ piece ++ (gap ++ content) → IsQuoted single piece (gap ++ content) → is_separation false gap content ≡ true → begins_separation content ≡ false
       → is_indented_by_spaces quoted_scalar blocks awaits gap ≡ false → closed_first single least piece → begins_with 35 (gap ++ content) ≡ false → QuotedReason TabInBlockIndentation (position_after (position_after here piece (gap ++ content)) gap content)
-  tab_after_quoted single piece gap left blocks awaits e is fills solid indents fit free =
-      closed single piece (gap ++ left) _ _ e is fit (inr (free, gap, left, refl, fills, solid, rw (own_line blocks awaits gap indents) refl, refl))
+  tab_after_quoted single piece gap left blocks awaits e is fills solid indents fit free = grind (arith, nat_tests, eqb-true, closed, own_line)
 
   -- What is wrong first with a quoted scalar is one thing at one position.
   pub one_quoted : has_no_nul rest ≡ true → (why1 why2 : Problem) (at1 at2 : Position) → QuotedReason why1 at1 → QuotedReason why2 at2 → (why1 ≡ why2) × (at1 ≡ at2)

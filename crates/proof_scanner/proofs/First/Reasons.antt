@@ -1,5 +1,5 @@
 -- Of two reasons at one place that both come first, kind and position are the same.
-use Rattle.proof_scanner.proofs.Common.{BlockScalarZero, BlockScalarHeader, [], no_nul_after, separations, inl, inr, Account, alias_name, ap, are_marks, arith, At, begins_block, begins_flow, begins_with, block_begins, BlockStyle, Bool, colon, colon_may_precede, comes_first, dash, dashes, directive_line, dots, eqb-true, Fails, FailsFirst, false, first_line, folded, followed_first, has_no_break, has_no_nul, if◌then◌else◌, in_double_quotes, in_single_quotes, indicator_of, innermost, is_at_gap, is_blank, is_blank_or_end, is_break, is_flow, is_flow_indicator, is_full, is_in_flow, is_nul, is_value_here, is_value_indicator, IsBlockFault, IsDirectiveRefusal, IsFollowed, IsLike, IsLookedAt, IsPlainFault, IsTagRefusal, Kind, least_column, least_here, line_is, List, literal, MayNotStand, nat_tests, no_piece_first, NoPiece, opens, plain_first, Position, Problem, question, refl, stands_first, subst, sym, tab, tag_text, true, ℕ, ◌&&◌, ◌++◌, ◌==◌, ◌||◌, ◌∙◌, ◌∷◌, ◌≡◌, ◌⊎◌, begins_entry, begins_separation, begins_with_alpha, begins_with_space_or_break, further, GoesOn, has_tab_before_piece, is_alpha, is_decimal_digit, is_letter, is_separation, may_ask, not, position_after, before_by, before_past, begins_document_at, comes_plain, is_adjacent, is_free_of_tabs, is_taken, kind_by, nat_le, same_flow, site_at_place, append_cancel_left, further_on, goes_on, goes_over, no_flow, Option, Stand, AnchorName, BlockEntryInFlow, BlockEntryNotAllowed, ColonMisplaced, CommentNotSeparated, ContentAfterDocumentEnd, FlowIndentation, FlowTooDeep, InvalidIndentation, KeyNotAllowed, PlainDashInFlow, PlainTab, TabAfterColon, TabAfterDash, TabAfterKey, TabInBlockIndentation, UnexpectedAt, UnexpectedBacktick, UnexpectedPercent, WhitespaceExpected, after, begins_handle, begins_prefix, begins_with_mark, codes, decoded, drop, Err, Fault, first_position, from_prefix, HasName, is_empty, is_same, is_uri, IsDeclarationBefore, IsNoDeclaration, IsNoVersion, IsVersionBefore, leading, length, length-append, None, number_of, Ok, problem_of, Result, said, Some, suc, UriFault, ◌-◌, DirectiveEnd, DirectiveName, DirectiveNameEnd, GlobalTagCharacter, TagDirectiveEnd, TagDirectiveHandle, TagStart, VersionDot, VersionNumber, VersionTooLong, append_cancel_right, block_first, blocks, digit_of, has_header, has_zero, Header, header_first, header_of, is_at_end, is_blanks_and_comment, is_in_line, is_rest_of_line, IsNoHeader, line_more, past_indicators, past_spaces, sign_of, split, style_inner, style_same, up_to_break, HasNoPlainFault}
+use Rattle.proof_scanner.proofs.Common.{BlockScalarZero, BlockScalarHeader, [], no_nul_after, separations, inl, inr, Account, alias_name, ap, are_marks, arith, At, begins_flow, begins_with, block_begins, BlockStyle, Bool, colon, colon_may_precede, comes_first, dash, dashes, directive_line, dots, eqb-true, Fails, FailsFirst, false, first_line, folded, followed_first, has_no_break, has_no_nul, if◌then◌else◌, in_double_quotes, in_single_quotes, indicator_of, innermost, is_at_gap, is_blank, is_blank_or_end, is_break, is_flow, is_flow_indicator, is_full, is_in_flow, is_nul, is_value_here, is_value_indicator, IsBlockFault, IsDirectiveRefusal, IsFollowed, IsLike, IsLookedAt, IsPlainFault, IsTagRefusal, Kind, least_column, least_here, line_is, List, literal, MayNotStand, nat_tests, no_piece_first, NoPiece, opens, plain_first, Position, Problem, question, refl, stands_first, subst, sym, tab, tag_text, true, ℕ, ◌&&◌, ◌++◌, ◌==◌, ◌||◌, ◌∙◌, ◌∷◌, ◌≡◌, ◌⊎◌, begins_entry, begins_separation, begins_with_alpha, begins_with_space_or_break, further, GoesOn, has_tab_before_piece, is_alpha, is_decimal_digit, is_letter, is_separation, may_ask, not, position_after, before_by, before_past, begins_document_at, comes_plain, is_adjacent, is_free_of_tabs, is_taken, kind_by, nat_le, same_flow, site_at_place, append_cancel_left, further_on, goes_on, goes_over, no_flow, Option, Stand, AnchorName, BlockEntryInFlow, BlockEntryNotAllowed, ColonMisplaced, CommentNotSeparated, ContentAfterDocumentEnd, FlowIndentation, FlowTooDeep, InvalidIndentation, KeyNotAllowed, PlainDashInFlow, PlainTab, TabAfterColon, TabAfterDash, TabAfterKey, TabInBlockIndentation, UnexpectedAt, UnexpectedBacktick, UnexpectedPercent, WhitespaceExpected, after, begins_handle, begins_prefix, begins_with_mark, codes, decoded, drop, Err, Fault, first_position, from_prefix, HasName, is_empty, is_same, is_uri, IsNoDeclaration, IsNoVersion, IsVersionBefore, leading, length, length-append, None, number_of, Ok, problem_of, Result, said, Some, suc, UriFault, ◌-◌, DirectiveEnd, DirectiveName, DirectiveNameEnd, GlobalTagCharacter, TagDirectiveEnd, TagDirectiveHandle, TagStart, VersionDot, VersionNumber, VersionTooLong, append_cancel_right, block_first, blocks, digit_of, has_header, has_zero, Header, header_first, header_of, is_at_end, is_blanks_and_comment, is_in_line, is_rest_of_line, IsNoHeader, line_more, past_indicators, past_spaces, sign_of, split, style_inner, style_same, up_to_break, HasNoPlainFault}
 use Rattle.proof_row.specs.Ends.{nothing, plain_scalar, anchor_name, block_scalar}
 use Rattle.proof_scanner.specs.NoPiece.{quote_of}
 use Rattle.proof_scanner.proofs.First.Quoted.{QuotedReason, one_quoted}
@@ -47,9 +47,6 @@ comment_is style line before text h lacks is cut =
 -- ---- one reason why a line is no header
 
 module _ (style : BlockStyle) (here : Position) (line : List ℕ) (lacks : header_of (indicator_of style ∷ line) ≡ None) where
-  zero_first : has_zero line ≡ true → begins_with 48 (past_indicators line) ≡ true
-  zero_first zero = grind (arith, nat_tests)
-
   abbrev HeaderReason : Problem → Position → Type 0
   HeaderReason why at =
       ((has_zero line ≡ true) × (why ≡ BlockScalarZero) × (at ≡ here)) ⊎
@@ -62,7 +59,9 @@ module _ (style : BlockStyle) (here : Position) (line : List ℕ) (lacks : heade
   header_reason why at (none.by_text no_zero more begins) = inr (inr (no_zero, begins, refl, refl))
 
   one_header : (why1 why2 : Problem) (at1 at2 : Position) → IsNoHeader style here line why1 at1 → IsNoHeader style here line why2 at2 → (why1 ≡ why2) × (at1 ≡ at2)
-  one_header why1 why2 at1 at2 x y = let r = header_reason why1 at1 x in let q = header_reason why2 at2 y in grind (arith, r, q, zero_first, append_cancel_right)
+  one_header why1 why2 at1 at2 x y =
+      let zero_first : has_zero line ≡ true → begins_with 48 (past_indicators line) ≡ true = λ zero. grind (arith, nat_tests) in
+      let r = header_reason why1 at1 x in let q = header_reason why2 at2 y in grind (arith, r, q, zero_first, append_cancel_right)
 
 -- ---- all reasons
 
@@ -117,32 +116,24 @@ one_tag in_flow text why1 why2 x y =
 
 -- with the digits of a number, or else after them
 abbrev number_wrong : (digits : List ℕ) → (more : Option Problem) → Option Problem
-number_wrong [] more = Some VersionNumber
-number_wrong (c ∷ w) more = (if nat_le (length (c ∷ w)) 9 then more else Some VersionTooLong)
+number_wrong w more = (if is_empty w then Some VersionNumber else (if nat_le (length w) 9 then more else Some VersionTooLong))
 
 -- with the point and what stands after it
 abbrev point_wrong : List ℕ → Option Problem
-point_wrong [] = Some VersionDot
-point_wrong (c ∷ r) = (if c == 46 then number_wrong (leading is_decimal_digit r) None else Some VersionDot)
+point_wrong text = (if begins_with 46 text then number_wrong (leading is_decimal_digit (drop 1 text)) None else Some VersionDot)
 
 abbrev version_wrong : List ℕ → Option Problem
 version_wrong text = number_wrong (leading is_decimal_digit text) (point_wrong (after is_decimal_digit text))
-
-long : (w : List ℕ) (more : Option Problem) → nat_le (length w) 9 ≡ false → number_wrong w more ≡ Some VersionTooLong
-long a more e = grind arith
 
 number_right : (w : List ℕ) (more : Option Problem) (v : ℕ) → number_of w ≡ Some v → number_wrong w more ≡ more
 number_right a more v e = grind (arith, nat_tests, eqb-true)
 
 version_is : (text : List ℕ) (why : Problem) → IsNoVersion text why → version_wrong text ≡ Some why
 version_is text why (directives.no_major e) = rw e refl
-version_is text why (directives.long_major e) = long (leading is_decimal_digit text) _ e
+version_is text why (directives.long_major e) = grind (arith, e)
 version_is text why (directives.no_point major is e) = number_right (leading is_decimal_digit text) _ major is ∙ (grind arith)
 version_is text why (directives.no_minor major r is cut e) = number_right (leading is_decimal_digit text) _ major is ∙ rw (cut, e) refl
-version_is text why (directives.long_minor major r is cut e) = number_right (leading is_decimal_digit text) _ major is ∙ rw cut (long (leading is_decimal_digit r) None e)
-
-version_right : (line rest : List ℕ) → IsVersionBefore line rest → version_wrong (said line) ≡ None
-version_right line rest v = number_right (leading is_decimal_digit (said line)) _ v.major v.is_major ∙ rw v.has_point (number_right (leading is_decimal_digit v.point) None v.minor v.is_minor)
+version_is text why (directives.long_minor major r is cut e) = number_right (leading is_decimal_digit text) _ major is ∙ rw cut (grind (arith, e))
 
 -- ---- what is wrong with a declaration first
 
@@ -157,18 +148,14 @@ prefix_wrong r = (if begins_prefix r then characters_wrong (decoded (leading is_
 abbrev declaration_wrong : List ℕ → Option Problem
 declaration_wrong text = (if begins_handle text then prefix_wrong (from_prefix text) else (if begins_with_mark text then Some TagDirectiveHandle else Some TagStart))
 
-no_mark_no_handle : (text : List ℕ) → begins_with_mark text ≡ false → begins_handle text ≡ false
-no_mark_no_handle a e = grind arith
-
 declaration_is : (text : List ℕ) (why : Problem) → IsNoDeclaration text why → declaration_wrong text ≡ Some why
-declaration_is text why (directives.no_mark e) = rw (no_mark_no_handle text e, e) refl
+declaration_is text why (directives.no_mark e) =
+    let no_mark_no_handle : begins_handle text ≡ false = grind (arith, e) in
+    rw (no_mark_no_handle, e) refl
 declaration_is text why (directives.open_name c name rest e lead none) = let lacks = no_handle c name rest lead none in rw e (rw lacks refl)
 declaration_is text why (directives.no_prefix is e) = rw (is, e) refl
 declaration_is text why (directives.by_octets f is begins e) = rw (is, begins, e) refl
 declaration_is text why (directives.goes_on prefix is begins e apart) = rw (is, begins, e, apart) refl
-
-declaration_right : (line rest : List ℕ) → IsDeclarationBefore line rest → declaration_wrong (said line) ≡ None
-declaration_right line rest d = rw (d.has_handle, d.has_prefix, d.is_prefix, d.is_before, d.is_apart) refl
 
 -- ---- what is wrong with a line first
 
@@ -196,7 +183,9 @@ of_declaration : (start : Position) (line : List ℕ) → HasName (codes "TAG") 
 of_declaration start line h = rw (h.is_name, h.is_whole) refl
 
 after_it : (start : Position) (line rest : List ℕ) → IsVersionBefore line rest → line_wrong start line ≡ tail_wrong start line rest
-after_it start line rest v = of_version start line v.is_version ∙ rw (version_right line rest v, v.has_point, v.is_before) refl
+after_it start line rest v =
+    let version_right : version_wrong (said line) ≡ None = number_right (leading is_decimal_digit (said line)) _ v.major v.is_major ∙ rw v.has_point (number_right (leading is_decimal_digit v.point) None v.minor v.is_minor) in
+    of_version start line v.is_version ∙ rw (version_right, v.has_point, v.is_before) refl
 
 refusal_is : (start : Position) (line : List ℕ) (f : Fault) → IsDirectiveRefusal start line f → line_wrong start line ≡ f
 refusal_is start line f (directives.no_name e) = rw e refl
@@ -205,9 +194,9 @@ refusal_is start line f (directives.by_version why h n) = of_version start line 
 refusal_is start line f (directives.by_declaration why h n) = of_declaration start line h ∙ rw (declaration_is (said line) why n) refl
 refusal_is start line f (directives.by_comment before rest cut v) = grind (arith, nat_tests, eqb-true, length-append, after_it)
 refusal_is start line f (directives.after_version rest v more begins) = after_it start line rest v ∙ rw begins refl
-refusal_is start line f (directives.after_declaration rest d more) = of_declaration start line d.is_declaration ∙ rw (declaration_right line rest d) refl
-
--- ---- one line
+refusal_is start line f (directives.after_declaration rest d more) =
+    let declaration_right : declaration_wrong (said line) ≡ None = rw (d.has_handle, d.has_prefix, d.is_prefix, d.is_before, d.is_apart) refl in
+    of_declaration start line d.is_declaration ∙ rw declaration_right refl
 
 -- ---- a plain scalar has one fault that comes first
 
@@ -285,31 +274,7 @@ kind_here s column (c ∷ r) = (if comes_plain s.in_flow s.adjacent column (c �
 pub same_setting : (a b : Account) (separation : List ℕ) (here : Position) → IsLike a b → setting_of a separation here ≡ setting_of b separation here
 same_setting a b separation here like = grind (arith, nat_tests, eqb-true, same_flow, many_alike)
 
--- two faults of one kind at one place
-abbrev pub AreSame : (why1 why2 : Problem) (at1 at2 : Position) → Type 0
-AreSame why1 why2 at1 at2 = (why1 ≡ why2) × (at1 ≡ at2)
-
 -- ---- what is passed on a line
-
--- ---- `-`
-
-abbrev pub DashReason : Setting → Position → List ℕ → Problem → Position → Type 0
-DashReason s here rest why at =
-    ((s.in_flow ≡ true) × (why ≡ BlockEntryInFlow) × (at ≡ here)) ⊎
-    (((s.in_flow ≡ false) × (s.taken ≡ true) × (why ≡ BlockEntryNotAllowed) × (at ≡ here)) ⊎
-    ((s.in_flow ≡ false) × (s.taken ≡ false) × (more : List ℕ) × (passed : List ℕ) × (content : List ℕ) × (rest ≡ 45 ∷ more) × GoesOn more passed content ×
-    (begins_entry content ≡ true) × (why ≡ TabAfterDash) × (at ≡ position_after (further 1 here) passed content)))
-
--- ---- `?`
-
-abbrev pub QuestionReason : Setting → Position → List ℕ → Problem → Position → Type 0
-QuestionReason s here rest why at =
-    ((may_ask s.in_flow s.taken ≡ false) × (why ≡ KeyNotAllowed) × (at ≡ here)) ⊎
-    (((may_ask s.in_flow s.taken ≡ true) × (more : List ℕ) × (rest ≡ 63 ∷ more) × (begins_with_space_or_break more ≡ false) × (why ≡ WhitespaceExpected) ×
-    (at ≡ further 1 here)) ⊎
-    ((may_ask s.in_flow s.taken ≡ true) × (more : List ℕ) × (passed : List ℕ) × (content : List ℕ) × (rest ≡ 63 ∷ more) × (begins_with_space_or_break more ≡ true) ×
-    (has_tab_before_piece false passed ≡ false) × (more ≡ passed ++ 9 ∷ content) × (is_separation false passed (9 ∷ content) ≡ true) ×
-    (why ≡ TabAfterKey) × (at ≡ position_after (further 1 here) passed (9 ∷ content))))
 
 -- the first TAB outside comments is one
 pub first_tab : (in_comment : Bool) (p q x y : List ℕ) → p ++ 9 ∷ x ≡ q ++ 9 ∷ y → is_separation in_comment p (9 ∷ x) ≡ true → is_separation in_comment q (9 ∷ y) ≡ true → has_tab_before_piece in_comment p ≡ false → has_tab_before_piece in_comment q ≡ false → (p ≡ q) × (x ≡ y)
@@ -320,14 +285,6 @@ first_tab b (c ∷ p) [] x y e f g h k = grind arith
 first_tab true (c ∷ p) (d ∷ q) x y e f g h k = grind (arith, nat_tests, eqb-true, first_tab (not (is_break c)) p q x y)
 first_tab false (c ∷ p) (d ∷ q) x y e f g h k = grind (arith, nat_tests, eqb-true, first_tab (c == 35) p q x y)
 
--- ---- `:`
-
-abbrev pub ColonReason : Setting → Position → List ℕ → Problem → Position → Type 0
-ColonReason s here rest why at =
-    ((more : List ℕ) × (s.in_flow ≡ true) × (rest ≡ 58 ∷ more) × (colon_may_precede more ≡ true) × (why ≡ ColonMisplaced) × (at ≡ here)) ⊎
-    ((more : List ℕ) × (passed : List ℕ) × (content : List ℕ) × (rest ≡ 58 ∷ more) × (colon_may_precede more ≡ false) × GoesOn more passed content ×
-    (begins_with_alpha content ≡ true) × (why ≡ TabAfterColon) × (at ≡ position_after (further 1 here) passed content))
-
 -- ---- brackets and commas
 
 abbrev pub BracketReason : Setting → Position → List ℕ → Problem → Position → Type 0
@@ -335,44 +292,40 @@ BracketReason s here rest why at =
     (c : ℕ) × (more : List ℕ) × (rest ≡ c ∷ more) × ((((opens c && s.full) ≡ true) × (why ≡ FlowTooDeep) × (at ≡ here)) ⊎
     (((opens c && s.full) ≡ false) × (why ≡ CommentNotSeparated) × (at ≡ further 1 here)))
 
--- ---- `...`
-
-abbrev pub DotsReason : Position → List ℕ → Problem → Position → Type 0
-DotsReason here rest why at =
-    (more : List ℕ) × (passed : List ℕ) × (content : List ℕ) × (rest ≡ 46 ∷ 46 ∷ 46 ∷ more) × GoesOn more passed content × (begins_separation content ≡ false) ×
-    (why ≡ ContentAfterDocumentEnd) × (at ≡ position_after (further 3 here) passed content)
-
 -- ---- the reasons at one kind of piece
 
--- a name is missing
-abbrev pub NameReason : Position → Problem → Position → Type 0
-NameReason here why at = (why ≡ AnchorName) × (at ≡ here)
-
-abbrev pub TagReason : (in_flow : Bool) → Position → List ℕ → Problem → Position → Type 0
-TagReason in_flow here rest why at = (more : List ℕ) × (rest ≡ 33 ∷ more) × IsTagRefusal in_flow more why × (at ≡ here)
-
-abbrev pub DirectiveReason : Position → List ℕ → Problem → Position → Type 0
-DirectiveReason here rest why at =
+abbrev pub InKind : Kind → Setting → Position → List ℕ → Problem → Position → Type 0
+-- a reserved indicator
+InKind nothing s here rest why at =
+    (more : List ℕ) × (at ≡ here) × (((rest ≡ 64 ∷ more) × (why ≡ UnexpectedAt)) ⊎ ((rest ≡ 96 ∷ more) × (why ≡ UnexpectedBacktick)))
+InKind plain_scalar s here rest why at = PlainReason s.in_flow s.blocks here rest why at
+InKind question s here rest why at =
+    ((may_ask s.in_flow s.taken ≡ false) × (why ≡ KeyNotAllowed) × (at ≡ here)) ⊎
+    (((may_ask s.in_flow s.taken ≡ true) × (more : List ℕ) × (rest ≡ 63 ∷ more) × (begins_with_space_or_break more ≡ false) × (why ≡ WhitespaceExpected) ×
+    (at ≡ further 1 here)) ⊎
+    ((may_ask s.in_flow s.taken ≡ true) × (more : List ℕ) × (passed : List ℕ) × (content : List ℕ) × (rest ≡ 63 ∷ more) × (begins_with_space_or_break more ≡ true) ×
+    (has_tab_before_piece false passed ≡ false) × (more ≡ passed ++ 9 ∷ content) × (is_separation false passed (9 ∷ content) ≡ true) ×
+    (why ≡ TabAfterKey) × (at ≡ position_after (further 1 here) passed (9 ∷ content))))
+InKind colon s here rest why at =
+    ((more : List ℕ) × (s.in_flow ≡ true) × (rest ≡ 58 ∷ more) × (colon_may_precede more ≡ true) × (why ≡ ColonMisplaced) × (at ≡ here)) ⊎
+    ((more : List ℕ) × (passed : List ℕ) × (content : List ℕ) × (rest ≡ 58 ∷ more) × (colon_may_precede more ≡ false) × GoesOn more passed content ×
+    (begins_with_alpha content ≡ true) × (why ≡ TabAfterColon) × (at ≡ position_after (further 1 here) passed content))
+InKind dash s here rest why at =
+    ((s.in_flow ≡ true) × (why ≡ BlockEntryInFlow) × (at ≡ here)) ⊎
+    (((s.in_flow ≡ false) × (s.taken ≡ true) × (why ≡ BlockEntryNotAllowed) × (at ≡ here)) ⊎
+    ((s.in_flow ≡ false) × (s.taken ≡ false) × (more : List ℕ) × (passed : List ℕ) × (content : List ℕ) × (rest ≡ 45 ∷ more) × GoesOn more passed content ×
+    (begins_entry content ≡ true) × (why ≡ TabAfterDash) × (at ≡ position_after (further 1 here) passed content)))
+InKind dashes s here rest why at = ⊥
+InKind dots s here rest why at =
+    (more : List ℕ) × (passed : List ℕ) × (content : List ℕ) × (rest ≡ 46 ∷ 46 ∷ 46 ∷ more) × GoesOn more passed content × (begins_separation content ≡ false) ×
+    (why ≡ ContentAfterDocumentEnd) × (at ≡ position_after (further 3 here) passed content)
+InKind directive_line s here rest why at =
     (((here.col == 0) ≡ false) × (why ≡ UnexpectedPercent) × (at ≡ here)) ⊎
     ((line : List ℕ) × (next : List ℕ) × (here.col ≡ 0) × (rest ≡ 37 ∷ (line ++ next)) × (has_no_break line ≡ true) × (directives.ends_line next ≡ true) × IsDirectiveRefusal here line (At why at))
-
--- a reserved indicator
-abbrev pub ReservedReason : Position → List ℕ → Problem → Position → Type 0
-ReservedReason here rest why at =
-    (more : List ℕ) × (at ≡ here) × (((rest ≡ 64 ∷ more) × (why ≡ UnexpectedAt)) ⊎ ((rest ≡ 96 ∷ more) × (why ≡ UnexpectedBacktick)))
-
-abbrev pub InKind : Kind → Setting → Position → List ℕ → Problem → Position → Type 0
-InKind nothing s here rest why at = ReservedReason here rest why at
-InKind plain_scalar s here rest why at = PlainReason s.in_flow s.blocks here rest why at
-InKind question s here rest why at = QuestionReason s here rest why at
-InKind colon s here rest why at = ColonReason s here rest why at
-InKind dash s here rest why at = DashReason s here rest why at
-InKind dashes s here rest why at = ⊥
-InKind dots s here rest why at = DotsReason here rest why at
-InKind directive_line s here rest why at = DirectiveReason here rest why at
-InKind alias_name s here rest why at = NameReason here why at
-InKind anchor_name s here rest why at = NameReason here why at
-InKind tag_text s here rest why at = TagReason s.in_flow here rest why at
+-- a name is missing
+InKind alias_name s here rest why at = (why ≡ AnchorName) × (at ≡ here)
+InKind anchor_name s here rest why at = (why ≡ AnchorName) × (at ≡ here)
+InKind tag_text s here rest why at = (more : List ℕ) × (rest ≡ 33 ∷ more) × IsTagRefusal s.in_flow more why × (at ≡ here)
 InKind in_single_quotes s here rest why at = QuotedReason (least_column s.blocks s.awaits) here rest why at
 InKind in_double_quotes s here rest why at = QuotedReason (least_column s.blocks s.awaits) here rest why at
 InKind block_scalar s here rest why at = BlockReason s.blocks here rest why at
@@ -428,14 +381,11 @@ module _ (s : Setting) (here : Position) (rest : List ℕ) where
   none_reason why at (none.headless style line next reason place out e one ends lacks n) f = (block_scalar, ap (λ r. kind_here s here.col r) e ∙ block_kind s here.col style (line ++ next) out, headless style line next reason place e one ends lacks n f)
   none_reason why at (none.undirected line next reason place col e one ends lacks r) f = (directive_line, ap (λ z. kind_here s here.col z) e, inr (line, next, col, e, one, ends, r))
 
-  block_begins_here : s.in_flow ≡ false → (piece next : List ℕ) → rest ≡ piece ++ next → begins_block piece ≡ true → kind_here s here.col rest ≡ block_scalar
-  block_begins_here out a next e h = grind (arith, block_scalar, eqb-true, block_kind, literal, folded)
-
   block_at : s.in_flow ≡ false → (why : Problem) (at : Position) → IsBlockFault s.blocks here rest why at → kind_here s here.col rest ≡ block_scalar
   block_at out why at (none.by_tab piece header more h cut one is) =
       let first = first_char piece header h (sym (line_is piece) ∙ ap (λ z. first_line z.complete z.last) one) is in
       ap (λ r. kind_here s here.col r) (cut ∙ ap (λ p. p ++ tab ∷ more) first.2) ∙ block_kind s here.col first.0 (first.1 ++ tab ∷ more) out
-  block_at out why at (none.by_column piece header next more b cut is further_text lines_are empty deep left) = block_begins_here out piece next cut (block_begins (innermost s.blocks) piece next b is)
+  block_at out why at (none.by_column piece header next more b cut is further_text lines_are empty deep left) = grind (arith, block_scalar, eqb-true, block_kind, literal, folded, out, cut, (block_begins (innermost s.blocks) piece next b is))
 
   followed_reason : (why : Problem) (at : Position) (n : IsFollowed s.in_flow here rest why at) → followed_first s.in_flow (least_column s.blocks s.awaits) s.taken s.full here rest why at n → OfKind why at
   unfolding is_blank_or_end is_blank is_break is_nul is_flow are_marks
@@ -492,21 +442,15 @@ module _ (a : Account) (separation : List ℕ) (here : Position) (rest : List �
 pub colon_alone : (a b : Account) → IsLike a b → (separation more : List ℕ) (here : Position) → is_value_here a separation more ≡ true → is_in_flow a.entries ≡ false → IsLookedAt a separation here (58 ∷ more) → colon_may_precede more ≡ true →
     (why : Problem) (at : Position) → FailsFirst b separation here (58 ∷ more) why at → ⊥
 colon_alone a b like separation more here is out seen apart why at x =
+    let own : Setting = setting_of a separation here in
+    let at_colon : (n : List ℕ) → 58 ∷ more ≡ 58 ∷ n → more ≡ n = λ n e. cc e in
+    let none_here : (why : Problem) (at : Position) → InKind colon own here (58 ∷ more) why at → ⊥ = λ why at h. grind (arith, nat_tests, eqb-true, out, apart, colon_may_precede, at_colon) in
     let by : (why : Problem) (at : Position) → Reason own here (58 ∷ more) why at → ⊥ = λ why a b. grind (arith, none_here, own, here, more, colon_kind, is) in
     by why at (subst (λ s. Reason s here (58 ∷ more) why at) (sym (same_setting a b separation here like)) (reason_of b separation here (58 ∷ more) why at x))
-  where
-    own : Setting
-    own = setting_of a separation here
-
-    at_colon : (n : List ℕ) → 58 ∷ more ≡ 58 ∷ n → more ≡ n
-    at_colon n e = cc e
-
-    none_here : (why : Problem) (at : Position) → ColonReason own here (58 ∷ more) why at → ⊥
-    none_here why at h = grind (arith, nat_tests, eqb-true, out, apart, colon_may_precede, at_colon)
 
 -- ---- one reason
 
-one_in : (k : Kind) (s : Setting) (here : Position) (rest : List ℕ) (why1 why2 : Problem) (at1 at2 : Position) → has_no_nul rest ≡ true → InKind k s here rest why1 at1 → InKind k s here rest why2 at2 → AreSame why1 why2 at1 at2
+one_in : (k : Kind) (s : Setting) (here : Position) (rest : List ℕ) (why1 why2 : Problem) (at1 at2 : Position) → has_no_nul rest ≡ true → InKind k s here rest why1 at1 → InKind k s here rest why2 at2 → (why1 ≡ why2) × (at1 ≡ at2)
 unfolding is_nul is_blank_or_end is_blank is_break is_alpha is_decimal_digit is_letter
 one_in plain_scalar s here rest why1 why2 at1 at2 clean r q = one_plain s.in_flow s.blocks here rest why1 why2 at1 at2 r q
 one_in in_single_quotes s here rest why1 why2 at1 at2 clean r q = one_quoted (least_column s.blocks s.awaits) here rest clean why1 why2 at1 at2 r q
@@ -517,11 +461,9 @@ one_in directive_line s here rest why1 why2 at1 at2 clean r q = grind (arith, na
 one_in dots s here rest why1 why2 at1 at2 clean r q = grind (arith, separations, ends_before, no_nul_after)
 one_in k s here rest why1 why2 at1 at2 clean r q = grind (arith, separations, nat_tests, eqb-true, first_tab)
 
-one_of_two : (s : Setting) (here : Position) (rest : List ℕ) (why1 why2 : Problem) (at1 at2 : Position) → has_no_nul rest ≡ true → Reason s here rest why1 at1 → Reason s here rest why2 at2 → AreSame why1 why2 at1 at2
-one_of_two s here rest why1 why2 at1 at2 clean r q = grind (arith, nat_tests, eqb-true, one_in)
-
 -- At like accounts, after the same separation, what fails first is of one kind and at one position.
 pub one_reason : (a b : Account) → IsLike a b → (separation : List ℕ) (here : Position) (rest : List ℕ) → has_no_nul rest ≡ true → (why1 why2 : Problem) (at1 at2 : Position) → FailsFirst a separation here rest why1 at1 → FailsFirst b separation here rest why2 at2 → (why1 ≡ why2) × (at1 ≡ at2)
 one_reason a b like separation here rest clean why1 why2 at1 at2 x y =
-    one_of_two (setting_of a separation here) here rest why1 why2 at1 at2 clean (reason_of a separation here rest why1 at1 x)
-    (subst (λ s. Reason s here rest why2 at2) (sym (same_setting a b separation here like)) (reason_of b separation here rest why2 at2 y))
+    let first = reason_of a separation here rest why1 at1 x in
+    let second : Reason (setting_of a separation here) here rest why2 at2 = subst (λ s. Reason s here rest why2 at2) (sym (same_setting a b separation here like)) (reason_of b separation here rest why2 at2 y) in
+    grind (arith, nat_tests, eqb-true, one_in, first, second, clean)

@@ -1,13 +1,12 @@
 -- A text is stuck at one place, with one kind.
-use Rattle.proof_scanner.proofs.Common.{Account, account_past, ap, Begins, Bool, colon_may_precede, fails, FailsFirst, false, first_account, HasNoKey, inl, inr, is_in_flow, is_taken, is_value_here, IsLike, IsLookedAt, IsPlace, IsStuck, IsWritten, key_waits, List, no_key, no_nul_after, Position, Problem, refl, Some, spelled, Step, subst, sym, true, up_to_nul, ℕ, ◌++◌, ◌∙◌, ◌∷◌, ◌≡◌, ◌⊎◌, arith, eqb-true, nat_tests, ValueNotAllowed, [], act_of, begins_separation, clean_up_to_end, comes_first, Fails, follows_plain, gives_node, has_no_nul, is_empty, is_free_of_tabs, is_indented_by_spaces, is_separation, IsQuoted, None, Option, position_after, separations, Site, cases_Bool, TabInBlockIndentation}
-use Rattle.proof_scanner.proofs.Refusals.Common.{GivesUp, GoesOn, KeepsOn, LeadsBy, Meet, Same, Way, With, begins_at_start, begins_past, clean_after, ends_before, first_on, gap_is_separation, gives_up_like, like_sym, meet, same_place, second_on, step_here, strict_way, way_but_for_key, way_of}
-use Rattle.proof_scanner.proofs.Refusals.OtherRows.{StepAt, IsClearAfter, IsClearGapAfter, no_tab_before, step_from}
+use Rattle.proof_scanner.proofs.Common.{Account, account_past, ap, Begins, Bool, colon_may_precede, fails, FailsFirst, false, first_account, HasNoKey, inl, inr, is_in_flow, is_taken, is_value_here, IsLike, IsLookedAt, IsPlace, IsStuck, key_waits, List, no_key, no_nul_after, Position, Problem, refl, Some, spelled, Step, subst, sym, true, up_to_nul, ℕ, ◌++◌, ◌∙◌, ◌∷◌, ◌≡◌, ◌⊎◌, arith, eqb-true, nat_tests, ValueNotAllowed, [], act_of, begins_separation, clean_up_to_end, comes_first, Fails, follows_plain, gives_node, has_no_nul, is_empty, is_free_of_tabs, is_indented_by_spaces, is_separation, IsQuoted, position_after, separations, Site, cases_Bool, TabInBlockIndentation}
+use Rattle.proof_scanner.proofs.Refusals.Common.{leads_on, GivesUp, GoesOn, KeepsOn, LeadsBy, Meet, Same, Way, With, begins_at_start, begins_past, clean_after, ends_before, first_on, gap_is_separation, gives_up_like, like_sym, meet, same_place, second_on, step_here, strict_way, way_but_for_key, way_of}
+use Rattle.proof_scanner.proofs.Refusals.OtherRows.{StepAt, IsClearAfter, IsClearGapAfter, stood, step_from}
 use Rattle.proof_scanner.proofs.Refusals.PiecesRefused.{no_colon_here, node_site_past, node_token, quoted_value, same_quoted_value}
 use Rattle.proof_scanner.proofs.Refusals.NoRows.{keyless_step, no_step_stands, step_refuted}
-use Rattle.proof_scanner.proofs.Refusals.KeysThatWait.{Together, Apart, together_keeps, apart_keeps, first_together, not_below}
+use Rattle.proof_scanner.proofs.Refusals.KeysThatWait.{Together, Apart, together_keeps, apart_keeps, first_together}
 use Rattle.proof_scanner.proofs.First.Reasons.{one_reason, colon_alone}
 use Rattle.defs_token.specs.Piece.{Holds}
-use Rattle.proof_scanner.proofs.Refusals.PlainsRefused.{no_tab}
 use Rattle.proof_scanner.proofs.Sound.PlainKeeps.{no_comment}
 use Rattle.defs_text.specs.Classes as classes
 use Rattle.proof_scanner.specs.Failing as failing
@@ -30,19 +29,11 @@ pub clean_place : {J : Account → Account → Type 0} {text after : List ℕ} {
 clean_place {text = text} {after = after} w = clean_after w.steps after (clean_way text w.steps after w.spells)
 
 -- one place of a text has one separation and one rest
-pub one_cut : (a b : Account) (s1 r1 s2 r2 : List ℕ) (h1 h2 : Position) → Stands a s1 r1 h1 → Stands b s2 r2 h2 → IsLike a b → Holds (has_no_nul (s1 ++ r1)) → s1 ++ r1 ≡ s2 ++ r2 → (s1 ≡ s2) × (r1 ≡ r2) × (h1 ≡ h2)
-one_cut a b s1 r1 s2 r2 h1 h2 p q i c e = grind (arith, nat_tests, eqb-true, separations, ends_before, no_nul_after)
+pub one_cut : {a b : Account} {s1 r1 s2 r2 : List ℕ} {h1 h2 : Position} → Stands a s1 r1 h1 → Stands b s2 r2 h2 → IsLike a b → Holds (has_no_nul (s1 ++ r1)) → s1 ++ r1 ≡ s2 ++ r2 → (s1 ≡ s2) × (r1 ≡ r2) × (h1 ≡ h2)
+one_cut p q i c e = grind (arith, nat_tests, eqb-true, separations, ends_before, no_nul_after)
 
 pub gives_up_site : (a x : Account) → GivesUp a x → a.site ≡ x.site
 gives_up_site a x b = grind (arith, nat_tests, eqb-true)
-
-module _ (J : Account → Account → Type 0) (R : Account → Account → List ℕ → Type 0) (a b : Account) (s1 r1 s2 r2 : List ℕ) (h1 : Position) (p : Stands a s1 r1 h1) (g : GoesOn J R a b (s1 ++ r1) (s2 ++ r2)) (clean : Holds (has_no_nul (s1 ++ r1))) where
-  abbrev pub next : List ℕ
-  next = spelled g.steps (s2 ++ r2)
-
-  -- the step by which a way goes on from a place
-  abbrev pub step_of : StepAt a s1 r1 h1
-  step_of = step_from a g.account g.past s1 r1 next h1 g.step g.is_like g.is_written g.is_past g.spells p.is_filled p.is_solid (no_nul_after s1 r1 clean) p.is_here
 
 -- No TAB indents what comes after a step, where a way leads on to a place where none does.
 clear_way : (J : Account → Account → Type 0) → ((x y : Account) → J x y → x.site ≡ y.site) → (o b : Account) (vs : List Step) (s2 r2 gap content : List ℕ) → LeadsBy J (Some o) vs (s2 ++ r2) b → is_separation false s2 r2 ≡ true → begins_separation r2 ≡ false → (vs ≡ [] → is_indented_by_spaces b.site.before b.site.blocks b.site.awaits s2 ≡ true)
@@ -50,12 +41,11 @@ clear_way : (J : Account → Account → Type 0) → ((x y : Account) → J x y 
 clear_way J same o b [] s2 r2 gap content row filled solid free e fills begins clean clean2 =
     let ends = separations s2 gap r2 content (filled, ends_before r2 solid clean2) (fills, ends_before content begins clean) e in
     ap (λ f. is_indented_by_spaces o.site.before o.site.blocks o.site.awaits f) (sym ends.0) ∙ (ap (λ (x : Site). is_indented_by_spaces x.before x.blocks x.awaits s2) (same o b row) ∙ free refl)
-clear_way J same o b (v ∷ vs) s2 r2 gap content row filled solid free e fills begins clean clean2 = by (account_past row.0 v (spelled vs (s2 ++ r2))) refl row.3
-  where
-    by : (z : Option Account) → account_past row.0 v (spelled vs (s2 ++ r2)) ≡ z → LeadsBy J z vs (s2 ++ r2) b → is_indented_by_spaces o.site.before o.site.blocks o.site.awaits gap ≡ true
-    by None i k = absurd k
-    by (Some c) i k =
-        ap (λ (x : Site). is_indented_by_spaces x.before x.blocks x.awaits gap) (same o row.0 row.1) ∙ subst (λ f. is_indented_by_spaces row.0.site.before row.0.site.blocks row.0.site.awaits f ≡ true) (step_here row.0 v (spelled vs (s2 ++ r2)) gap content row.2 e fills begins clean).0 (no_tab_before row.0 v (spelled vs (s2 ++ r2)) c i)
+clear_way J same o b (v ∷ vs) s2 r2 gap content row filled solid free e fills begins clean clean2 =
+    let next : List ℕ = spelled vs (s2 ++ r2) in
+    let c = leads_on J (account_past row.0 v next) vs (s2 ++ r2) b row.3 in
+    ap (λ (x : Site). is_indented_by_spaces x.before x.blocks x.awaits gap) (same o row.0 row.1) ∙
+    subst (λ f. is_indented_by_spaces row.0.site.before row.0.site.blocks row.0.site.awaits f ≡ true) (step_here row.0 v next gap content row.2 e fills begins clean).0 (stood row.0 v next c.0 c.1).spaced
 
 -- a reason that comes first where a TAB indents what comes is just this
 pub tab_alone : (b : Account) (separation : List ℕ) (here : Position) (rest : List ℕ) (why : Problem) (at : Position) (f : Fails b separation here rest why at) → comes_first b separation here rest why at f → is_free_of_tabs b separation ≡ false
@@ -64,10 +54,11 @@ tab_alone b separation here rest why at (failing.may_not_stand (failing.tab_inde
 tab_alone b separation here rest why at (failing.may_not_stand n) first tab = absurd (cc tab)
 tab_alone b separation here rest why at f first tab = absurd (cc tab)
 
-module _ (J : Account → Account → Type 0) (same : (x y : Account) → J x y → x.site ≡ y.site) (R : Account → Account → List ℕ → Type 0) (a b : Account) (s1 r1 s2 r2 : List ℕ) (h1 h2 : Position) (p : Stands a s1 r1 h1) (q : Stands b s2 r2 h2)
+module _ (J : Account → Account → Type 0) (same : (x y : Account) → J x y → x.site ≡ y.site) (R : Account → Account → List ℕ → Type 0) {a b : Account} {s1 r1 s2 r2 : List ℕ} {h1 h2 : Position} (p : Stands a s1 r1 h1) (q : Stands b s2 r2 h2)
     (g : GoesOn J R a b (s1 ++ r1) (s2 ++ r2)) (clean : Holds (has_no_nul (s1 ++ r1))) where
+  -- the step by which a way goes on from a place
   abbrev step : StepAt a s1 r1 h1
-  step = step_of J R a b s1 r1 s2 r2 h1 p g clean
+  step = step_from a g.account g.past s1 r1 (spelled g.steps (s2 ++ r2)) h1 g.step g.is_like g.is_written g.is_past g.spells p.is_filled p.is_solid (no_nul_after s1 r1 clean) p.is_here
 
   later_clean : Holds (has_no_nul (s2 ++ r2))
   later_clean = clean_after (g.step ∷ g.steps) (s2 ++ r2) (rw g.spells clean)
@@ -105,165 +96,134 @@ module _ (J : Account → Account → Type 0) (same : (x y : Account) → J x y 
       on (v ∷ vs) last tab = absurd (no_step_stands step (clear (λ none. absurd (cc (none, last)))) why1 at1 f1.fails)
       on [] last tab =
           let own = tab_alone b s2 h2 r2 why2 at2 f2.fails f2.is_first tab in
-          let first = step_refuted step (λ why at. (why ≡ TabInBlockIndentation) × (at ≡ h2))
-          (λ comes before blanks more column cut over stands left are token. absurd (no_tab step comes before blanks more column cut over stands left are token (clear_gap last tab own.2)))
+          let first = step_refuted step (λ why at. (why ≡ TabInBlockIndentation) × (at ≡ h2)) (clear_gap last tab own.2)
           (λ single piece gap content e is fills some solid tabbed. (refl, at_quoted last tab own.2 single piece gap content e is fills solid)) why1 at1 f1.fails in
           (first.0 ∙ sym own.0, first.1 ∙ sym own.1)
 
 -- ---- claims
 
--- a text is stuck by what fails first at a place, to which a way leads that may give up a key
-record FailsAt (text : List ℕ) (why : Problem) (at : Position) : Type 0 where
+-- at a place a colon stands for which no key waits
+record Keyless (text : List ℕ) (a : Account) (separation rest : List ℕ) (here : Position) : Type 0 where
+  more : List ℕ
+  is_rest : rest ≡ 58 ∷ more
+  place : IsPlace text a separation rest here
+  is_value : is_value_here a separation more ≡ true
+  is_outside : is_in_flow a.entries ≡ false
+  is_line_taken : is_taken a separation ≡ true
+  has_none : HasNoKey text separation rest here
+  looked : IsLookedAt a separation here rest
+  has_no_tab_after : colon_may_precede more ≡ true
+
+-- a text is stuck by what fails first at a place, to which a way leads that may give up a key; or by such a colon
+record Claim (text : List ℕ) (why : Problem) (at : Position) : Type 0 where
   account : Account
   separation : List ℕ
   rest : List ℕ
   here : Position
   way : Way GivesUp text (separation ++ rest) account
   stands : Stands account separation rest here
-  first : FailsFirst account separation here rest why at
-
--- or by a colon for which no key waits
-record KeylessAt (text : List ℕ) (here : Position) : Type 0 where
-  account : Account
-  separation : List ℕ
-  more : List ℕ
-  place : IsPlace text account separation (58 ∷ more) here
-  is_value : is_value_here account separation more ≡ true
-  is_outside : is_in_flow account.entries ≡ false
-  is_line_taken : is_taken account separation ≡ true
-  has_none : HasNoKey text separation (58 ∷ more) here
-  looked : IsLookedAt account separation here (58 ∷ more)
-  has_no_tab_after : colon_may_precede more ≡ true
-
-data Claim (text : List ℕ) : Problem → Position → Type 0 where
-  fails_there : {why : Problem} {at : Position} → FailsAt text why at → Claim text why at
-  keyless : {at : Position} → KeylessAt text at → Claim text ValueNotAllowed at
+  says : FailsFirst account separation here rest why at ⊎ ((why ≡ ValueNotAllowed) × (at ≡ here) × Keyless text account separation rest here)
 
 claim_of : (text : List ℕ) (why : Problem) (at : Position) → IsStuck text why at → Claim text why at
+unfolding classes.is_blank classes.is_break
 claim_of text why at (fails a separation rest why2 here at2 place some solid f) =
-    fails_there (record { account = a; separation = separation; rest = rest; here = here; way = way_of text (separation ++ rest) a place.begins; stands = record { is_filled = place.is_filled; is_solid = solid; goes_on = some; is_here = place.is_here }; first = f })
-claim_of text why at (no_key a separation more here place is out line none looked apart) = keyless (record { account = a; separation = separation; more = more; place = place; is_value = is; is_outside = out; is_line_taken = line; has_none = none; looked = looked; has_no_tab_after = apart })
+    record { account = a; separation = separation; rest = rest; here = here; way = way_of text (separation ++ rest) a place.begins; stands = record { is_filled = place.is_filled; is_solid = solid; goes_on = some; is_here = place.is_here }; says = inl f }
+claim_of text why at (no_key a separation more here place is out line none looked apart) = record {
+  account = a;
+  separation = separation;
+  rest = 58 ∷ more;
+  here = here;
+  way = way_of text (separation ++ 58 ∷ more) a place.begins;
+  stands = record { is_filled = place.is_filled; is_solid = refl; goes_on = refl; is_here = place.is_here };
+  says = inr (refl, refl, record { more = more; is_rest = refl; place = place; is_value = is; is_outside = out; is_line_taken = line; has_none = none; looked = looked; has_no_tab_after = apart });
+}
 claim_of text why at (key_waits a separation rest why2 begin here at2 g inside filled here_is late some solid f) =
-    fails_there (record { account = a; separation = separation; rest = rest; here = here; way = way_but_for_key text (separation ++ rest) begin a g; stands = record { is_filled = filled; is_solid = solid; goes_on = some; is_here = here_is }; first = f })
+    record { account = a; separation = separation; rest = rest; here = here; way = way_but_for_key text (separation ++ rest) begin a g; stands = record { is_filled = filled; is_solid = solid; goes_on = some; is_here = here_is }; says = inl f }
 
 -- ---- what is kept along two ways
 
-itself : IsLike first_account first_account
-itself = (refl, tt, tt)
-
-gives_up_second : (x y z : Account) → GivesUp y z → IsLike x y → IsLike x z
-gives_up_second x y z g i = like_sym z x (gives_up_like y z x g (like_sym x y i))
-
-same_first : (x y z : Account) → x ≡ z → IsLike x y → IsLike z y
-same_first x y z e i = rw (sym e) i
-
-same_second : (x y z : Account) → y ≡ z → IsLike x y → IsLike x z
-same_second x y z e i = rw (sym e) i
-
-abbrev Nothing : Account → Account → List ℕ → Type 0
-Nothing x y after = Unit {0}
-
--- Both ways are beginnings of rows.
-abbrev BothBegin : (text : List ℕ) → Account → Account → List ℕ → Type 0
-BothBegin text x y after = Begins text after x × Begins text after y
-
-keeps_both : (text : List ℕ) → KeepsOn Same Same (BothBegin text)
-keeps_both text = record {
-  first_like = same_first;
-  second_like = same_second;
-  first = λ x y z after i g r. (rw (sym g) r.0, r.1);
-  second = λ x y z after i g r. (r.0, rw (sym g) r.1);
-  both = λ x y a b v c next i r k l e f. (begins_past text _ x a v next refl k e r.0, begins_past text _ y b (With v c) next refl l f r.1);
-}
-
--- The first way is the beginning of a row; or it has given up a key, which still waits in the second one.
+-- The second way is the beginning of a row. So is the first; or it has given up a key, which still waits in the second one.
 abbrev BeginsOrApart : (text : List ℕ) → Account → Account → List ℕ → Type 0
-BeginsOrApart text x y after = (Together x y × Begins text after x) ⊎ ((q : Position) × Apart q x y)
+BeginsOrApart text x y after = Begins text after y × ((Together x y × Begins text after x) ⊎ ((q : Position) × Apart q x y))
 
 keeps_apart : (text : List ℕ) → KeepsOn GivesUp Same (BeginsOrApart text)
 keeps_apart text = record {
-  first_like = λ x y z g i. gives_up_like x z y g i;
-  second_like = same_second;
-  first = λ x y z after i g r. (grind (arith, nat_tests, eqb-true, not_below));
-  second = λ x y z after i e r. rw (sym e) r;
-  both = λ x y a b v c next i r k l e f. on x y a b v c next i r k l e f;
+  first = λ x y z after g r. (gives_up_like x z y g r.0, (r.1.0, grind (arith, nat_tests, eqb-true)));
+  second = λ x y z after e r. rw (sym e) r;
+  both = λ x y a b v c next i r k l e f. (
+    begins_past text _ y b (With v c) next refl l f r.0,
+    elim r.1 [
+      | inl p ↦ inl (together_keeps x y a b v c next i p.0 k l e f, begins_past text _ x a v next refl k e p.1)
+      | inr p ↦ inr (p.0, apart_keeps p.0 x y a b v c next i p.1 k l e f)
+    ],
+  );
 }
-  where
-    on : (x y a b : Account) (v : Step) (c : Bool) (next : List ℕ) → IsLike x y → BeginsOrApart text x y (v.separation ++ (v.piece ++ next)) → IsWritten x v next → IsWritten y (With v c) next → account_past x v next ≡ Some a → account_past y (With v c) next ≡ Some b → BeginsOrApart text a b next
-    on x y a b v c next i (inl r) k l e f = inl (together_keeps x y a b v c next i r.0 l e f, begins_past text _ x a v next refl k e r.1)
-    on x y a b v c next i (inr r) k l e f = inr (r.0, apart_keeps r.0 x y a b v c next i r.1 l e f)
 
 -- ---- two claims
 
-module _ (text : List ℕ) where
-  failing_once : (why1 why2 : Problem) (at1 at2 : Position) → FailsAt text why1 at1 → FailsAt text why2 at2 → (why1 ≡ why2) × (at1 ≡ at2)
-  failing_once why1 why2 at1 at2 f g =
-      elim (meet GivesUp GivesUp Nothing (record { first_like = λ x y z g i. gives_up_like x z y g i; second_like = gives_up_second; first = λ x y z after i g r. tt; second = λ x y z after i g r. tt; both = λ x y a b v c next i r k l e f. tt })
-      f.way.steps g.way.steps (f.separation ++ f.rest) (g.separation ++ g.rest) first_account first_account f.account g.account itself tt
-      f.way.leads g.way.leads (f.way.spells ∙ sym g.way.spells) (clean_way text f.way.steps (f.separation ++ f.rest) f.way.spells)) [
+module _ (text : List ℕ) {why1 why2 : Problem} {at1 at2 : Position} (f : Claim text why1 at1) (g : Claim text why2 at2) where
+  -- what is left of the text at each
+  abbrev after1 : List ℕ
+  after1 = f.separation ++ f.rest
+
+  abbrev after2 : List ℕ
+  after2 = g.separation ++ g.rest
+
+  failing_once : FailsFirst f.account f.separation f.here f.rest why1 at1 → FailsFirst g.account g.separation g.here g.rest why2 at2 → (why1 ≡ why2) × (at1 ≡ at2)
+  failing_once x y =
+      elim (meet GivesUp GivesUp (λ x y after. Unit {0}) (record { first = λ x y z after g r. (gives_up_like x z y g r.0, tt); second = λ x y z after g r. (like_sym z x (gives_up_like y z x g (like_sym x y r.0)), tt); both = λ x y a b v c next i r k l e f. tt })
+      f.way.steps g.way.steps after1 after2 first_account first_account f.account g.account (refl, tt, tt) tt f.way.leads g.way.leads (f.way.spells ∙ sym g.way.spells) (clean_way text f.way.steps after1 f.way.spells)) [
         | same_place like r e ↦
-            let cut = one_cut f.account g.account f.separation f.rest g.separation g.rest f.here g.here f.stands g.stands like (clean_place f.way) e in
-            one_reason f.account g.account like f.separation f.here f.rest (no_nul_after f.separation f.rest (clean_place f.way)) why1 why2 at1 at2 f.first
-            (rw cut.0 (rw cut.1 (rw cut.2 g.first)))
-        | second_on n ↦ fails_before GivesUp gives_up_site Nothing f.account g.account f.separation f.rest g.separation g.rest f.here g.here f.stands g.stands n (clean_place f.way) why1 why2 at1 at2 f.first g.first
+            let cut = one_cut f.stands g.stands like (clean_place f.way) e in
+            one_reason f.account g.account like f.separation f.here f.rest (no_nul_after f.separation f.rest (clean_place f.way)) why1 why2 at1 at2 x (rw cut.0 (rw cut.1 (rw cut.2 y)))
+        | second_on n ↦ fails_before GivesUp gives_up_site (λ x y after. Unit {0}) f.stands g.stands n (clean_place f.way) why1 why2 at1 at2 x y
         | first_on n ↦
-            let turned = fails_before GivesUp gives_up_site (λ x y. Nothing y x) g.account f.account g.separation g.rest f.separation f.rest g.here f.here g.stands f.stands n (clean_place g.way) why2 why1 at2 at1 g.first f.first in
+            let turned = fails_before GivesUp gives_up_site (λ x y after. Unit {0}) g.stands f.stands n (clean_place g.way) why2 why1 at2 at1 y x in
             (sym turned.0, sym turned.1)
       ]
 
-  stands_keyless : (here : Position) (k : KeylessAt text here) → Stands k.account k.separation (58 ∷ k.more) here
-  unfolding classes.is_blank classes.is_break
-  stands_keyless here k = record { is_filled = k.place.is_filled; is_solid = refl; goes_on = refl; is_here = k.place.is_here }
-
-  begins_first : (steps : List Step) (after : List ℕ) → spelled steps after ≡ up_to_nul text → Begins text (spelled steps after) first_account
-  begins_first steps after e = rw e (begins_at_start text)
-
-  -- the text that is left before a colon for which no key waits, and the way there
-  abbrev ahead : {here : Position} → KeylessAt text here → List ℕ
-  ahead k = k.separation ++ 58 ∷ k.more
-
-  abbrev way_to : {here : Position} (k : KeylessAt text here) → Way Same text (ahead k) k.account
-  way_to k = strict_way text (ahead k) k.account k.place.begins
-
-  keyless_once : (here1 here2 : Position) → KeylessAt text here1 → KeylessAt text here2 → here1 ≡ here2
-  keyless_once here1 here2 k l = by (meet Same Same (BothBegin text) (keeps_both text) (way_to k).steps (way_to l).steps (ahead k) (ahead l) first_account first_account k.account l.account itself (begins_first (way_to k).steps (ahead k) (way_to k).spells, begins_first (way_to k).steps (ahead k) (way_to k).spells) (way_to k).leads (way_to l).leads ((way_to k).spells ∙ sym (way_to l).spells) (clean_way text (way_to k).steps (ahead k) (way_to k).spells))
+  -- A colon for which no key waits is the only one of its text, and nothing else fails.
+  keyless_once : Keyless text g.account g.separation g.rest g.here → (why1 ≡ ValueNotAllowed) × (at1 ≡ g.here)
+  keyless_once z = by (meet GivesUp Same (BeginsOrApart text) (keeps_apart text) f.way.steps way.steps after1 after2 first_account first_account f.account g.account (refl, tt, tt) (begins, inl (first_together, begins)) f.way.leads way.leads (f.way.spells ∙ sym way.spells) (clean_way text f.way.steps after1 f.way.spells))
     where
-      by : Meet Same Same (BothBegin text) k.account l.account (ahead k) (ahead l) → here1 ≡ here2
-      by (same_place like r e) = (one_cut k.account l.account k.separation (58 ∷ k.more) l.separation (58 ∷ l.more) here1 here2 (stands_keyless here1 k) (stands_keyless here2 l) like (clean_place (way_to k)) e).2
-      by (second_on n) =
-          let s : StepAt k.account k.separation (58 ∷ k.more) here1 = step_of Same (BothBegin text) k.account l.account k.separation (58 ∷ k.more) l.separation (58 ∷ l.more) here1 (stands_keyless here1 k) n (clean_place (way_to k)) in
-          absurd (keyless_step text k.separation k.more k.account here1 s n.holds.1 k.place.is_filled k.is_value k.is_outside k.is_line_taken k.has_none)
-      by (first_on n) =
-          let s : StepAt l.account l.separation (58 ∷ l.more) here2 = step_of Same (λ x y. BothBegin text y x) l.account k.account l.separation (58 ∷ l.more) k.separation (58 ∷ k.more) here2 (stands_keyless here2 l) n (clean_place (way_to l)) in
-          absurd (keyless_step text l.separation l.more l.account here2 s n.holds.0 l.place.is_filled l.is_value l.is_outside l.is_line_taken l.has_none)
+      way : Way Same text after2 g.account
+      way = strict_way text after2 g.account z.place.begins
 
-  keyless_alone : (why : Problem) (at here : Position) → FailsAt text why at → KeylessAt text here → ⊥
-  keyless_alone why at here f k = by (meet GivesUp Same (BeginsOrApart text) (keeps_apart text) f.way.steps (way_to k).steps after1 (ahead k) first_account first_account f.account k.account itself (inl (first_together, begins_first f.way.steps after1 f.way.spells)) f.way.leads (way_to k).leads (f.way.spells ∙ sym (way_to k).spells) (clean_way text f.way.steps after1 f.way.spells))
-    where
-      after1 : List ℕ
-      after1 = f.separation ++ f.rest
+      begins : Begins text (spelled f.way.steps after1) first_account
+      begins = rw f.way.spells (begins_at_start text)
 
-      passed : (x : Account) (s : StepAt k.account k.separation (58 ∷ k.more) here) → s.account ≡ x → BeginsOrApart text x k.account (ahead k) → ⊥
-      passed x s e (inl r) = keyless_step text k.separation k.more k.account here s (rw e r.1) k.place.is_filled k.is_value k.is_outside k.is_line_taken k.has_none
-      passed x s e (inr r) = no_colon_here s k.more refl k.is_value k.is_outside k.is_line_taken (λ q waiting unbroken near. cc (waiting, ap (λ (u : Account). u.line) e, r.1.none))
-
-      by : Meet GivesUp Same (BeginsOrApart text) f.account k.account after1 (ahead k) → ⊥
+      by : Meet GivesUp Same (BeginsOrApart text) f.account g.account after1 after2 → (why1 ≡ ValueNotAllowed) × (at1 ≡ g.here)
       by (same_place like r e) =
-          let cut = one_cut f.account k.account f.separation f.rest k.separation (58 ∷ k.more) f.here here f.stands (stands_keyless here k) like (clean_place f.way) e in
-          colon_alone k.account f.account (like_sym f.account k.account like) k.separation k.more here k.is_value k.is_outside k.looked k.has_no_tab_after why at
-          (rw (sym cut.0) (rw (sym cut.1) (rw (sym cut.2) f.first)))
+          let cut = one_cut f.stands g.stands like (clean_place f.way) e in
+          elim f.says [
+            | inl x ↦ absurd (colon_alone g.account f.account (like_sym f.account g.account like) g.separation z.more g.here z.is_value z.is_outside (rw (sym z.is_rest) z.looked) z.has_no_tab_after why1 at1 (rw (sym z.is_rest, sym cut.0, sym cut.1, sym cut.2) x))
+            | inr x ↦ (x.0, x.1 ∙ cut.2)
+          ]
       by (second_on n) =
-          no_step_stands (step_of Same (BeginsOrApart text) f.account k.account f.separation f.rest k.separation (58 ∷ k.more) f.here f.stands n (clean_place f.way))
-          (clear Same (λ x y e. ap (λ (u : Account). u.site) e) (BeginsOrApart text) f.account k.account f.separation f.rest k.separation (58 ∷ k.more) f.here here f.stands (stands_keyless here k) n (clean_place f.way) (λ _. k.looked.has_no_tab)) why at f.first.fails
+          let s : StepAt f.account f.separation f.rest f.here = step Same (λ x y e. ap (λ (u : Account). u.site) e) (BeginsOrApart text) f.stands g.stands n (clean_place f.way) in
+          elim f.says [
+            | inl x ↦
+                absurd (no_step_stands s (clear Same (λ x y e. ap (λ (u : Account). u.site) e) (BeginsOrApart text) f.stands g.stands n (clean_place f.way) (λ _. z.looked.has_no_tab)) why1 at1 x.fails)
+            | inr x ↦ absurd (keyless_step text f.separation f.rest x.2.more f.account f.here s x.2.is_rest n.holds.0 x.2.place.is_filled x.2.is_value x.2.is_outside x.2.is_line_taken x.2.has_none)
+          ]
       by (first_on n) =
-          passed n.account (step_of GivesUp (λ x y. BeginsOrApart text y x) k.account f.account k.separation (58 ∷ k.more) f.separation f.rest here (stands_keyless here k) n (clean_place (way_to k))) refl n.holds
+          let s : StepAt g.account g.separation g.rest g.here = step GivesUp gives_up_site (λ x y. BeginsOrApart text y x) g.stands f.stands n (clean_place g.way) in
+          elim n.holds.1 [
+            | inl r ↦ absurd (keyless_step text g.separation g.rest z.more g.account g.here s z.is_rest r.1 z.place.is_filled z.is_value z.is_outside z.is_line_taken z.has_none)
+            | inr r ↦ absurd (no_colon_here s z.more z.is_rest z.is_value z.is_outside z.is_line_taken (λ q waiting unbroken near. cc (waiting, r.1.none)))
+          ]
 
-  -- All claims of a text are one.
-  claimed_once : (why1 why2 : Problem) (at1 at2 : Position) → Claim text why1 at1 → Claim text why2 at2 → (why1 ≡ why2) × (at1 ≡ at2)
-  claimed_once why1 why2 at1 at2 (fails_there f) (fails_there g) = failing_once why1 why2 at1 at2 f g
-  claimed_once why1 why2 at1 at2 (fails_there f) (keyless k) = absurd (keyless_alone why1 at1 at2 f k)
-  claimed_once why1 why2 at1 at2 (keyless k) (fails_there f) = absurd (keyless_alone why2 at2 at1 f k)
-  claimed_once why1 why2 at1 at2 (keyless k) (keyless l) = (refl, keyless_once at1 at2 k l)
+-- All claims of a text are one.
+pub stuck_once : (text : List ℕ) (why1 why2 : Problem) (at1 at2 : Position) → IsStuck text why1 at1 → IsStuck text why2 at2 → (why1 ≡ why2) × (at1 ≡ at2)
+stuck_once text why1 why2 at1 at2 s t = by f.says g.says
+  where
+    f : Claim text why1 at1
+    f = claim_of text why1 at1 s
 
-  pub stuck_once : (why1 why2 : Problem) (at1 at2 : Position) → IsStuck text why1 at1 → IsStuck text why2 at2 → (why1 ≡ why2) × (at1 ≡ at2)
-  stuck_once why1 why2 at1 at2 s t = claimed_once why1 why2 at1 at2 (claim_of text why1 at1 s) (claim_of text why2 at2 t)
+    g : Claim text why2 at2
+    g = claim_of text why2 at2 t
+
+    by : FailsFirst f.account f.separation f.here f.rest why1 at1 ⊎ ((why1 ≡ ValueNotAllowed) × (at1 ≡ f.here) × Keyless text f.account f.separation f.rest f.here) → FailsFirst g.account g.separation g.here g.rest why2 at2 ⊎ ((why2 ≡ ValueNotAllowed) × (at2 ≡ g.here) × Keyless text g.account g.separation g.rest g.here) → (why1 ≡ why2) × (at1 ≡ at2)
+    by (inl x) (inl y) = failing_once text f g x y
+    by x (inr y) = let r = keyless_once text f g y.2 in (r.0 ∙ sym y.0, r.1 ∙ sym y.1)
+    by (inr x) y = let r = keyless_once text g f x.2 in (x.0 ∙ sym r.0, x.1 ∙ sym r.1)

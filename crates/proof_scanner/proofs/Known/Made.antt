@@ -1,5 +1,5 @@
 -- What a step makes of a line: where a key waits after it, and how it came to wait.
-use Rattle.proof_scanner.proofs.Common.{[], Account, account_past, Act, act_of, ap, begins_free_line, begun_by, Bool, entries_past, Entry, false, free, gives_node, has_break, if◌then◌else◌, is_in_column, is_in_flow, is_renewed, is_waiting, LikeLine, Line, line_past, line_past_separation, List, may_stand, None, on_one_line, Option, Outside, past_inside, past_outside, past_piece, Position, refl, Site, site_at, site_past, Some, Step, sym, true, waits, ℕ, ◌&&◌, ◌∙◌, ◌∷◌, ◌≡◌, arith}
+use Rattle.proof_scanner.proofs.Common.{cases_Bool, inl, inr, [], Account, account_past, Act, act_of, ap, begins_free_line, begun_by, Bool, entries_past, Entry, false, free, gives_node, has_break, if◌then◌else◌, is_in_column, is_in_flow, is_renewed, is_waiting, LikeLine, Line, line_past, line_past_separation, List, may_stand, None, on_one_line, Option, Outside, past_inside, past_outside, past_piece, Position, refl, Site, site_at, site_past, Some, Step, sym, true, waits, ℕ, ◌&&◌, ◌∙◌, ◌∷◌, ◌≡◌, arith}
 use Rattle.proof_row.proofs.RowLines.{separation_step}
 use Rattle.proof_scanner.proofs.Sound.Sides.{with_entries}
 
@@ -53,15 +53,13 @@ made s l [] w next b e = by (may_stand false s at w.separation w.piece w.shown n
       where
         to : (o : Option Outside) → line_past (is_in_column at.position.col at.blocks) at.position at.blocks (act_of w.shown) w.key m ≡ o → on_one_line w.piece (past_outside at w.piece w.shown next o) ≡ Some b → Made s l [] w next b
         to None g e = absurd (cc e)
-        to (Some o) g e = last (has_break w.piece && is_waiting o.line) refl e
-          where
-            past : Account
-            past = record { site = site_past false at w.piece w.shown next o.blocks; line = o.line; entries = begun_by w.shown }
-
-            last : (d : Bool) → (has_break w.piece && is_waiting o.line) ≡ d → (if d then None else Some past) ≡ Some b → Made s l [] w next b
-            last true h e = absurd (cc e)
-            last false h e = let same : past ≡ b = same_of past b e in
-                outside m o refl f g (ap (λ (a : Account). a.line) (sym same)) (ap (λ (a : Account). a.site) (sym same)) (ap (λ (a : Account). has_break w.piece && is_waiting a.line) (sym same) ∙ h)
+        to (Some o) g e = elim (cases_Bool (has_break w.piece && is_waiting o.line)) [
+          | inl h ↦ absurd (let none = rw h at e in cc none)
+          | inr h ↦
+              let past : Account = record { site = site_past false at w.piece w.shown next o.blocks; line = o.line; entries = begun_by w.shown } in
+              let same : past ≡ b = same_of past b (rw h at e) in
+              outside m o refl f g (ap (λ (a : Account). a.line) (sym same)) (ap (λ (a : Account). a.site) (sym same)) (ap (λ (a : Account). has_break w.piece && is_waiting a.line) (sym same) ∙ h)
+        ]
     by c m f e = grind arith
 made s l (d ∷ ds) w next b e = by (may_stand true s at w.separation w.piece w.shown next) (line_past_separation true (begins_free_line s.before w.separation) l) refl e
   where
@@ -70,8 +68,7 @@ made s l (d ∷ ds) w next b e = by (may_stand true s at w.separation w.piece w.
 
     by : (c : Bool) (m : Option Line) → line_past_separation true (begins_free_line s.before w.separation) l ≡ m
         → (if c then on_one_line w.piece (past_piece at w.piece w.shown next (is_renewed s.before w.separation) w.key m (d ∷ ds)) else None) ≡ Some b → Made s l (d ∷ ds) w next b
-    by true (Some m) f e = to (entries_past at.position (is_renewed s.before w.separation) (act_of w.shown) (begun_by w.shown) w.key d ds) e
-      where
-        to : (o : Option (List Entry)) → on_one_line w.piece (past_inside at w.piece w.shown next m o) ≡ Some b → Made s l (d ∷ ds) w next b
-        to o e = grind (arith, inside, f)
+    by true (Some m) f e =
+        let to : (o : Option (List Entry)) → on_one_line w.piece (past_inside at w.piece w.shown next m o) ≡ Some b → Made s l (d ∷ ds) w next b = λ o e. grind (arith, inside, f) in
+        to (entries_past at.position (is_renewed s.before w.separation) (act_of w.shown) (begun_by w.shown) w.key d ds) e
     by c m f e = grind arith

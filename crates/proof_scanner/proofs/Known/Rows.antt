@@ -1,9 +1,27 @@
 -- A beginning of a row that goes on past a place does so by the step that was read there, from a beginning up to there; and where a piece begins, a way leads.
-use Rattle.proof_scanner.proofs.Common.{[], Account, account_past, ap, arith, Begins, Bool, chosen, clean_up_to_end, Entry, false, first_account, FlowLevel, GoesThrough, has_no_nul, HasRow, is_empty, is_separation, IsLike, IsRowFrom, IsWritten, Key, Leads, length, length-append, line_by, List, may_end, no_nul_after, None, not, Option, outside_key, refl, Row, same_written, ScannerState, Some, spelled, Step, subst, sym, true, up_to_nul, ℕ, ◌++◌, ◌<◌, ◌∙◌, ◌∷◌, ◌≡◌, ◌≤◌}
+use Rattle.proof_scanner.proofs.Common.{cases_Bool, inl, inr, nat_tests, eqb-true, [], Account, account_past, ap, arith, Begins, Bool, chosen, clean_up_to_end, Entry, false, first_account, FlowLevel, GoesThrough, has_no_nul, HasRow, is_empty, is_separation, IsLike, IsRowFrom, IsWritten, Key, Leads, length, length-append, line_by, List, may_end, no_nul_after, None, not, Option, outside_key, refl, Row, same_written, ScannerState, Some, spelled, Step, subst, sym, true, up_to_nul, ℕ, ◌++◌, ◌∙◌, ◌∷◌, ◌≡◌, ◌≤◌, begins_separation, ends_separation, is_blank_or_end, no_piece_at_end, not_empty, seen, separations, separations_end_before, shown_position}
 use Rattle.defs_token.specs.Piece.{Holds}
 use Rattle.proof_scanner.proofs.Known.Ways.{first_on, gives_up_like, GivesUp, KeepsOn, LeadsBy, Meet, meet, moved, Same, same_place, second_on, strict_way, strictly, Way, way_but_for_key, way_of, With}
 use Rattle.proof_scanner.proofs.Sound.Common.{ArrivesBy, begins_at_start, begins_past, none_chosen, not_none, with_entries}
-use Rattle.proof_scanner.proofs.Known.Places.{at_end}
+use Rattle.proof_row.proofs.Written.{At}
+
+-- what begins no separation ends one
+pub ends_before : (r : List ℕ) → begins_separation r ≡ false → has_no_nul r ≡ true → ends_separation r ≡ true
+unfolding is_blank_or_end
+ends_before r s h = grind arith
+
+-- the separation of a written step ends before its piece
+pub piece_ends : (a : Account) (w : Step) (next : List ℕ) → IsWritten a w next → ends_separation (w.piece ++ next) ≡ true
+piece_ends a w next h = separations_end_before (seen a (At a w next) w.separation) w.piece next None (shown_position (At a w next) w.piece w.shown next) w.shown (not_empty w.piece h.1.0) h.1.1
+
+-- Where a separation was passed and a piece begins, the next step has this separation, and its piece stands here.
+pub step_here : (a : Account) (w : Step) (next separation rest : List ℕ) → IsWritten a w next → w.separation ++ (w.piece ++ next) ≡ separation ++ rest → is_separation false separation rest ≡ true → begins_separation rest ≡ false → has_no_nul rest ≡ true →
+    (w.separation ≡ separation) × (w.piece ++ next ≡ rest)
+step_here a w next separation rest written e f s n = separations w.separation separation (w.piece ++ next) rest (written.0, piece_ends a w next written) (f, ends_before rest s n) e
+
+-- no step begins in the separation at a text's end
+pub at_end : (b : Account) (v : Step) (f next : List ℕ) → is_separation false f [] ≡ true → IsWritten b v next → f ≡ v.separation ++ (v.piece ++ next) → ⊥
+at_end b v f a h k e = grind (arith, no_piece_at_end, not_empty)
 
 -- ---- lengths
 
@@ -11,8 +29,13 @@ spelled_longer : (ws : List Step) (after : List ℕ) → length after ≤ length
 spelled_longer [] after = omega arith
 spelled_longer (w ∷ ws) after = grind (arith, length-append, spelled_longer ws after)
 
-longer : (w : Step) (next : List ℕ) → not (is_empty w.piece) ≡ true → length next < length (w.separation ++ (w.piece ++ next))
-longer w next some = grind (arith, length-append, not_none)
+-- no text is left with a piece before it
+never : (us ws : List Step) (f w after : List ℕ) → not (is_empty w) ≡ true → after ≡ spelled us (f ++ (w ++ spelled ws after)) → ⊥
+never us ws f w after some e =
+    let outer = spelled_longer us (f ++ (w ++ spelled ws after)) in
+    let inner = spelled_longer ws after in
+    let same = ap length e in
+    absurd (grind (arith, length-append, not_none, outer, inner, same, some))
 
 -- no step leads to where a text begins
 pub begins_whole : (text after : List ℕ) (b : Account) → after ≡ up_to_nul text → Begins text after b → first_account ≡ b
@@ -20,11 +43,7 @@ begins_whole text after b whole g = by g.steps g.leads (g.spells ∙ sym whole)
   where
     by : (ws : List Step) → Leads (Some first_account) ws after b → spelled ws after ≡ after → first_account ≡ b
     by [] h e = h
-    by (w ∷ ws) h e =
-        let more = longer w (spelled ws after) h.0.1.0 in
-        let on = spelled_longer ws after in
-        let same = ap length e in
-        absurd (omega (arith, more, on, same))
+    by (w ∷ ws) h e = absurd (never [] ws w.separation w.piece after h.0.1.0 (sym e))
 
 -- ---- past a step
 
@@ -41,10 +60,8 @@ SecondBegins text x y after = Begins text after y × Holds (has_no_nul after)
 
 pub keeps : (text : List ℕ) → KeepsOn GivesUp Same (SecondBegins text)
 keeps text = record {
-  first_like = λ x y z g i. gives_up_like x z y g i;
-  second_like = λ x y z e i. rw (sym e) i;
-  first = λ x y z after i g r. r;
-  second = λ x y z after i e r. (rw (sym e) r.0, r.1);
+  first = λ x y z after g r. (gives_up_like x z y g r.0, r.1);
+  second = λ x y z after e r. rw (sym e) r;
   both = λ x y a b v c next i r k l e f. (begins_past text _ y b (With v c) next refl l f r.0, no_nul_after v.piece next (no_nul_after v.separation (v.piece ++ next) r.1));
 }
 
@@ -54,12 +71,8 @@ came_by text a w next b way written g =
     (strict_way text next b g).leads (way.spells ∙ sym (strict_way text next b g).spells) (rw way.spells (clean_up_to_end text)))
   where
     by : Meet GivesUp Same (SecondBegins text) a b (w.separation ++ (w.piece ++ next)) next → Came text a w next b
-    by (same_place i r e) = let more = longer w next written.1.0 in let same = ap length e in absurd (omega (arith, more, same))
-    by (first_on n) =
-        let more = longer w next written.1.0 in
-        let on = spelled_longer (n.step ∷ n.steps) (w.separation ++ (w.piece ++ next)) in
-        let same = ap length n.spells in
-        absurd (omega (arith, more, on, same))
+    by (same_place i r e) = absurd (never [] [] w.separation w.piece next written.1.0 (sym e))
+    by (first_on n) = absurd (never (n.step ∷ n.steps) [] w.separation w.piece next written.1.0 (sym n.spells))
     by (second_on n) = to n.steps n.leads same.3 (subst (λ v. account_past n.account v (spelled n.steps next) ≡ Some n.past) (moved n.step w (sym same.0) (sym same.1) (sym same.2)) n.is_past)
       where
         same : (w.separation ≡ n.step.separation) × (w.piece ≡ n.step.piece) × (w.shown ≡ n.step.shown) × (next ≡ spelled n.steps next)
@@ -67,11 +80,7 @@ came_by text a w next b way written g =
 
         to : (ws : List Step) → LeadsBy Same (Some n.past) ws next b → next ≡ spelled ws next → account_past n.account (With w n.step.key) (spelled ws next) ≡ Some n.past → Came text a w next b
         to [] h e past = record { from = n.account; key = n.step.key; is_like = n.is_like; begins = n.holds.0; is_past = past ∙ ap (λ x. Some x) h }
-        to (v ∷ ws) h e past =
-            let more = longer v (spelled ws next) h.2.1.0 in
-            let on = spelled_longer ws next in
-            let same = ap length e in
-            absurd (omega (arith, more, on, same))
+        to (v ∷ ws) h e past = absurd (never [] ws v.separation v.piece next h.2.1.0 e)
 
 -- ---- ways to where a piece begins
 
@@ -79,11 +88,10 @@ module _ (text : List ℕ) (t : ScannerState) (some : is_empty t.rest ≡ false)
   -- outside flow, with a choice for the open key
   pub way_outside : (k : Option Key) (a : ArrivesBy text t [] (k ∷ []) []) → (c : Bool) × Way GivesUp text (a.separation ++ t.rest) (with_entries a.site (line_by c k a.line) [])
   way_outside None a = (false, way_of text _ _ (a.completes true false [] tt).0)
-  way_outside (Some x) a = by x.required refl
-    where
-      by : (b : Bool) → x.required ≡ b → (c : Bool) × Way GivesUp text (a.separation ++ t.rest) (with_entries a.site (line_by c (Some x) a.line) [])
-      by true e = (true, way_of text _ _ (a.completes true true [] ((a.is_near refl).0, some)).0)
-      by false e = (false, way_of text _ _ (a.completes true false [] e).0)
+  way_outside (Some x) a = elim (cases_Bool x.required) [
+    | inl e ↦ (true, way_of text _ _ (a.completes true true [] ((a.is_near refl).0, some)).0)
+    | inr e ↦ (false, way_of text _ _ (a.completes true false [] e).0)
+  ]
 
   -- in flow, where no open key is one
   pub way_inside : (f : FlowLevel) (fs : List FlowLevel) (k : Option Key) (ks : List (Option Key)) (e : Entry) (es : List Entry) (a : ArrivesBy text t (f ∷ fs) (k ∷ ks) (e ∷ es)) → Way GivesUp text (a.separation ++ t.rest) (with_entries a.site a.line (e ∷ es))
@@ -94,13 +102,16 @@ module _ (text : List ℕ) (t : ScannerState) (some : is_empty t.rest ≡ false)
 
       by : (y : Option Key) → outside_key es ks ≡ y → Way GivesUp text (a.separation ++ t.rest) (chosen false [] (k ∷ ks) base)
       by None i = way_of text _ _ (a.completes true false [] (rw i tt)).0
-      by (Some x) i = of x.required refl
-        where
-          of : (b : Bool) → x.required ≡ b → Way GivesUp text (a.separation ++ t.rest) (chosen false [] (k ∷ ks) base)
-          of true m = way_but_for_key text (a.separation ++ t.rest) x.position (chosen false [] (k ∷ ks) base) (a.carries [] x i m refl some)
-          of false m = way_of text _ _ (a.completes true false [] (rw i m)).0
+      by (Some x) i = elim (cases_Bool x.required) [
+        | inl m ↦ way_but_for_key text (a.separation ++ t.rest) x.position (chosen false [] (k ∷ ks) base) (a.carries [] x i m refl some)
+        | inr m ↦ way_of text _ _ (a.completes true false [] (rw i m)).0
+      ]
 
 -- ---- a row of a text goes through each place that a way leads to, at an account that is like the way's; and so through the place after a step that was read there
+
+-- a row goes on from an account
+pub some_row : (o : Option Account) (ws : List Step) (last : List ℕ) → IsRowFrom o ws last → (c : Account) × (o ≡ Some c) × IsRowFrom (Some c) ws last
+some_row o ws last h = grind (arith, nat_tests, eqb-true)
 
 -- Where the steps of a row lead.
 record RowEnd (o : Option Account) (ws : List Step) (last : List ℕ) : Type 0 where
@@ -164,11 +175,7 @@ goes_past text a w next way written r h = by g.steps g.is_row g.spells
 
     by : (us : List Step) → IsRowFrom (Some g.account) us g.last → spelled us g.last ≡ before → GoesThrough text next
     by [] row e = absurd (at_end a w g.last next row.0 written e)
-    by (u ∷ us) row e = to (account_past g.account u (spelled us g.last)) refl row.1
-      where
-        to : (o : Option Account) → account_past g.account u (spelled us g.last) ≡ o → IsRowFrom o us g.last → GoesThrough text next
-        to None f k = absurd k
-        to (Some b) f k =
-            let same : spelled us g.last ≡ next = sym ((same_written a g.account w u next (spelled us g.last) g.is_like written row.0 (sym e) g.holds.1).3) in
-            let there : Begins text next b = rw (sym same) (begins_past text before g.account b u (spelled us g.last) (sym e) row.0 f g.holds.0) in
-            record { account = b; begins = there; steps = us; last = g.last; is_row = k; spells = same }
+    by (u ∷ us) row e =
+        let c = some_row (account_past g.account u (spelled us g.last)) us g.last row.1 in
+        let same : spelled us g.last ≡ next = sym ((same_written a g.account w u next (spelled us g.last) g.is_like written row.0 (sym e) g.holds.1).3) in
+        record { account = c.0; begins = subst (λ n. Begins text n c.0) same (begins_past text before g.account c.0 u (spelled us g.last) (sym e) row.0 c.1 g.holds.0); steps = us; last = g.last; is_row = c.2; spells = same }

@@ -23,10 +23,6 @@ known_at_start text after p whole = record { waiting = λ b begin g e l i. absur
 
 -- ---- lines
 
--- where a line is taken, and no line begins, none like it is free
-none_free : (broken c : Bool) (k : Option Key) (l n u m : Line) → line_past_separation false broken l ≡ Some n → n ≡ taken → LikeLine (line_by c k l) u → line_past_separation false broken u ≡ Some m → m ≡ free → ⊥
-none_free a c k l n u m h t i j f = grind arith
-
 -- whether a key may begin with a piece
 abbrev pub begins_key : Act → Bool
 begins_key gives_node = true
@@ -44,10 +40,9 @@ module _ (text : List ℕ) (a : Account) (w : Step) (next : List ℕ) (written :
   }
     where
       line : (b : Account) (c : Came text a w next b) → line_past_separation true (begins_free_line c.from.site.before w.separation) c.from.line ≡ Some b.line
-      line b c = by (made c.from.site c.from.line c.from.entries (With w c.key) next b c.is_past)
-        where
-          by : Made c.from.site c.from.line c.from.entries (With w c.key) next b → line_past_separation true (begins_free_line c.from.site.before w.separation) c.from.line ≡ Some b.line
-          by a = grind (arith, same_flow)
+      line b c =
+          let by : Made c.from.site c.from.line c.from.entries (With w c.key) next b → line_past_separation true (begins_free_line c.from.site.before w.separation) c.from.line ≡ Some b.line = λ a. grind (arith, same_flow) in
+          by (made c.from.site c.from.line c.from.entries (With w c.key) next b c.is_past)
 
   -- ---- outside flow
 
@@ -56,10 +51,9 @@ module _ (text : List ℕ) (a : Account) (w : Step) (next : List ℕ) (written :
   none_known p fl idle way = record { waiting = λ b begin g e l i. none b begin (came_by text a w next b way written g) e; required = λ b x g e m. absurd (cc e); rows = goes_past text a w next way written }
     where
       none : (b : Account) (begin : Position) → Came text a w next b → b.line ≡ waits begin → ⊥
-      none b begin c e = by (made c.from.site c.from.line c.from.entries (With w c.key) next b c.is_past)
-        where
-          by : Made c.from.site c.from.line c.from.entries (With w c.key) next b → ⊥
-          by a = grind (arith, nat_tests, eqb-true, same_flow, waits_past)
+      none b begin c e =
+          let by : Made c.from.site c.from.line c.from.entries (With w c.key) next b → ⊥ = λ a. grind (arith, nat_tests, eqb-true, same_flow, waits_past) in
+          by (made c.from.site c.from.line c.from.entries (With w c.key) next b c.is_past)
 
 -- a part of a node, or a block scalar
 abbrev pub is_of_node : Act → Bool
@@ -109,12 +103,13 @@ module _ (text : List ℕ) (s : Site) (l line_here : Line) (allowed : Bool) (k :
     where
       opened : (d : Bool) (y : Option Key) → allowed ≡ d → k ≡ y → (b : Account) (begin : Position) (x : Past b) → Waits (is_in_column here.col at.blocks) here at.blocks (act_of w.shown) x.line x.after begin → p.line ≤ begin.line → p.index ≤ begin.index + 1024 → IsAt (saved d new y) begin
       opened true y i j b begin x (begun act f h bs) near_line near_index = place ∙ h
-      opened false y i j b begin x (begun act f h bs) near_line near_index = absurd (none_free (begins_free_line s.before w.separation) c k l line_here x.from.line x.line sep_is (grind (arith, line_is)) x.is_like x.sep f)
+      opened false y i j b begin x (begun act f h bs) near_line near_index =
+          -- where a line is taken, and no line begins, none like it is free
+          let none_free : (broken c : Bool) (k : Option Key) (l n u m : Line) → line_past_separation false broken l ≡ Some n → n ≡ taken → LikeLine (line_by c k l) u → line_past_separation false broken u ≡ Some m → m ≡ free → ⊥ = λ a c k l n u m h t i j f. grind arith in
+          absurd (none_free (begins_free_line s.before w.separation) c k l line_here x.from.line x.line sep_is (grind (arith, line_is)) x.is_like x.sep f)
       opened d y i j b begin x (kept act f bs) near_line near_index =
+          let old : (d : Bool) (y : Option Key) → allowed ≡ d → k ≡ y → IsAt y begin → IsAt (saved d new y) begin = λ a y i j h. grind arith in
           old d y i j (rw (sym j) (n.waiting x.from begin x.begins (waited false (begins_free_line s.before w.separation) x.from.line x.line begin x.sep f).0 near_line near_index))
-        where
-          old : (d : Bool) (y : Option Key) → allowed ≡ d → k ≡ y → IsAt y begin → IsAt (saved d new y) begin
-          old a y i j h = grind arith
 
       waited_on : (d : Bool) (y : Option Key) → allowed ≡ d → k ≡ y → (b : Account) (x : Key) (z : Past b) → saved d new y ≡ Some x → x.required ≡ true → z.after.line ≡ waits x.position
       waited_on true (Some y) i j b x z e m = absurd (grind (arith, line_is))

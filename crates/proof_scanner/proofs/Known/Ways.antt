@@ -108,56 +108,42 @@ pub data Meet (J K : Account → Account → Type 0) (R : Account → Account �
 pub moved : (w v : Step) → w.separation ≡ v.separation → w.piece ≡ v.piece → w.shown ≡ v.shown → w ≡ With v w.key
 moved w v f p t = grind arith
 
+-- what is kept by each step that two ways make
+abbrev pub Keeps : (R : Account → Account → List ℕ → Type 0) → Type 0
+Keeps R =
+    (x y a b : Account) (v : Step) (c : Bool) (next : List ℕ) → IsLike x y → R x y (v.separation ++ (v.piece ++ next)) → IsWritten x v next → IsWritten y (With v c) next → account_past x v next ≡ Some a → account_past y (With v c) next ≡ Some b → R a b next
+
 -- What is kept along two ways: where an account changes, and by each step that both make.
 pub record KeepsOn (J K : Account → Account → Type 0) (R : Account → Account → List ℕ → Type 0) : Type 0 where
-  pub first_like : (x y z : Account) → J x z → IsLike x y → IsLike z y
-  pub second_like : (x y z : Account) → K y z → IsLike x y → IsLike x z
-  pub first : (x y z : Account) (after : List ℕ) → IsLike x y → J x z → R x y after → R z y after
-  pub second : (x y z : Account) (after : List ℕ) → IsLike x y → K y z → R x y after → R x z after
-  pub both : (x y a b : Account) (v : Step) (c : Bool) (next : List ℕ) → IsLike x y → R x y (v.separation ++ (v.piece ++ next)) → IsWritten x v next → IsWritten y (With v c) next → account_past x v next ≡ Some a → account_past y (With v c) next ≡ Some b → R a b next
+  pub first : (x y z : Account) (after : List ℕ) → J x z → IsLike x y × R x y after → IsLike z y × R z y after
+  pub second : (x y z : Account) (after : List ℕ) → K y z → IsLike x y × R x y after → IsLike x z × R x z after
+  pub both : Keeps R
+
+-- steps lead on from an account
+pub leads_on : (J : Account → Account → Type 0) (o : Option Account) (ws : List Step) (after : List ℕ) (b : Account) → LeadsBy J o ws after b → (c : Account) × (o ≡ Some c) × LeadsBy J (Some c) ws after b
+leads_on J None ws after b h = absurd h
+leads_on J (Some c) ws after b h = (c, refl, h)
 
 module _ (J K : Account → Account → Type 0) (R : Account → Account → List ℕ → Type 0) (keeps : KeepsOn J K R) where
   pub meet : (vs ws : List Step) (after1 after2 : List ℕ) (x y a b : Account) → IsLike x y → R x y (spelled vs after1) → LeadsBy J (Some x) vs after1 a → LeadsBy K (Some y) ws after2 b → spelled vs after1 ≡ spelled ws after2 → Holds (has_no_nul (spelled vs after1)) → Meet J K R a b after1 after2
-  meet [] [] after1 after2 x y a b i r h k e c = grind (arith, same_place)
-  meet [] (w ∷ ws) after1 after2 x y a b i r h k e c = to (account_past k.0 w (spelled ws after2)) refl k.3
-    where
-      like : IsLike a y
-      like = keeps.first_like x y a h i
-
-      to : (o : Option Account) → account_past k.0 w (spelled ws after2) ≡ o → LeadsBy K o ws after2 b → Meet J K R a b after1 after2
-      to None f l = absurd l
-      to (Some p) f l = second_on (record { account = k.0; is_like = keeps.second_like a y k.0 k.1 like; holds = keeps.second a y k.0 after1 like k.1 (keeps.first x y a after1 i h r); step = w; steps = ws; past = p; is_written = k.2; is_past = f; leads = l; spells = sym e })
-  meet (v ∷ vs) [] after1 after2 x y a b i r h k e c = to (account_past h.0 v (spelled vs after1)) refl h.3
-    where
-      like : IsLike h.0 y
-      like = keeps.first_like x y h.0 h.1 i
-
-      rest : R h.0 b after2
-      rest = rw (sym e) (keeps.second h.0 y b (spelled (v ∷ vs) after1) like k (keeps.first x y h.0 (spelled (v ∷ vs) after1) i h.1 r))
-
-      to : (o : Option Account) → account_past h.0 v (spelled vs after1) ≡ o → LeadsBy J o vs after1 a → Meet J K R a b after1 after2
-      to None f l = absurd l
-      to (Some p) f l = first_on (record { account = h.0; is_like = like_sym h.0 b (keeps.second_like h.0 y b k like); holds = rest; step = v; steps = vs; past = p; is_written = h.2; is_past = f; leads = l; spells = e })
+  meet [] [] after1 after2 x y a b i r h k e c = let l = keeps.second a y b after1 k (keeps.first x y a after1 h (i, r)) in same_place l.0 l.1 e
+  meet [] (w ∷ ws) after1 after2 x y a b i r h k e c =
+      let l = keeps.second a y k.0 after1 k.1 (keeps.first x y a after1 h (i, r)) in
+      let n = leads_on K (account_past k.0 w (spelled ws after2)) ws after2 b k.3 in
+      second_on (record { account = k.0; is_like = l.0; holds = l.1; step = w; steps = ws; past = n.0; is_written = k.2; is_past = n.1; leads = n.2; spells = sym e })
+  meet (v ∷ vs) [] after1 after2 x y a b i r h k e c =
+      let l = keeps.second h.0 y b (spelled (v ∷ vs) after1) k (keeps.first x y h.0 (spelled (v ∷ vs) after1) h.1 (i, r)) in
+      let n = leads_on J (account_past h.0 v (spelled vs after1)) vs after1 a h.3 in
+      first_on (record { account = h.0; is_like = like_sym h.0 b l.0; holds = rw (sym e) l.1; step = v; steps = vs; past = n.0; is_written = h.2; is_past = n.1; leads = n.2; spells = e })
   meet (v ∷ vs) (w ∷ ws) after1 after2 x y a b i r h k e c =
-      to (account_past h.0 v n) (account_past k.0 w m) refl refl h.3 k.3 (account_step h.0 k.0 v w n m like same.0 same.1 same.2 same.3) (λ g f i2 r2 l o. meet vs ws after1 after2 g f a b i2 r2 l o same.3 (no_nul_after v.piece n (no_nul_after v.separation (v.piece ++ n) c)))
-    where
-      n : List ℕ
-      n = spelled vs after1
-
-      m : List ℕ
-      m = spelled ws after2
-
-      like : IsLike h.0 k.0
-      like = keeps.second_like h.0 y k.0 k.1 (keeps.first_like x y h.0 h.1 i)
-
-      rest : R h.0 k.0 (spelled (v ∷ vs) after1)
-      rest = keeps.second h.0 y k.0 (spelled (v ∷ vs) after1) (keeps.first_like x y h.0 h.1 i) k.1 (keeps.first x y h.0 (spelled (v ∷ vs) after1) i h.1 r)
-
-      same : (v.separation ≡ w.separation) × (v.piece ≡ w.piece) × (v.shown ≡ w.shown) × (n ≡ m)
-      same = same_written h.0 k.0 v w n m like h.2 k.2 e c
-
-      to : (g f : Option Account) → account_past h.0 v n ≡ g → account_past k.0 w m ≡ f → LeadsBy J g vs after1 a → LeadsBy K f ws after2 b → Stepped IsLike ((h.0 ≡ k.0) × (v ≡ w)) g f
-          → ((g f : Account) → IsLike g f → R g f n → LeadsBy J (Some g) vs after1 a → LeadsBy K (Some f) ws after2 b → Meet J K R a b after1 after2) → Meet J K R a b after1 after2
-      to (Some g) (Some f) ge fe l o s on =
-          on g f s.0 (keeps.both h.0 k.0 g f v w.key n like rest h.2 (rw same.3 (subst (λ z. IsWritten k.0 z m) (moved w v (sym same.0) (sym same.1) (sym same.2)) k.2)) ge (rw same.3 (subst (λ z. account_past k.0 z m ≡ Some f) (moved w v (sym same.0) (sym same.1) (sym same.2)) fe))) l o
-      to g f ge fe l o s on = absurd (grind arith)
+      let n : List ℕ = spelled vs after1 in
+      let m : List ℕ = spelled ws after2 in
+      let l = keeps.second h.0 y k.0 (spelled (v ∷ vs) after1) k.1 (keeps.first x y h.0 (spelled (v ∷ vs) after1) h.1 (i, r)) in
+      let same : (v.separation ≡ w.separation) × (v.piece ≡ w.piece) × (v.shown ≡ w.shown) × (n ≡ m) = same_written h.0 k.0 v w n m l.0 h.2 k.2 e c in
+      let moves : w ≡ With v w.key = moved w v (sym same.0) (sym same.1) (sym same.2) in
+      let g = leads_on J (account_past h.0 v n) vs after1 a h.3 in
+      let f = leads_on K (account_past k.0 w m) ws after2 b k.3 in
+      let stepped : Stepped IsLike ((h.0 ≡ k.0) × (v ≡ w)) (Some g.0) (Some f.0) = rw (g.1, f.1) at (account_step h.0 k.0 v w n m l.0 same.0 same.1 same.2 same.3) in
+      meet vs ws after1 after2 g.0 f.0 a b stepped.0
+      (keeps.both h.0 k.0 g.0 f.0 v w.key n l.0 l.1 h.2 (rw same.3 (subst (λ z. IsWritten k.0 z m) moves k.2)) g.1 (rw same.3 (subst (λ z. account_past k.0 z m ≡ Some f.0) moves f.1)))
+      g.2 f.2 same.3 (no_nul_after v.piece n (no_nul_after v.separation (v.piece ++ n) c))

@@ -1,5 +1,5 @@
 -- What may follow a scalar in quotes is not refused.
-use Rattle.proof_scanner.proofs.Common.{[], ap, append_assoc, arith, At, begins_with, Bool, check_after_quoted, ends_spaces, Err, false, Fault, glued, has_break, HasSpaces, held_of, if◌then◌else◌, in_flow, is_blank, is_blanks, is_blanks_and_comment, is_break, is_on_line, is_rest_of_line, is_separation, IsGlued, leading, lexed, line_is_done, List, may_follow_quoted, nat_tests, Ok, or_left, peek, Position, position_after, quoted_may_end, Read, refl, Result, ScannerState, skip_spaces, space, spaces_are_passed, true, Whitespace, Yes, ℕ, ◌++◌, ◌==◌, ◌∙◌, ◌∷◌, ◌≡◌, eqb-true, ContentAfterQuoted, EndsAs}
+use Rattle.proof_scanner.proofs.Common.{[], ap, append_assoc, arith, At, begins_with, Bool, check_after_quoted, ends_spaces, Err, false, Fault, glued, has_break, HasSpaces, held_of, if◌then◌else◌, in_flow, is_blank, is_blanks, is_blanks_and_comment, is_break, is_on_line, is_separation, IsGlued, leading, lexed, line_is_done, List, may_follow_quoted, nat_tests, Ok, or_left, peek, Position, position_after, quoted_may_end, Read, refl, Result, ScannerState, skip_spaces, space, spaces_are_passed, true, Whitespace, Yes, ℕ, ◌++◌, ◌==◌, ◌∙◌, ◌∷◌, ◌≡◌, eqb-true, ContentAfterQuoted, EndsAs}
 use Rattle.proof_lexers.specs.Ends as ends
 use Rattle.yaml_chars.specs.Class as model_classes
 use Rattle.proof_lexers.specs.PlainEnds as plains
@@ -30,23 +30,15 @@ skipped t none = by (space Yes t.rest t.held.position) refl (spaces_are_passed Y
 -- ---- what stands there
 
 -- a line on which something other than a comment stands after blanks holds more
+more_stands : (s : List ℕ) (d : ℕ) (r : List ℕ) → is_blanks s ≡ true → is_break d ≡ false → is_blank d ≡ false → (d == 35) ≡ false → is_blanks_and_comment (leading is_on_line (s ++ d ∷ r)) ≡ false
+unfolding is_blank is_break
+more_stands [] d r b e f g = rw (e, g, f) refl
+more_stands (c ∷ s) d r b e f g = grind (arith, nat_tests, more_stands s d r)
+
 pub not_done : (s : List ℕ) (d : ℕ) (r : List ℕ) → is_blanks s ≡ true → is_break d ≡ false → is_blank d ≡ false → (d == 35) ≡ false → line_is_done (s ++ d ∷ r) ≡ false
 unfolding is_blank is_break
-not_done s d r b e f g = ap is_rest_of_line (on_line s b) ∙ (grind (arith, nat_tests, comment, eqb-true))
-  where
-    tail : List ℕ
-    tail = d ∷ leading is_on_line r
-
-    unbroken : (c : ℕ) → is_blank c ≡ true → is_break c ≡ false
-    unbroken c h = grind (arith, nat_tests, h)
-
-    on_line : (s : List ℕ) → is_blanks s ≡ true → leading is_on_line (s ++ d ∷ r) ≡ s ++ tail
-    on_line [] b = rw e refl
-    on_line (c ∷ s) b = grind (arith, unbroken, on_line s)
-
-    comment : (s : List ℕ) → is_blanks s ≡ true → is_blanks_and_comment (s ++ tail) ≡ false
-    comment [] b = rw (g, f) refl
-    comment (c ∷ s) b = grind (arith, nat_tests, comment s)
+not_done [] d r b e f g = rw (e, f, g) refl
+not_done (c ∷ s) d r b e f g = grind (arith, nat_tests, more_stands s d r)
 
 -- what stands after the blanks and a comment may follow
 follows : (flow : Bool) (piece s rest : List ℕ) (same : Bool) → (has_break piece ≡ false → same ≡ true) → is_separation false s rest ≡ true → plains.has_break s ≡ false → ends_spaces Yes rest ≡ true → quoted_may_end flow piece (s ++ rest) ≡ true → may_follow_quoted flow same (peek rest) ≡ true

@@ -2,7 +2,7 @@
 use Rattle.proof_scanner.proofs.Common.{[], after_chars, allow_key, and_parts, ap, append-nil, are_empty, AreLines, arith, Arrives, begins_with, block, block_first, block_may_end, block_read, BlockRead, BlockStyle, body, Bool, Break, collection_of, columns, Err, false, Fault, fetch_block_scalar, folded, further_text, has_no_nul, header_of, Held, if◌then◌else◌, indicator_of, innermost, is_at_end, is_break, is_empty, is_in_line, is_literal, is_literal_style, is_nul, is_shallow, is_tabbed, IsBlockFault, leading_spaces, least_column, List, literal, nat_le, nat_lt, nat_tests, no_block, no_nul_after, None, not, Option, past, Position, position_after, Problem, read_body, read_lines, read_may_end, refl, refused_as, ScannerState, Some, spell, spell_more, split, split_spell, style_inner, subst, sym, tab, texts, true, unroll_non_block_indents, ℕ, ◌&&◌, ◌++◌, ◌||◌, ◌∙◌, ◌∷◌, ◌≡◌, eqb-true, cases_Bool, inl, inr, after_line, first_content, first_empty, first_header, further_position, is_empty_line, is_spaces, length, lines_may_end, ◌+◌, ◌≤◌, BlockScalarHeader, BlockScalarIndentation, BlockScalarTab, BlockScalarZero, CommentNotSeparated}
 use Rattle.model_scanner.specs.declared.kind.BlockStyle.TheVariants.{Literal, Folded}
 use Rattle.proof_lexers.proofs.Blocks.Written.{Line, put}
-use Rattle.proof_scanner.proofs.Refusals.Common.{Faults, IsWhy, LiesDeep, Said, end_no_text, goes, looked_at, none_begins, none_here, read, saved_is, saved_keys, some_chars, stuck_by, without_is}
+use Rattle.proof_scanner.proofs.Refusals.Common.{Faults, IsWhy, LiesDeep, Told, end_no_text, goes, looked_at, none_begins, read, saved_is, saved_keys, some_chars, stuck_by, without_is}
 use Rattle.proof_scanner.proofs.Sound.BlockEnds.{IsLeast, Written, written, spaces_col, ends_at_margin}
 use Rattle.proof_scanner.proofs.Refusals.TextsRefused.{header_alone}
 use Rattle.model_scanner.specs.declared.kind.BlockStyle as kind
@@ -16,12 +16,8 @@ use Rattle.proof_scanner.specs.NoPiece as none
 -- ---- a scalar without content
 
 -- A line in which no content begins is of spaces alone, and ends at the column or left of it.
-record Passed (column : ℕ) (w y : List ℕ) (p : Position) : Type 0 where
-  are_spaces : is_spaces w ≡ true
-  is_short : p.col + length w ≤ column
-
-passed : (column : ℕ) (w y : List ℕ) (p : Position) → is_in_line w ≡ true → p.col ≤ column → first_content column false p (w ++ y) ≡ None → Passed column w y p
-passed column [] y p inner low h = record { are_spaces = refl; is_short = omega (arith, low) }
+passed : (column : ℕ) (w y : List ℕ) (p : Position) → is_in_line w ≡ true → p.col ≤ column → first_content column false p (w ++ y) ≡ None → (is_spaces w ≡ true) × (p.col + length w ≤ column)
+passed column [] y p inner low h = (refl, omega (arith, low))
 passed column (c ∷ w) y p inner low h = grind (arith, passed column w y (past p))
 
 none_is_empty : (column : ℕ) (ls : List Line) (p : Position) → AreLines ls [] → p.col ≡ 0 → first_content column false p (spell ls []) ≡ None → are_empty column (texts ls) ≡ true
@@ -45,9 +41,6 @@ pub record IsClear (indent : ℕ) (p : Position) (b : BlockRead) (piece next : L
   pub deep : is_shallow indent p b piece next ≡ false
 
 module _ (indent : ℕ) (p : Position) (b : BlockRead) (piece next bs : List ℕ) (least : IsLeast indent bs) (is : block_read (collection_of indent) piece next ≡ Some b) where
-  abbrev Clear : Type 0
-  Clear = IsClear indent p b piece next
-
   -- before further text
   module _ (further : is_at_end next ≡ false) (may : read_may_end bs (block_read (innermost bs) piece next) piece next ≡ true) where
     w : Written piece next
@@ -62,11 +55,11 @@ module _ (indent : ℕ) (p : Position) (b : BlockRead) (piece next bs : List ℕ
         let spaces = spaces_col (position_after p piece next) next in
         omega (arith, margin, spaces)
 
-    before_text : Clear
+    before_text : IsClear indent p b piece next
     before_text = grind (arith, nat_tests, eqb-true, lines_written, w, both, column_is, none_is_empty, first_header)
 
   -- What stands after a block scalar that may end is not refused.
-  pub block_is_clear : has_no_nul next ≡ true → block_may_end bs piece next ≡ true → Clear
+  pub block_is_clear : has_no_nul next ≡ true → block_may_end bs piece next ≡ true → IsClear indent p b piece next
   block_is_clear clean may = grind (arith, nat_tests, eqb-true, end_no_text, before_text)
 
 -- ---- texts
@@ -74,12 +67,6 @@ module _ (indent : ℕ) (p : Position) (b : BlockRead) (piece next bs : List ℕ
 inner_first : (a b : List ℕ) → is_in_line (a ++ b) ≡ true → is_in_line a ≡ true
 inner_first [] b h = refl
 inner_first (c ∷ a) b h = let parts = and_parts (not (is_break c)) (is_in_line (a ++ b)) h in rw parts.0 (inner_first a b parts.1)
-
--- a break, and a TAB after it
-record TabAfter (after : List ℕ) : Type 0 where
-  by : Break
-  more : List ℕ
-  is : after ≡ put by (tab ∷ more)
 
 -- a fault that comes first
 abbrev FirstFault : (collection : List ℕ) (here : Position) (text : List ℕ) (why : Problem) (at : Position) → Type 0
@@ -97,32 +84,19 @@ piece_tab_fault : (collection : List ℕ) (o : Option ℕ) (here : Position) (te
 unfolding is_nul
 piece_tab_fault collection o here text piece next b e is tabbed =
     let q = and_parts (scan.is_single (split piece).complete) (begins_with tab next) tabbed in
-    by (grind arith) q.0
+    let m : (m : List ℕ) × (next ≡ tab ∷ m) = grind arith in
+    by m (split piece).complete (split piece).last refl q.0 (rw (ap is_at_end m.1) at is)
   where
-    by : (m : List ℕ) × (next ≡ tab ∷ m) → scan.is_single (split piece).complete ≡ true → FirstFault collection here text BlockScalarTab here
-    by m single =
-        let w : Written piece next = written o piece next b is further in
-        from w.header w.lines w.is w.are
+    by : (m : List ℕ) × (next ≡ tab ∷ m) → (complete : List (List ℕ)) (last : List ℕ) → split piece ≡ record { complete = complete; last = last } → scan.is_single complete ≡ true → read_lines o complete last next false ≡ Some b
+        → FirstFault collection here text BlockScalarTab here
+    by m (l ∷ []) [] lines_are single read = alone (header_of l) refl
       where
-        further : is_at_end next ≡ false
-        further = ap is_at_end m.1
-
-        from : (l : Line) (ls : List Line) → piece ≡ spell (l ∷ ls) [] → AreLines (l ∷ ls) [] → FirstFault collection here text BlockScalarTab here
-        from l (x ∷ ls) is_piece are =
-            absurd (cc (single, ap (λ y. scan.is_single (split y).complete) is_piece, ap (λ y. scan.is_single y.complete) (split_spell (l ∷ x ∷ ls) [] are refl)))
-        from l [] is_piece are = alone (header_of l.text) refl
-          where
-            lines_are : split piece ≡ record { complete = l.text ∷ []; last = [] }
-            lines_are = ap split is_piece ∙ split_spell (l ∷ []) [] are refl
-
-            alone : (y : Option defs.Header) → header_of l.text ≡ y → FirstFault collection here text BlockScalarTab here
-            alone None i = absurd (cc ((ap (λ x. read_lines o (l.text ∷ []) [] next x) (sym further) ∙ (ap (λ s. read_lines o s.complete s.last next (is_at_end next)) (sym lines_are) ∙ is)), ap (λ y. read_body y o (body [] further_text) next) i))
-            alone (Some h) i = (none.by_tab piece l.text m.0 h (e ∙ ap (λ r. piece ++ r) m.1) lines_are i, tt)
+        alone : (y : Option defs.Header) → header_of l ≡ y → FirstFault collection here text BlockScalarTab here
+        alone None i = absurd (cc (ap (λ y. read_body y o (body [] further_text) next) i, read))
+        alone (Some h) i = (none.by_tab piece l m.0 h (e ∙ ap (λ r. piece ++ r) m.1) lines_are i, tt)
+    by m complete last lines_are single read = absurd (grind arith)
 
 -- ---- what stands after a scalar without content
-
-rest_fails : (t y l d : Bool) → t ≡ true → (t && (not y || l || d)) ≡ false → (y ≡ true) × (l ≡ false) × (d ≡ false)
-rest_fails t y l d e k = grind arith
 
 column_fault : (indent : ℕ) (bs : List ℕ) (here : Position) (text piece next : List ℕ) (b : BlockRead) → IsLeast indent bs → text ≡ piece ++ next → has_no_nul next ≡ true → block_read (collection_of indent) piece next ≡ Some b → is_tabbed piece next ≡ false → is_shallow indent here b piece next ≡ true
     → FirstFault bs here text BlockScalarIndentation (scan.further_position here piece next)
@@ -131,6 +105,7 @@ column_fault indent bs here text piece next b least e clean is untabbed low = by
     by : (x : Bool) → is_at_end next ≡ x → (x || read_may_end bs (block_read (innermost bs) piece next) piece next) ≡ false → FirstFault bs here text BlockScalarIndentation (scan.further_position here piece next)
     by true further k = absurd (cc k)
     by false further k =
+        let rest_fails : (t y l d : Bool) → t ≡ true → (t && (not y || l || d)) ≡ false → (y ≡ true) × (l ≡ false) × (d ≡ false) = λ t y l d e k. grind arith in
         let w : Written piece next = written (collection_of indent) piece next b is further in
         let no_tab : not (is_empty (texts w.lines) && begins_with tab next) ≡ true = grind (arith, (ap (λ x. scan.is_single x && begins_with tab next) (sym (lines_written piece next w)) ∙ untabbed)) in
         let q = rest_fails (not (is_empty (texts w.lines) && begins_with tab next)) (are_empty b.column (texts w.lines)) (nat_lt (leading_spaces next) (least_column bs true)) (nat_le b.column (leading_spaces next)) no_tab (lines_asked indent b piece next bs least is w ∙ k) in
@@ -148,7 +123,7 @@ column_fault indent bs here text piece next b least e clean is untabbed low = by
 
 -- ---- the scan
 
-module _ (text : List ℕ) (t : ScannerState) (a : Arrives text t) (some : is_empty t.rest ≡ false) (lies : LiesDeep t) (out : is_empty t.held.flow ≡ true) where
+module _ {text : List ℕ} {t : ScannerState} (a : Arrives text t) (some : is_empty t.rest ≡ false) (lies : LiesDeep t) (out : is_empty t.held.flow ≡ true) where
   abbrev collections : List ℕ
   collections = columns t.held.indent t.held.indents
 
@@ -159,31 +134,32 @@ module _ (text : List ℕ) (t : ScannerState) (a : Arrives text t) (some : is_em
   -- the block scalar that begins here may not stand
   block_stuck : (why : Problem) (at : Position) → FirstFault collections t.held.position t.rest why at → IsWhy text why at
   block_stuck why at x =
-      stuck_by text t a some why at (λ b bs k. (l : b ≡ false) × (y : IsBlockFault bs t.held.position t.rest why at) × block_first bs t.held.position t.rest why at y) (ap not out, x.0, x.1)
-      (λ c may m. record { fails = no_block m.0 m.1; is_first = (looked_at text t a some lies c [], m.2) })
+      stuck_by a some why at (λ b bs k. (l : b ≡ false) × (y : IsBlockFault bs t.held.position t.rest why at) × block_first bs t.held.position t.rest why at y) (ap not out, x.0, x.1)
+      (λ c may m. record { fails = no_block m.0 m.1; is_first = (looked_at a some lies c [], m.2) })
 
   -- `|` or `>`
-  header_told : (style : BlockStyle) (line after : List ℕ) → t.rest ≡ indicator_of style ∷ (line ++ after) → is_in_line line ≡ true → headers.ends_line after ≡ true → (g : Fault) → headers.IsHeaderRefusal t.held.position style line after g → Said text g
+  header_told : (style : BlockStyle) (line after : List ℕ) → t.rest ≡ indicator_of style ∷ (line ++ after) → is_in_line line ≡ true → headers.ends_line after ≡ true → (g : Fault) → headers.IsHeaderRefusal t.held.position style line after g → Told text g
   unfolding is_break
   header_told style line after e inline ends g (headers.tabbed h is begins) =
-      let f : TabAfter after = grind arith in
+      -- a break, and a TAB after it
+      let f : (by : Break) × (more : List ℕ) × (after ≡ put by (tab ∷ more)) = grind arith in
       λ _. block_stuck BlockScalarTab t.held.position
-      (tab_fault collections t.held.position t.rest (indicator_of style ∷ line) f.more f.by h (e ∙ ap (λ r. indicator_of style ∷ (line ++ r)) f.is) (style_inner style line inline) is)
+      (tab_fault collections t.held.position t.rest (indicator_of style ∷ line) f.1 f.0 h (e ∙ ap (λ r. indicator_of style ∷ (line ++ r)) f.2) (style_inner style line inline) is)
   header_told style line after e inline ends g (headers.zero_digit lacks zero) =
-      λ _. none_here text t a some lies BlockScalarZero (none.headless style line after BlockScalarZero t.held.position (ap not out) e inline ends lacks (none.by_zero zero)) tt
+      λ _. none_begins a some lies BlockScalarZero _ (none.headless style line after BlockScalarZero t.held.position (ap not out) e inline ends lacks (none.by_zero zero)) tt
   header_told style line after e inline ends g (headers.comment h before more lacks is cut) =
       let place : headers.along before (past t.held.position) ≡ position_after t.held.position (indicator_of style ∷ before) (35 ∷ more) =
       (sym (after_chars (indicator_of style ∷ before) [] (35 ∷ more) t.held.position (style_inner style before (inner_first before (35 ∷ more) (ap is_in_line (sym cut) ∙ inline)))) ∙ ap (λ w. position_after t.held.position w (35 ∷ more)) (append-nil (indicator_of style ∷ before))) in
-      rw place (λ _. none_begins text t a some lies CommentNotSeparated _
+      rw place (λ _. none_begins a some lies CommentNotSeparated _
       (none.headless style line after CommentNotSeparated _ (ap not out) e inline ends lacks (none.by_comment h before more is cut)) tt)
   header_told style line after e inline ends g (headers.no_header lacks zero more begins) =
-      λ _. none_here text t a some lies BlockScalarHeader (none.headless style line after BlockScalarHeader t.held.position (ap not out) e inline ends lacks (none.by_text zero more begins)) tt
+      λ _. none_begins a some lies BlockScalarHeader _ (none.headless style line after BlockScalarHeader t.held.position (ap not out) e inline ends lacks (none.by_text zero more begins)) tt
 
-  block_refused : (style : BlockStyle) (indent : ℕ) (more : List ℕ) → t.rest ≡ indicator_of style ∷ more → IsLeast indent collections → (f : Fault) → block (is_literal_style style) indent t.rest t.held.position ≡ Err f → Said text f
+  block_refused : (style : BlockStyle) (indent : ℕ) (more : List ℕ) → t.rest ≡ indicator_of style ∷ more → IsLeast indent collections → (f : Fault) → block (is_literal_style style) indent t.rest t.held.position ≡ Err f → Told text f
   block_refused style indent more e deep f k =
       by f (refused_as (ap (λ r. block (is_literal_style style) indent r t.held.position) (sym e) ∙ k) (blocks.scans_end style indent more t.held.position (some_chars more ((and_parts (not (is_nul (indicator_of style))) (has_no_nul more) (subst (λ r. has_no_nul r ≡ true) e a.is_clean)).1))))
     where
-      by : (g : Fault) → block_ends.IsBlockRefusal style indent t.held.position more g → Said text g
+      by : (g : Fault) → block_ends.IsBlockRefusal style indent t.held.position more g → Told text g
       by g (block_ends.bad_header line after cut inline ends why) = header_told style line after (e ∙ ap (λ r. indicator_of style ∷ r) cut) inline ends g why
       by g (block_ends.after_piece piece next b it (scan.shallow free low)) =
           λ _. block_stuck BlockScalarIndentation (scan.further_position t.held.position piece next)
@@ -191,7 +167,7 @@ module _ (text : List ℕ) (t : ScannerState) (a : Arrives text t) (some : is_em
       by g (block_ends.after_piece piece next b it (scan.tabbed begins)) =
           λ _. block_stuck BlockScalarTab t.held.position (piece_tab_fault collections (collection_of indent) t.held.position t.rest piece next b (e ∙ it.is_text) it.is_read begins)
 
-  pub block_told : (style : kind.BlockStyle) (more : List ℕ) → t.rest ≡ (if is_literal style then 124 else 62) ∷ more → Faults (Said text) (fetch_block_scalar style t)
+  pub block_told : (style : kind.BlockStyle) (more : List ℕ) → t.rest ≡ (if is_literal style then 124 else 62) ∷ more → Faults (Told text) (fetch_block_scalar style t)
   unfolding fetch_block_scalar
   block_told Literal more e = read _ (block true _ t.rest t.held.position) _ (λ f k. block_refused literal _ more e (least _ (saved_is t.held)) f k) (λ x k. goes)
   block_told Folded more e = read _ (block false _ t.rest t.held.position) _ (λ f k. block_refused folded _ more e (least _ (saved_is t.held)) f k) (λ x k. goes)

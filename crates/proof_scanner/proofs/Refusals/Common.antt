@@ -10,10 +10,9 @@ pub use Rattle.proof_scanner.proofs.Cut.Pieces.Separations.{gap_is_separation, s
 pub use Rattle.proof_scanner.proofs.Cut.Positions.{index_after, not_before_after}
 pub use Rattle.proof_scanner.proofs.Cut.Saved.{saved_is, saved_keys}
 pub use Rattle.proof_scanner.proofs.Known.Made.{Made, inside, made, outside, still_there, waited}
-pub use Rattle.proof_scanner.proofs.Known.Places.{at_end, ends_before, piece_ends, step_here}
-pub use Rattle.proof_scanner.proofs.Known.Rows.{Walked, clean_after, row_walks, walk}
-pub use Rattle.proof_scanner.proofs.Known.Ways.{GivesUp, GoesOn, KeepsOn, LeadsBy, Meet, Same, Way, With, first_on, gives_up_like, like_sym, meet, same_place, second_on, strict_way, strictly, way_but_for_key, way_of}
-pub use Rattle.proof_scanner.proofs.Refusals.Places.{knowing, known_turn, Faults, IsRowless, IsWhy, LiesDeep, Said, Told, account_by, awaits_by, blocks_by, either, fault, fault_is, followed_stuck, goes, in_flow_is, in_turn, kind, least_by, looked_at, mapped, none_begins, none_here, place, read, rowless_told, solid_past, spaces_told, stuck, stuck_by, tried, with_row}
+pub use Rattle.proof_scanner.proofs.Known.Rows.{some_row, at_end, ends_before, piece_ends, step_here, Walked, clean_after, row_walks, walk}
+pub use Rattle.proof_scanner.proofs.Known.Ways.{leads_on, GivesUp, GoesOn, Keeps, KeepsOn, LeadsBy, Meet, Same, Way, With, first_on, gives_up_like, like_sym, meet, same_place, second_on, strict_way, strictly, way_but_for_key, way_of}
+pub use Rattle.proof_scanner.proofs.Refusals.Places.{knowing, known_turn, Faults, IsRowless, IsWhy, LiesDeep, Told, account_by, awaits_by, blocks_by, either, fault, fault_is, followed_stuck, goes, in_flow_is, in_turn, kind, least_by, looked_at, mapped, none_begins, place, read, rowless_told, solid_past, spaces_told, stuck, stuck_by, tried, with_row}
 pub use Rattle.proof_scanner.proofs.Sound.Arrivals.{not_none}
 pub use Rattle.proof_scanner.proofs.Sound.Completed.{begins_at_start, begins_past}
 pub use Rattle.proof_scanner.proofs.Sound.CutsSoFar.{cut_position, stands_cut}

@@ -2,21 +2,15 @@
 use Rattle.proof_scanner.proofs.Common.{ap, are_marks, arith, Arrives, At, before_by, before_past, begins_document_at, begins_with, columns, eqb-true, false, fetch_content, fetch_here, fetch_stream_end, fetch_token, has_open_level, has_required, inl, inr, is_adjacent, is_document_marker, is_empty, List, may_not_stand, nat_le, nat_lt, nat_tests, next_line, not, peek, refl, ScannerState, site_here, subst, sym, Tok, true, ℕ, ◌&&◌, ◌+◌, ◌==◌, ◌||◌, ◌∙◌, ◌≡◌, ◌≤◌, cases_Bool, [], and_parts, AreLevels, Bool, if◌then◌else◌, Indent, innermost, is_deeper, IsNotRight, IsTopLevel, not_ended, ◌-◌, ◌∷◌, InvalidIndentation, KeyExpected, UnexpectedAt, UnexpectedBacktick, UnexpectedPercent}
 use Rattle.model_scanner.specs.declared.kind.Collection.TheVariants.{Sequence, Mapping}
 use Rattle.model_scanner.specs.State.{after}
-use Rattle.proof_scanner.proofs.Refusals.Common.{Faults, IsDeep, IsRowless, IsWhy, LiesDeep, Said, content_holds, either, fault, goes_on_here, no_end, none_here, rowless_told, stuck_by, token_holds, tried}
-use Rattle.proof_scanner.proofs.Refusals.Nodes.{name_told, tag_told, quoted_told}
-use Rattle.proof_scanner.proofs.Refusals.Plains.{plain_told}
+use Rattle.proof_scanner.proofs.Refusals.Common.{Faults, IsDeep, IsRowless, IsWhy, LiesDeep, Told, content_holds, either, fault, goes_on_here, no_end, none_begins, rowless_told, stuck_by, token_holds, tried}
+use Rattle.proof_scanner.proofs.Refusals.Nodes.{name_told, plain_told, tag_told, quoted_told}
 use Rattle.proof_scanner.proofs.Refusals.Blocks.{block_told}
 use Rattle.proof_scanner.proofs.Refusals.Indicators.{directive_told, marker_told, document_end_told, dash_told, question_told, colon_told, opening_told, closing_told, comma_told}
-use Rattle.proof_scanner.proofs.Refusals.KeysThatWait.{end_rowless}
+use Rattle.proof_scanner.proofs.Refusals.KeysThatWait.{end_rowless, first_stays}
 use Rattle.proof_scanner.specs.Failing as defs
 use Rattle.proof_scanner.specs.NoPiece as none
 
 -- ---- outside flow
-
--- collections that go on are not right of a column
-first_stays : (col : ℕ) (bs : List ℕ) → IsNotRight (innermost (not_ended col bs)) col
-first_stays col [] = tt
-first_stays col (n ∷ ns) = grind (arith, first_stays col ns)
 
 pub levels_end : (col : ℕ) (bs : List ℕ) (awaits : Bool) (i : ℕ) (ds : List Indent) → AreLevels i ds → not_ended col bs ≡ columns i ds → (awaits && is_deeper col bs) ≡ has_open_level ds → i ≤ col + 1
 levels_end col bs aw i [] a e o = omega (arith, a)
@@ -31,29 +25,29 @@ levels_end col bs aw i (d ∷ ds) a e o = by d.needs_block_end a.0 e o
         let outer : d.indent ≤ col = grind (arith, nat_tests, eqb-true) in
         omega (arith, t.0, outer)
 
-module _ (text : List ℕ) (t : ScannerState) (a : Arrives text t) (some : is_empty t.rest ≡ false) where
+module _ {text : List ℕ} {t : ScannerState} (a : Arrives text t) (some : is_empty t.rest ≡ false) where
   -- ---- the token by the first character
 
-  token_told : IsDeep t.held → ((t.held.position.col == 0) && is_document_marker t.rest) ≡ false → (t.held.position.col ≡ 0 → (peek t.rest == 37) ≡ false) → Faults (Said text) (fetch_token t)
+  token_told : IsDeep t.held → ((t.held.position.col == 0) && is_document_marker t.rest) ≡ false → (t.held.position.col ≡ 0 → (peek t.rest == 37) ≡ false) → Faults (Told text) (fetch_token t)
   token_told deep marker percent =
       let lies : LiesDeep t = λ _. deep in
-      token_holds (Faults (Said text)) t (is_adjacent (before_past (before_by a.base.site.before) a.separation)) a.is_clean a.is_solid (λ inside. sym (a.is_adjacent_here inside some)) marker (record {
-        anchor = λ kind more e. name_told text t a some lies kind more e;
-        tag = λ more e. tag_told text t a some lies more e;
-        plain = λ comes. plain_told text t a some lies deep comes;
-        quoted = λ quotes more e. quoted_told text t a some lies deep quotes more e;
-        block = λ style more e o. block_told text t a some lies o style more e;
-        dash = λ more e gap. dash_told text t a some lies more e gap;
-        question = λ more e gap. question_told text t a some lies more e gap;
-        colon = λ more e i. colon_told text t a some lies more e i;
-        open_bracket = λ more e. opening_told text t a some lies Sequence 91 more e (inl refl);
-        open_brace = λ more e. opening_told text t a some lies Mapping 123 more e (inr refl);
-        close_bracket = λ more e. closing_told text t a some lies Sequence 93 more e (inl refl);
-        close_brace = λ more e. closing_told text t a some lies Mapping 125 more e (inr refl);
-        comma = λ more e. comma_told text t a some lies more e;
-        percent = λ more e. fault {f = At UnexpectedPercent t.held.position} (λ _. none_here text t a some lies UnexpectedPercent (none.percent more e (grind (arith, percent, eqb-true))) tt);
-        at_sign = λ more e. fault {f = At UnexpectedAt t.held.position} (λ _. none_here text t a some lies UnexpectedAt (none.at_sign more e) tt);
-        backtick = λ more e. fault {f = At UnexpectedBacktick t.held.position} (λ _. none_here text t a some lies UnexpectedBacktick (none.backtick more e) tt);
+      token_holds (Faults (Told text)) t (is_adjacent (before_past (before_by a.base.site.before) a.separation)) a.is_clean a.is_solid (λ inside. sym (a.is_adjacent_here inside some)) marker (record {
+        anchor = λ kind more e. name_told a some lies kind more e;
+        tag = λ more e. tag_told a some lies more e;
+        plain = λ comes. plain_told a some lies deep comes;
+        quoted = λ quotes more e. quoted_told a some lies deep quotes more e;
+        block = λ style more e o. block_told a some lies o style more e;
+        dash = λ more e gap. dash_told a some lies more e gap;
+        question = λ more e gap. question_told a some lies more e gap;
+        colon = λ more e i. colon_told a some lies more e i;
+        open_bracket = λ more e. opening_told a some lies Sequence 91 more e (inl refl);
+        open_brace = λ more e. opening_told a some lies Mapping 123 more e (inr refl);
+        close_bracket = λ more e. closing_told a some lies Sequence 93 more e (inl refl);
+        close_brace = λ more e. closing_told a some lies Mapping 125 more e (inr refl);
+        comma = λ more e. comma_told a some lies more e;
+        percent = λ more e. fault {f = At UnexpectedPercent t.held.position} (λ _. none_begins a some lies UnexpectedPercent _ (none.percent more e (grind (arith, percent, eqb-true))) tt);
+        at_sign = λ more e. fault {f = At UnexpectedAt t.held.position} (λ _. none_begins a some lies UnexpectedAt _ (none.at_sign more e) tt);
+        backtick = λ more e. fault {f = At UnexpectedBacktick t.held.position} (λ _. none_begins a some lies UnexpectedBacktick _ (none.backtick more e) tt);
       }) some
 
   -- ---- columns
@@ -66,29 +60,27 @@ module _ (text : List ℕ) (t : ScannerState) (a : Arrives text t) (some : is_em
         (subst (λ b. (site_here (not b) t.held.position a.base.site).awaits ≡ has_open_level t.held.indents) e a.awaits_is) in
         absurd (grind (arith, nat_tests, deep, low))
     | inr e ↦
-        stuck_by text t a some InvalidIndentation t.held.position (λ b bs k. (b ≡ true) × (nat_le k t.held.position.col ≡ false)) (ap not e, grind (arith, nat_tests, low))
+        stuck_by a some InvalidIndentation t.held.position (λ b bs k. (b ≡ true) × (nat_le k t.held.position.col ≡ false)) (ap not e, grind (arith, nat_tests, low))
         (λ c may m. record { is_first = a.is_indented some; fails = may_not_stand (defs.shallow m.0 none m.1) })
   ]
 
-  content_told : Faults (Said text) (fetch_content t)
+  content_told : Faults (Told text) (fetch_content t)
   unfolding are_marks
   content_told =
       let document_line : t.held.position.col ≡ 0 → (begins_with 37 t.rest || is_document_marker t.rest) ≡ true → LiesDeep t = λ col begins none. grind arith in
-      content_holds (Faults (Said text)) t some (record {
-        directive = λ e col. directive_told text t a some (document_line col (ap (λ r. begins_with 37 r || is_document_marker r) e)) (after t.rest) e col;
-        document_start = λ more e gap col. marker_told text t a some (document_line col (ap (λ r. begins_with 37 r || is_document_marker r) e ∙ rw gap refl)) Tok.document_start col;
-        document_end = λ more e gap col. document_end_told text t a some (document_line col (ap (λ r. begins_with 37 r || is_document_marker r) e ∙ rw gap refl)) more e gap col;
+      content_holds (Faults (Told text)) t some (record {
+        directive = λ e col. directive_told a some (document_line col (ap (λ r. begins_with 37 r || is_document_marker r) e)) (after t.rest) e col;
+        document_start = λ more e gap col. marker_told a some (document_line col (ap (λ r. begins_with 37 r || is_document_marker r) e ∙ rw gap refl)) Tok.document_start col;
+        document_end = λ more e gap col. document_end_told a some (document_line col (ap (λ r. begins_with 37 r || is_document_marker r) e ∙ rw gap refl)) more e gap col;
         shallow = λ n low. fault {f = At InvalidIndentation t.held.position} (λ _. shallow (grind arith) low);
         token = λ n deep. token_told deep n.0 n.1;
       })
 
 -- ---- the text's end
 
-end_told : (text : List ℕ) (t : ScannerState) → (has_required t.held.keys ≡ true → IsRowless text) → Faults (Said text) (fetch_stream_end t)
-unfolding fetch_stream_end
-end_told text t rowless = tried t (rowless_told text (has_required t.held.keys) KeyExpected (next_line t.held.position) _ refl rowless)
-
 -- a token of a text that goes on, or the stream's end
-pub here_told : (text : List ℕ) (t : ScannerState) → Arrives text t → Faults (Said text) (fetch_here t)
-unfolding fetch_here
-here_told text t a = either (peek t.rest == 0) (λ e. end_told text t (end_rowless text t a (no_end t.rest a.is_clean e))) (λ e. content_told text t a (goes_on_here t.rest e))
+pub here_told : (text : List ℕ) (t : ScannerState) → Arrives text t → Faults (Told text) (fetch_here t)
+unfolding fetch_here fetch_stream_end
+here_told text t a =
+    let end_told : (text : List ℕ) (t : ScannerState) → (has_required t.held.keys ≡ true → IsRowless text) → Faults (Told text) (fetch_stream_end t) = λ text t rowless. tried t (rowless_told text (has_required t.held.keys) KeyExpected (next_line t.held.position) _ refl rowless) in
+    either (peek t.rest == 0) (λ e. end_told text t (end_rowless text t a (no_end t.rest a.is_clean e))) (λ e. content_told a (goes_on_here t.rest e))

@@ -1,82 +1,40 @@
 -- A key that must be one waits in each row of the text; and while it waits no line ends. So no row goes on where a beginning has only gone on over a line's end by making no key of it.
-use Rattle.proof_scanner.proofs.Common.{cases_Bool, [], Account, account_past, Act, act_of, ap, arith, begins_free_line, begins_separation, BeginsButForKey, blocks_at, Bool, Entry, fails, false, first_account, free, gives_node, has_break, HasRow, inl, inr, is_empty, is_in_column, is_in_flow, is_marker, is_separation, is_waiting, IsRowFrom, IsWritten, key_waits, length, LikeEntries, LikeLine, Line, line_past, line_past_separation, List, no_key, no_nul_after, None, not, not-true, not_ended, Outside, Position, position_after, position_in_line, previous_by, refl, Row, same_flow, Site, site_at, Some, spelled, Step, subst, sym, taken, TextsWithARowAreNotStuck, Tok, true, waits, ℕ, ◌&&◌, ◌++◌, ◌+◌, ◌<◌, ◌∙◌, ◌∷◌, ◌≡◌, ◌≤◌, ◌⊎◌, eqb-true, nat_tests, append-nil, append_assoc, append_cancel_right, AreAround, AreEntries, Arrives, Begins, comma, context_of, first_position, FlowLevel, gives_closing, gives_comma, GoesThrough, has_no_nul, has_required, HasNoKey, in_flow, is_blank, is_blank_or_end, is_break, is_far, is_flow, is_nul, is_required, IsNear, IsPositionIn, Key, Leads, mapping_closing, MayChoose, Option, outside_key, position_append, ScannerState, sequence_closing, Stands, suc, top_key, Whole, ◌||◌, IsAt}
-use Rattle.proof_scanner.proofs.Refusals.Common.{IsRowless, Same, Walked, With, account_by, at_end, cut_position, in_flow_is, index_after, no_entries, not_before_after, not_none, piece_ends, place, stands_cut, step_here, strictly, walk, whole_text, with_entries}
-use Rattle.proof_scanner.proofs.Refusals.PiecesRefused.{marker_begins, acct, whole_by}
+use Rattle.proof_scanner.proofs.Common.{or-false, cases_Bool, innermost, IsNotRight, [], Account, account_past, Act, act_of, ap, arith, begins_free_line, begins_separation, BeginsButForKey, blocks_at, Bool, Entry, fails, false, first_account, free, gives_node, has_break, HasRow, inl, inr, is_empty, is_in_column, is_in_flow, is_marker, is_separation, IsRowFrom, IsWritten, key_waits, length, LikeEntries, LikeLine, Line, line_past, line_past_separation, List, no_key, no_nul_after, None, not, not-true, not_ended, Outside, Position, position_after, position_in_line, previous_by, refl, Row, same_flow, Site, site_at, Some, spelled, Step, subst, sym, taken, TextsWithARowAreNotStuck, Tok, true, waits, ℕ, ◌++◌, ◌+◌, ◌<◌, ◌∙◌, ◌∷◌, ◌≡◌, ◌≤◌, ◌⊎◌, eqb-true, nat_tests, append-nil, append_assoc, append_cancel_right, AreAround, AreEntries, Arrives, Begins, comma, first_position, FlowLevel, gives_closing, gives_comma, GoesThrough, has_no_nul, has_required, HasNoKey, in_flow, is_blank, is_blank_or_end, is_break, is_far, is_flow, is_nul, is_required, IsNear, IsPositionIn, Key, Leads, mapping_closing, MayChoose, Option, outside_key, position_append, ScannerState, sequence_closing, Stands, suc, top_key, ◌||◌, IsAt}
+use Rattle.proof_scanner.proofs.Refusals.Common.{IsRowless, Keeps, Same, Walked, With, account_by, at_end, cut_position, in_flow_is, index_after, no_entries, not_before_after, not_none, piece_ends, place, stands_cut, step_here, strictly, walk, whole_text, with_entries}
+use Rattle.proof_scanner.proofs.Refusals.PiecesRefused.{Here, marker_begins, whole_by}
 use Rattle.proof_scanner.proofs.Known.Made.{same_of, waited, still_there, like_past, Waits, begun, kept, waits_past, Made, outside, inside, made}
-use Rattle.proof_scanner.proofs.Refusals.OtherRows.{none_ends, goes_near, Keeps, keeps_on, row_begins, StepAt, RowAt, row_at, BeginsWith, begins_with_part}
+use Rattle.proof_scanner.proofs.Refusals.OtherRows.{none_ends, goes_near, keeps_on, row_begins, StepAt, RowAt, row_at, BeginsWith, begins_with_part}
 use Rattle.proof_scanner.proofs.Refusals.NoRows.{failing_places_have_no_row, no_keyless_colon}
 use Rattle.proof_row.proofs.CutColumns.{unbroken}
 
 -- ---- columns
 
--- all collections lie in columns before this one
-abbrev pub AllBelow : (column : ℕ) → List ℕ → Type 0
-AllBelow q [] = Unit {0}
-AllBelow q (n ∷ ns) = (n < q) × AllBelow q ns
-
--- each collection lies deeper than those around it
-abbrev pub Falls : List ℕ → Type 0
-Falls [] = Unit {0}
-Falls (n ∷ ns) = AllBelow n ns × Falls ns
-
-more_below : (p q : ℕ) (ns : List ℕ) → p ≤ q → AllBelow p ns → AllBelow q ns
-more_below p q [] h b = tt
-more_below p q (n ∷ ns) h b = let first : n < p = b.0 in (omega (arith, first, h), more_below p q ns h b.1)
-
-below_kept : (q c : ℕ) (ns : List ℕ) → AllBelow q ns → AllBelow q (not_ended c ns)
-below_kept q c [] b = tt
-below_kept q c (n ∷ ns) b = grind (arith, not_ended, below_kept q c ns b.1)
-
-falls_kept : (c : ℕ) (ns : List ℕ) → Falls ns → Falls (not_ended c ns)
-falls_kept c [] f = tt
-falls_kept c (n ∷ ns) f = grind (arith, not_ended, falls_kept c ns f.1)
-
--- where the innermost collection that goes on has another column, all have columns before it
-below_here : (c : ℕ) (ns : List ℕ) → Falls ns → is_in_column c (not_ended c ns) ≡ false → AllBelow c (not_ended c ns)
-below_here c [] f h = tt
-below_here c (n ∷ ns) f h = grind (arith, more_below, below_here c ns f.1)
-
-pub not_below : (q : ℕ) (ns : List ℕ) → is_in_column q ns ≡ true → AllBelow q ns → ⊥
-not_below q a h b = grind arith
-
-falls_at : (fl : Bool) (k : Act) (c : ℕ) (ns : List ℕ) → Falls ns → Falls (blocks_at fl k c ns)
-falls_at fl k c ns f = grind (arith, falls_kept)
-
-below_at : (q : ℕ) (fl : Bool) (k : Act) (c : ℕ) (ns : List ℕ) → AllBelow q ns → AllBelow q (blocks_at fl k c ns)
-below_at q fl k c ns f = grind (arith, below_kept)
-
--- ---- a piece outside flow
-
-falls_past : (must : Bool) (here : Position) (bs : List ℕ) (k : Act) (key : Bool) (l : Line) (o : Outside) → line_past must here bs k key l ≡ Some o → Falls bs → Falls o.blocks
-falls_past must here bs k key l o e f = grind (arith, more_below)
+-- collections that go on are not right of a column
+pub first_stays : (col : ℕ) (bs : List ℕ) → IsNotRight (innermost (not_ended col bs)) col
+first_stays col [] = tt
+first_stays col (n ∷ ns) = grind (arith, first_stays col ns)
 
 -- ---- the line of a key
 
--- a site on the line of a key that waits, after a piece there that is no directive
+-- a site on the line of a key that waits, and right of it, after a piece there that is no directive
 pub record OnLine (q : Position) (s : Site) : Type 0 where
   unmarked : (f : List ℕ) → begins_free_line s.before f ≡ has_break f
   line_is : s.position.line ≡ q.line
-  further : 1 ≤ s.position.col
+  right : suc q.col ≤ s.position.col
 
 stays : (p : Position) (text next : List ℕ) → has_break text ≡ false → ((position_after p text next).line ≡ p.line) × ((position_after p text next).col ≡ p.col + length text)
 stays p text next h = let same = sym (position_in_line p text next (unbroken text h)) in (ap (λ (q : Position). q.line) same, ap (λ (q : Position). q.col) same)
 
 -- after a piece on the line of a key that waits
-line_after : (q here : Position) (piece : List ℕ) (t : Tok) (next : List ℕ) (s : Site) → s.position ≡ position_after here piece next → s.before ≡ previous_by t → here.line ≡ q.line → not (is_empty piece) ≡ true → has_break piece ≡ false → is_marker (act_of t) ≡ false → OnLine q s
-line_after q here piece t next s p b l some none m = grind (arith, nat_tests, eqb-true, stays, not_none, not-true)
-
-not_broken : (p : List ℕ) (l : Line) (q : Position) → l ≡ waits q → (has_break p && is_waiting l) ≡ false → has_break p ≡ false
-not_broken p l q w h = grind arith
+line_after : (q here : Position) (piece : List ℕ) (t : Tok) (next : List ℕ) (s : Site) → s.position ≡ position_after here piece next → s.before ≡ previous_by t → here.line ≡ q.line → q.col ≤ here.col → not (is_empty piece) ≡ true → has_break piece ≡ false → is_marker (act_of t) ≡ false → OnLine q s
+line_after q here piece t next s p b l r some none m = grind (arith, nat_tests, eqb-true, stays, not_none, not-true)
 
 -- a site is on the line of the key that waits
 abbrev pub Waiting : Line → Site → Type 0
 Waiting l s = (q : Position) → l ≡ waits q → OnLine q s
 
-pub here_on : (q : Position) (s : Site) (sep more : List ℕ) → OnLine q s → begins_free_line s.before sep ≡ false → ((position_after s.position sep more).line ≡ q.line) × (1 ≤ (position_after s.position sep more).col)
+pub here_on : (q : Position) (s : Site) (sep more : List ℕ) → OnLine q s → begins_free_line s.before sep ≡ false → ((position_after s.position sep more).line ≡ q.line) × (suc q.col ≤ (position_after s.position sep more).col)
 here_on q s sep more on f = grind (arith, stays)
-
-node_no_marker : (k : Act) → k ≡ gives_node → is_marker k ≡ false
-node_no_marker k e = ap is_marker e
 
 pub waiting_past : (s : Site) (l : Line) (es : List Entry) (w : Step) (next : List ℕ) (b : Account) → Waiting l s → IsWritten (with_entries s l es) w next → account_past (with_entries s l es) w next ≡ Some b → Waiting b.line b.site
 waiting_past s l es w next b on is e q wt = by (made s l es w next b e)
@@ -88,27 +46,26 @@ waiting_past s l es w next b on is e q wt = by (made s l es w next b e)
     by (outside m o none sep past line site one) = to (waits_past _ _ _ _ w.key m o q past (sym line ∙ wt))
       where
         unbroken : has_break w.piece ≡ false
-        unbroken = not_broken w.piece b.line q wt one
+        unbroken = grind (arith, wt, one)
 
         to : Waits (is_in_column here.col (site_at false s w.separation w.piece w.shown next).blocks) here (site_at false s w.separation w.piece w.shown next).blocks (act_of w.shown) m o q → OnLine q b.site
-        to (begun k f h bs) = line_after q here w.piece w.shown next b.site (ap (λ (x : Site). x.position) site) (ap (λ (x : Site). x.before) site) (ap (λ (x : Position). x.line) h) is.1.0 unbroken (node_no_marker _ k)
+        to (begun k f h bs) = line_after q here w.piece w.shown next b.site (ap (λ (x : Site). x.position) site) (ap (λ (x : Site). x.before) site) (ap (λ (x : Position). x.line) h) (let col = ap (λ (x : Position). x.col) h in omega (arith, col)) is.1.0 unbroken (ap is_marker k)
         to (kept k f bs) =
             let was = waited false (begins_free_line s.before w.separation) l m q sep f in
-            line_after q here w.piece w.shown next b.site (ap (λ (x : Site). x.position) site) (ap (λ (x : Site). x.before) site) (here_on q s w.separation (w.piece ++ next) (on q was.0) was.1).0 is.1.0 unbroken (node_no_marker _ k)
+            let far = here_on q s w.separation (w.piece ++ next) (on q was.0) was.1 in
+            line_after q here w.piece w.shown next b.site (ap (λ (x : Site). x.position) site) (ap (λ (x : Site). x.before) site) far.0 (omega (arith, far.1)) is.1.0 unbroken (ap is_marker k)
     by (inside some sep site one) =
+        let unmarked : (c : Bool) → is_marker (act_of w.shown) ≡ c → suc q.col ≤ here.col → is_marker (act_of w.shown) ≡ false = λ c h e. grind (arith, nat_tests, eqb-true, marker_begins, next, is) in
         let was = waited true (begins_free_line s.before w.separation) l b.line q sep wt in
         let far = here_on q s w.separation (w.piece ++ next) (on q was.0) was.1 in
-        line_after q here w.piece w.shown next b.site (ap (λ (x : Site). x.position) site) (ap (λ (x : Site). x.before) site) far.0 is.1.0 (not_broken w.piece b.line q wt one) (unmarked (is_marker (act_of w.shown)) refl far.1)
-      where
-        unmarked : (c : Bool) → is_marker (act_of w.shown) ≡ c → 1 ≤ here.col → is_marker (act_of w.shown) ≡ false
-        unmarked c h e = grind (arith, nat_tests, eqb-true, marker_begins, next, is)
+        line_after q here w.piece w.shown next b.site (ap (λ (x : Site). x.position) site) (ap (λ (x : Site). x.before) site) far.0 (omega (arith, far.1)) is.1.0 (grind (arith, wt, one)) (unmarked (is_marker (act_of w.shown)) refl far.1)
 
 -- ---- a beginning and a row
 
--- What is so of a beginning and a row that has come as far: the collections fall; where a key waits in the beginning and none in the row, the key lies deeper than all of them; and the row is on the line of its own key that waits.
+-- What is so of a beginning and a row that has come as far. Where a key waits in the beginning no collection is right of it; and if it must be one it waits in the row.
 pub record Together (x y : Account) : Type 0 where
-  pub falls : Falls x.site.blocks
-  pub below : (q : Position) → x.line ≡ waits q → y.line ≡ taken → AllBelow q.col x.site.blocks
+  pub known : (q : Position) → x.line ≡ waits q → IsNotRight (innermost x.site.blocks) q.col × (is_in_column q.col x.site.blocks ≡ true → y.line ≡ waits q)
+  pub on_first : Waiting x.line x.site
   pub on : Waiting y.line y.site
 
 -- A key of a beginning is made none: none waits in it, and in the row one waits.
@@ -117,22 +74,11 @@ pub record Apart (q : Position) (x y : Account) : Type 0 where
   pub one : y.line ≡ waits q
   pub on : OnLine q y.site
 
--- after a node none waits on a line that is taken, where none waited or began
-taken_past : (must : Bool) (here : Position) (bs : List ℕ) (key : Bool) (l : Line) (o : Outside) → line_past must here bs gives_node key l ≡ Some o → o.line ≡ taken → ((l ≡ free) × (must ≡ false)) ⊎ (l ≡ taken)
-taken_past must a bs b d o e t = grind arith
-
-was_taken_inside : (broken : Bool) (l m : Line) → line_past_separation true broken l ≡ Some m → m ≡ taken → l ≡ taken
-was_taken_inside a l m e t = grind (arith, same_of)
-
--- the columns after a step
-falls_after : (s : Site) (l : Line) (es : List Entry) (w : Step) (next : List ℕ) (b : Account) → Falls s.blocks → account_past (with_entries s l es) w next ≡ Some b → Falls b.site.blocks
-falls_after s l es w next b f e =
-    let by : Made s l es w next b → Falls b.site.blocks = λ a. grind (arith, nat_tests, eqb-true, falls_past, falls_at) in
-    by (made s l es w next b e)
-
-below_after : (s : Site) (l m : Line) (ds es : List Entry) (w : Step) (c : Bool) (next : List ℕ) (a b : Account) → LikeLine l m → LikeEntries ds es → Falls s.blocks → ((q : Position) → l ≡ waits q → m ≡ taken → AllBelow q.col s.blocks)
-    → account_past (with_entries s l ds) w next ≡ Some a → account_past (with_entries s m es) (With w c) next ≡ Some b → (q : Position) → a.line ≡ waits q → b.line ≡ taken → AllBelow q.col a.site.blocks
-below_after s l m ds es w c next a b i j f below e1 e2 q wt tk = by (made s l ds w next a e1) (made s m es (With w c) next b e2)
+known_after : (s : Site) (l m : Line) (ds es : List Entry) (w : Step) (c : Bool) (next : List ℕ) (a b : Account) → LikeLine l m → LikeEntries ds es → Waiting l s
+    → ((q : Position) → l ≡ waits q → IsNotRight (innermost s.blocks) q.col × (is_in_column q.col s.blocks ≡ true → m ≡ waits q))
+    → account_past (with_entries s l ds) w next ≡ Some a → account_past (with_entries s m es) (With w c) next ≡ Some b
+    → (q : Position) → a.line ≡ waits q → IsNotRight (innermost a.site.blocks) q.col × (is_in_column q.col a.site.blocks ≡ true → b.line ≡ waits q)
+known_after s l m ds es w c next a b i j on known e1 e2 q wt = by (made s l ds w next a e1) (made s m es (With w c) next b e2)
   where
     at : Site
     at = site_at false s w.separation w.piece w.shown next
@@ -140,26 +86,31 @@ below_after s l m ds es w c next a b i j f below e1 e2 q wt tk = by (made s l ds
     broken : Bool
     broken = begins_free_line s.before w.separation
 
-    both : (n o : Line) (u v : Outside) → LikeLine n o → line_past_separation false broken l ≡ Some n → line_past_separation false broken m ≡ Some o
-        → line_past (is_in_column at.position.col at.blocks) at.position at.blocks (act_of w.shown) c o ≡ Some v → v.line ≡ taken → Waits (is_in_column at.position.col at.blocks) at.position at.blocks (act_of w.shown) n u q → AllBelow q.col u.blocks
-    both n o u v k sep1 sep2 past tk (begun act fr h bs) = elim (taken_past _ _ _ c o v (ap (λ x. line_past (is_in_column at.position.col at.blocks) at.position at.blocks x c o) (sym act) ∙ past) tk) [
-      | inl p ↦ rw bs (subst (λ (x : Position). AllBelow x.col at.blocks) h (grind (arith, below_here)))
-      | inr t ↦ absurd (grind arith)
-    ]
-    both n o u v k sep1 sep2 past tk (kept act is bs) =
+    both : (n o : Line) (u v : Outside) → line_past_separation false broken l ≡ Some n → line_past_separation false broken m ≡ Some o
+        → line_past (is_in_column at.position.col at.blocks) at.position at.blocks (act_of w.shown) c o ≡ Some v → Waits (is_in_column at.position.col at.blocks) at.position at.blocks (act_of w.shown) n u q
+        → IsNotRight (innermost u.blocks) q.col × (is_in_column q.col u.blocks ≡ true → v.line ≡ waits q)
+    both n o u v sep1 sep2 past (begun act fr h bs) =
+        -- a node that must be a key is one
+        let must_wait : (must : Bool) (here : Position) (bs : List ℕ) (k : Act) (c : Bool) (n o : Line) (v : Outside) → LikeLine n o → n ≡ free → k ≡ gives_node → must ≡ true → line_past must here bs k c o ≡ Some v → v.line ≡ waits here = λ must here bs k a n o v i f g m e. grind arith in
+        let going : at.blocks ≡ not_ended at.position.col s.blocks = ap (λ k. blocks_at false k at.position.col s.blocks) act in
+        rw (bs, ← h) (rw going (first_stays at.position.col s.blocks), λ col. must_wait _ at.position at.blocks _ c n o v (like_past false broken l m n o i sep1 sep2) fr act col past)
+    both n o u v sep1 sep2 past (kept act is bs) =
+        -- after a node a key still waits
+        let waits_on : (must : Bool) (here : Position) (bs : List ℕ) (k : Act) (c : Bool) (o : Line) (v : Outside) (q : Position) → o ≡ waits q → k ≡ gives_node → line_past must here bs k c o ≡ Some v → v.line ≡ waits q = λ must here bs k c o v q w g e. grind arith in
+        -- where none is right of a column, none ends there or right of it
+        let all_stay : (q c : ℕ) (bs : List ℕ) → IsNotRight (innermost bs) q → q ≤ c → not_ended c bs ≡ bs = λ q c a h l. grind (arith, nat_tests) in
         let was : (l ≡ waits q) × (broken ≡ false) = waited false broken l n q sep1 is in
-        elim (taken_past _ _ _ c o v (ap (λ x. line_past (is_in_column at.position.col at.blocks) at.position at.blocks x c o) (sym act) ∙ past) tk) [
-          | inl p ↦ absurd (grind arith)
-          | inr t ↦ rw bs (below_at q.col false (act_of w.shown) at.position.col s.blocks (below q was.0 (same_of m o (subst (λ x. line_past_separation false x m ≡ Some o) was.1 sep2) ∙ t)))
-        ]
+        let right = (here_on q s w.separation (w.piece ++ next) (on q was.0) was.1).1 in
+        let going : at.blocks ≡ s.blocks = ap (λ k. blocks_at false k at.position.col s.blocks) act ∙ all_stay q.col at.position.col s.blocks (known q was.0).0 (omega (arith, right)) in
+        rw (bs, going) ((known q was.0).0, λ col. waits_on _ at.position at.blocks _ c o v q (still_there false broken m o q ((known q was.0).1 col) sep2).1 act past)
 
-    by : Made s l ds w next a → Made s m es (With w c) next b → AllBelow q.col a.site.blocks
+    by : Made s l ds w next a → Made s m es (With w c) next b → IsNotRight (innermost a.site.blocks) q.col × (is_in_column q.col a.site.blocks ≡ true → b.line ≡ waits q)
     by (outside n u n1 sep1 past1 line1 site1 one1) (outside o v n2 sep2 past2 line2 site2 one2) =
-        rw site1 (both n o u v (like_past false broken l m n o i sep1 sep2) sep1 sep2 past2 (sym line2 ∙ tk) (waits_past _ _ _ (act_of w.shown) w.key n u q past1 (sym line1 ∙ wt)))
+        let r = both n o u v sep1 sep2 past2 (waits_past _ _ _ (act_of w.shown) w.key n u q past1 (sym line1 ∙ wt)) in rw site1 (r.0, λ col. line2 ∙ r.1 col)
     by (outside n u n1 sep1 past1 line1 site1 one1) (inside some sep2 site2 one2) = absurd (cc (sym (ap is_in_flow n1) ∙ same_flow ds es j ∙ some))
     by (inside some sep1 site1 one1) (outside o v n2 sep2 past2 line2 site2 one2) = absurd (cc (sym some ∙ same_flow ds es j ∙ ap is_in_flow n2))
     by (inside some1 sep1 site1 one1) (inside some2 sep2 site2 one2) =
-        rw site1 (below q (waited true broken l a.line q sep1 wt).0 (was_taken_inside broken m b.line sep2 tk))
+        let was = waited true broken l a.line q sep1 wt in rw site1 ((known q was.0).0, λ col. (still_there true broken m b.line q ((known q was.0).1 col) sep2).1)
 
 -- while none waits in the beginning and one in the row, this stays so
 apart_after : (s : Site) (ds es : List Entry) (w : Step) (c : Bool) (next : List ℕ) (a b : Account) (q : Position) → LikeEntries ds es → account_past (with_entries s taken ds) w next ≡ Some a → account_past (with_entries s (waits q) es) (With w c) next ≡ Some b
@@ -188,14 +139,14 @@ apart_after s ds es w c next a b q j e1 e2 = by (made s taken ds w next a e1) (m
 -- ---- as far as a beginning leads
 
 pub together_keeps : Keeps (λ x y _. Together x y)
-together_keeps x y a b v c next i p k e f = record {
-  falls = falls_after x.site x.line x.entries v next a p.falls e;
-  below = below_after x.site x.line y.line x.entries y.entries v c next a b i.1 i.2 p.falls p.below e (rw i.0 f);
+together_keeps x y a b v c next i p h k e f = record {
+  known = known_after x.site x.line y.line x.entries y.entries v c next a b i.1 i.2 p.on_first p.known e (rw i.0 f);
+  on_first = waiting_past x.site x.line x.entries v next a p.on_first h e;
   on = waiting_past y.site y.line y.entries (With v c) next b p.on k f;
 }
 
 pub apart_keeps : (q : Position) → Keeps (λ x y _. Apart q x y)
-apart_keeps q x y a b v c next i p k e f =
+apart_keeps q x y a b v c next i p h k e f =
     let own : Waiting y.line y.site = λ z e. subst (λ u. OnLine u y.site) (cc (sym p.one ∙ e)) p.on in
     let lines : (a.line ≡ taken) × (b.line ≡ waits q) = apart_after x.site x.entries y.entries v c next a b q i.2
     (subst (λ l. account_past (with_entries x.site l x.entries) v next ≡ Some a) p.none e)
@@ -203,12 +154,12 @@ apart_keeps q x y a b v c next i p k e f =
     record { none = lines.0; one = lines.1; on = waiting_past y.site y.line y.entries (With v c) next b own k f q lines.1 }
 
 pub first_together : Together first_account first_account
-first_together = record { falls = tt; below = λ q h t. absurd (cc h); on = λ q h. absurd (cc h) }
+first_together = record { known = λ q h. absurd (cc h); on_first = λ q h. absurd (cc h); on = λ q h. absurd (cc h) }
 
 -- Where a key that must be one waits in a beginning, no line ends before a place to which steps lead without it.
 pub key_on_its_line : (text separation rest : List ℕ) (begin here : Position) (a : Account) (r : Row) → BeginsButForKey text (separation ++ rest) begin a → is_separation false separation rest ≡ true → here ≡ position_after a.site.position separation rest → begin.line < here.line
     → is_empty rest ≡ false → begins_separation rest ≡ false → HasRow text r → ⊥
-key_on_its_line text separation rest begin here a r g filled here_is late some solid row = by first.account.line refl
+key_on_its_line text separation rest begin here a r g filled here_is late some solid row = ends second.steps second.is_row second.spells
   where
     after : List ℕ
     after = separation ++ rest
@@ -216,31 +167,27 @@ key_on_its_line text separation rest begin here a r g filled here_is late some s
     first : Walked (λ x y _. Together x y) g.account (spelled g.steps after)
     first = row_begins (λ x y _. Together x y) together_keeps text (spelled g.steps after) g.account r first_together g.begins row
 
-    like : LikeLine (waits begin) first.account.line
-    like = rw (sym g.line_is) first.is_like.1
+    -- in the row the key waits
+    waiting : first.account.line ≡ waits begin
+    waiting = (first.holds.known begin g.line_is).1 g.must_be
 
-    by : (l : Line) → first.account.line ≡ l → ⊥
-    by (waits q) e = ends second.steps second.is_row second.spells
-      where
-        none : Account
-        none = record { site = g.account.site; line = taken; entries = g.account.entries }
+    none : Account
+    none = record { site = g.account.site; line = taken; entries = g.account.entries }
 
-        second : Walked (λ x y _. Apart q x y) a after
-        second = walk Same (λ x y _. Apart q x y) (keeps_on (λ x y _. Apart q x y) (apart_keeps q)) g.steps first.steps after first.last none first.account a (first.is_like.0, rw e tt, first.is_like.2)
-            (record { none = refl; one = e; on = first.holds.on q e }) (strictly g.steps after (Some none) a g.leads) first.is_row (sym first.spells) first.is_clean
+    second : Walked (λ x y _. Apart begin x y) a after
+    second = walk Same (λ x y _. Apart begin x y) (keeps_on (λ x y _. Apart begin x y) (apart_keeps begin)) g.steps first.steps after first.last none first.account a
+        (first.is_like.0, rw waiting tt, first.is_like.2) (record { none = refl; one = waiting; on = first.holds.on begin waiting }) (strictly g.steps after (Some none) a g.leads) first.is_row (sym first.spells) first.is_clean
 
-        z : Account
-        z = second.account
+    z : Account
+    z = second.account
 
-        ends : (ws : List Step) → IsRowFrom (Some z) ws second.last → spelled ws second.last ≡ after → ⊥
-        ends [] k f = none_ends z q second.holds.one k.1
-        ends (w ∷ ws) k f =
-            let at : (w.separation ≡ separation) × (w.piece ++ spelled ws second.last ≡ rest) = step_here z w (spelled ws second.last) separation rest k.0 f filled solid (no_nul_after separation rest second.is_clean) in
-            let unbroken : begins_free_line z.site.before separation ≡ false = subst (λ x. begins_free_line z.site.before x ≡ false) at.0 (goes_near w ws second.last z q second.holds.one k).unbroken in
-            let line : here.line ≡ q.line = ap (λ (p : Position). p.line) here_is ∙ (ap (λ (s : Site). (position_after s.position separation rest).line) second.is_like.0 ∙ (here_on q z.site separation rest second.holds.on unbroken).0) in
-            let own : begin.line ≡ q.line = ap (λ (p : Position). p.line) (subst (λ l. LikeLine (waits begin) l) e like) in
-            omega (arith, late, line, own)
-    by a e = grind (arith, waits, like, not_below, first)
+    ends : (ws : List Step) → IsRowFrom (Some z) ws second.last → spelled ws second.last ≡ after → ⊥
+    ends [] k f = none_ends z begin second.holds.one k.1
+    ends (w ∷ ws) k f =
+        let at : (w.separation ≡ separation) × (w.piece ++ spelled ws second.last ≡ rest) = step_here z w (spelled ws second.last) separation rest k.0 f filled solid (no_nul_after separation rest second.is_clean) in
+        let unbroken : begins_free_line z.site.before separation ≡ false = subst (λ x. begins_free_line z.site.before x ≡ false) at.0 (goes_near w ws second.last z begin second.holds.one k).unbroken in
+        let line : here.line ≡ begin.line = ap (λ (p : Position). p.line) here_is ∙ (ap (λ (s : Site). (position_after s.position separation rest).line) second.is_like.0 ∙ (here_on begin z.site separation rest second.holds.on unbroken).0) in
+        omega (arith, late, line)
 
 pub texts_with_a_row_are_not_stuck : TextsWithARowAreNotStuck
 texts_with_a_row_are_not_stuck text why at r row (fails a separation rest why2 here at2 place some solid f) = failing_places_have_no_row text separation rest a here at why r place solid some f.fails row
@@ -249,47 +196,41 @@ texts_with_a_row_are_not_stuck text why at r row (key_waits a separation rest wh
 
 -- ---- a row that goes through a place
 
--- steps lead on from an account
-some_past : (o : Option Account) (ws : List Step) (after : List ℕ) (b : Account) → Leads o ws after b → (c : Account) × (o ≡ Some c) × Leads (Some c) ws after b
-some_past o ws after b h = grind (arith, nat_tests, eqb-true)
-
-leads_waiting : (ws : List Step) (after : List ℕ) (a b : Account) → Waiting a.line a.site → Leads (Some a) ws after b → Waiting b.line b.site
-leads_waiting [] after a b on e = rw (sym e) on
-leads_waiting (w ∷ ws) after a b on h =
+-- what each step keeps, a beginning does
+along : (P : Account → List ℕ → Type 0) → ((x y : Account) (w : Step) (next : List ℕ) → P x (w.separation ++ (w.piece ++ next)) → IsWritten x w next → account_past x w next ≡ Some y → P y next)
+    → (ws : List Step) (after : List ℕ) (a b : Account) → P a (spelled ws after) → Leads (Some a) ws after b → P b after
+along P keeps [] after a b p e = subst (λ x. P x after) e p
+along P keeps (w ∷ ws) after a b p h =
+    -- steps lead on from an account
+    let some_past : (o : Option Account) (ws : List Step) (after : List ℕ) (b : Account) → Leads o ws after b → (c : Account) × (o ≡ Some c) × Leads (Some c) ws after b = λ o ws after b h. grind (arith, nat_tests, eqb-true) in
     let c = some_past (account_past a w (spelled ws after)) ws after b h.1 in
-    leads_waiting ws after c.0 b (waiting_past a.site a.line a.entries w (spelled ws after) c.0 on h.0 c.1) c.2
+    along P keeps ws after c.0 b (keeps a c.0 w (spelled ws after) p h.0 c.1) c.2
 
 -- each beginning of a row is on the line of its key that waits
 begins_waiting : (text after : List ℕ) (b : Account) → Begins text after b → Waiting b.line b.site
-begins_waiting text after b g = leads_waiting g.steps after first_account b (λ q e. absurd (cc e)) g.leads
+begins_waiting text after b g = along (λ x _. Waiting x.line x.site) (λ x y w next p. waiting_past x.site x.line x.entries w next y p) g.steps after first_account b (λ q e. absurd (cc e)) g.leads
 
 -- ---- positions
 
--- the text of steps, without what comes after them
-before_is : (ws : List Step) (after : List ℕ) → spelled ws after ≡ spelled ws [] ++ after
-before_is [] after = refl
-before_is (w ∷ ws) after = grind (arith, append_assoc, before_is ws after)
+further_in : (text f rest : List ℕ) (p : Position) → IsPositionIn text (f ++ rest) p → IsPositionIn text rest (position_after p f rest)
+further_in text f rest p at = record {
+  before = at.before ++ f;
+  is_text = at.is_text ∙ sym (append_assoc at.before f rest);
+  is_position = ap (λ q. position_after q f rest) at.is_position ∙ sym (position_append first_position at.before f rest);
+}
 
-leads_position : (ws : List Step) (after : List ℕ) (a b : Account) → Leads (Some a) ws after b → b.site.position ≡ position_after a.site.position (spelled ws []) after
-leads_position [] after a b e = ap (λ (x : Account). x.site.position) (sym e)
-leads_position (w ∷ ws) after a b h =
-    let c = some_past (account_past a w (spelled ws after)) ws after b h.1 in
-    let rest : List ℕ = spelled ws [] in
-    let here : Position = position_after a.site.position w.separation (w.piece ++ (rest ++ after)) in
-    leads_position ws after c.0 b c.2 ∙ ap (λ p. position_after p rest after) (place c.0 (made a.site a.line a.entries w (spelled ws after) c.0 c.1)) ∙
-    ap (λ x. position_after (position_after (position_after a.site.position w.separation (w.piece ++ x)) w.piece x) rest after) (before_is ws after) ∙ sym (position_append here w.piece rest after) ∙
-    ap (λ x. position_after (position_after a.site.position w.separation x) (w.piece ++ rest) after) (sym (append_assoc w.piece rest after)) ∙ sym (position_append a.site.position w.separation (w.piece ++ rest) after)
-  where
-    place : (c : Account) → Made a.site a.line a.entries w (spelled ws after) c → c.site.position ≡ position_after (position_after a.site.position w.separation (w.piece ++ spelled ws after)) w.piece (spelled ws after)
-    place c h = grind (arith, nat_tests, eqb-true, outside, inside)
+place_past : (text : List ℕ) (x y : Account) (w : Step) (next : List ℕ) → IsPositionIn text (w.separation ++ (w.piece ++ next)) x.site.position → account_past x w next ≡ Some y → IsPositionIn text next y.site.position
+place_past text x y w next at e =
+    let place : Made x.site x.line x.entries w next y → y.site.position ≡ position_after (position_after x.site.position w.separation (w.piece ++ next)) w.piece next = λ h. grind (arith, nat_tests, eqb-true, outside, inside) in
+    subst (IsPositionIn text next) (sym (place (made x.site x.line x.entries w next y e))) (further_in text w.piece next _ (further_in text w.separation (w.piece ++ next) x.site.position at))
 
 -- A separation after a beginning of a row ends where the scanner is, before the same text.
 same_place : (text separation rest : List ℕ) (p : Position) (b : Account) → has_no_nul text ≡ true → IsPositionIn text rest p → Begins text (separation ++ rest) b → p ≡ position_after b.site.position separation rest
 same_place text separation rest p b nul at g =
-    let before : List ℕ = spelled g.steps [] in
-    let all : at.before ++ rest ≡ (before ++ separation) ++ rest = sym at.is_text ∙ (sym (whole_text text nul) ∙ (sym g.spells ∙ (before_is g.steps (separation ++ rest) ∙ sym (append_assoc before separation rest)))) in
-    at.is_position ∙ (ap (λ x. position_after first_position x rest) (append_cancel_right at.before (before ++ separation) rest all) ∙
-    (position_append first_position before separation rest ∙ ap (λ q. position_after q separation rest) (sym (leads_position g.steps (separation ++ rest) first_account b g.leads))))
+    let begin : IsPositionIn text (spelled g.steps (separation ++ rest)) first_position = record { before = []; is_text = sym (whole_text text nul) ∙ sym g.spells; is_position = refl } in
+    let there : IsPositionIn text rest (position_after b.site.position separation rest) = further_in text separation rest b.site.position
+    (along (λ x next. IsPositionIn text next x.site.position) (λ x y w next h k e. place_past text x y w next h e) g.steps (separation ++ rest) first_account b begin g.leads) in
+    at.is_position ∙ (ap (λ x. position_after first_position x rest) (append_cancel_right at.before there.before rest (sym at.is_text ∙ there.is_text)) ∙ sym there.is_position)
 
 -- While a key waits in the row, each part of the separation there ends on the key's line, and near.
 near_there : (text after : List ℕ) (q : Position) (g : GoesThrough text after) → g.account.line ≡ waits q → (separation rest : List ℕ) → after ≡ separation ++ rest → is_separation false separation rest ≡ true → is_far q (position_after g.account.site.position separation rest) ≡ false
@@ -324,22 +265,18 @@ none_at_end text separation rest q g waiting filled none = by g.steps g.is_row g
 -- ---- open keys
 
 -- a key that must be one is the one outside flow
-required_around : (fs : List FlowLevel) (ks : List (Option Key)) (es : List Entry) → AreAround fs ks es → length ks ≡ suc (length fs) → has_required ks ≡ true → (k : Key) × (outside_key es ks ≡ Some k) × (k.required ≡ true)
-required_around [] [] es a n h = absurd (cc h)
-required_around [] b (e ∷ es) a n h = grind arith
-required_around [] (None ∷ []) [] a n h = absurd (cc h)
-required_around [] (Some k ∷ []) [] a n h = grind arith
-required_around [] (k ∷ x ∷ ks) [] a n h = absurd (omega (arith, n))
-required_around (f ∷ fs) ks [] a n h = grind arith
-required_around (f ∷ fs) [] (e ∷ es) a n h = absurd (cc h)
-required_around (f ∷ fs) (k ∷ ks) (e ∷ es) a n h = grind (arith, required_around fs ks es)
+required_around : (fs : List FlowLevel) (ks : List (Option Key)) (es : List Entry) → AreAround fs ks es → length ks ≡ suc (length fs) → has_required ks ≡ is_required (outside_key es ks)
+required_around [] (k ∷ []) [] a n = grind (arith, or-false)
+required_around (f ∷ fs) (k ∷ ks) (e ∷ es) a n = grind (arith, required_around fs ks es)
+required_around fs ks es a n = grind arith
 
-required_outside : (allowed again : Bool) (fs : List FlowLevel) (ks : List (Option Key)) (es : List Entry) → AreEntries allowed again fs ks es → length ks ≡ suc (length fs) → has_required ks ≡ true → (k : Key) × (outside_key es ks ≡ Some k) × (k.required ≡ true)
-required_outside allowed again [] ks [] a n h = required_around [] ks [] tt n h
-required_outside allowed again [] ks (e ∷ es) a n h = absurd a
-required_outside allowed again (f ∷ fs) [] es a n h = absurd (cc h)
-required_outside allowed again (f ∷ fs) (k ∷ ks) [] a n h = absurd a
-required_outside allowed again (f ∷ fs) b (e ∷ es) a n h = grind (arith, required_around)
+required_outside : (allowed again : Bool) (fs : List FlowLevel) (ks : List (Option Key)) (es : List Entry) → AreEntries allowed again fs ks es → length ks ≡ suc (length fs) → has_required ks ≡ is_required (outside_key es ks)
+required_outside allowed again [] ks [] a n = required_around [] ks [] tt n
+required_outside allowed again (f ∷ fs) (k ∷ ks) (e ∷ es) a n = grind (arith, required_around fs ks es)
+required_outside allowed again fs ks es a n = grind arith
+
+found : (o k : Option Key) → o ≡ k → is_required k ≡ true → (x : Key) × (o ≡ Some x) × (x.required ≡ true)
+found o a e m = grind arith
 
 -- ---- between two fetches, and at the text's end
 
@@ -351,7 +288,7 @@ stale_rowless text u s nul k e must far r h =
 
 pub end_rowless : (text : List ℕ) (t : ScannerState) (a : Arrives text t) → t.rest ≡ [] → has_required t.held.keys ≡ true → IsRowless text
 end_rowless text t a none must r h =
-    let k = required_outside t.held.key_allowed _ t.held.flow t.held.keys a.base.entries a.are_entries a.one_each must in
+    let k = found _ (outside_key a.base.entries t.held.keys) refl (sym (required_outside t.held.key_allowed _ t.held.flow t.held.keys a.base.entries a.are_entries a.one_each) ∙ must) in
     let g : GoesThrough text (a.separation ++ t.rest) = a.knows.rows r h in
     none_at_end text a.separation t.rest k.0.position g (a.knows.required g.account k.0 g.begins k.1 k.2) a.is_filled none
 
@@ -378,15 +315,15 @@ module _ {a : Account} {separation rest : List ℕ} {here : Position} (s : StepA
   -- the text says so
   pub closes : (c : ℕ) (more : List ℕ) → rest ≡ c ∷ more → (c ≡ 44) ⊎ (c ≡ 93) ⊎ (c ≡ 125) → (act_of s.step.shown ≡ gives_comma) ⊎ (act_of s.step.shown ≡ gives_closing)
   unfolding is_blank_or_end is_blank is_break is_nul is_flow
-  closes c more e (inl is) = let w : Whole comma (context_of (acct s)) s.step.piece s.next s.step.shown = whole_by s 44 more (e ∙ ap (λ x. x ∷ more) is) in inl (ap act_of w.1)
-  closes c more e (inr (inl is)) = let w : Whole sequence_closing (context_of (acct s)) s.step.piece s.next s.step.shown = whole_by s 93 more (e ∙ ap (λ x. x ∷ more) is) in inr (ap act_of w.1)
-  closes c more e (inr (inr is)) = let w : Whole mapping_closing (context_of (acct s)) s.step.piece s.next s.step.shown = whole_by s 125 more (e ∙ ap (λ x. x ∷ more) is) in inr (ap act_of w.1)
+  closes c more e (inl is) = let w : Here s comma = whole_by s 44 more (e ∙ ap (λ x. x ∷ more) is) in inl (ap act_of w.1)
+  closes c more e (inr (inl is)) = let w : Here s sequence_closing = whole_by s 93 more (e ∙ ap (λ x. x ∷ more) is) in inr (ap act_of w.1)
+  closes c more e (inr (inr is)) = let w : Here s mapping_closing = whole_by s 125 more (e ∙ ap (λ x. x ∷ more) is) in inr (ap act_of w.1)
 
 -- in flow the innermost open key need not be one
 free_inside : (allowed again : Bool) (fs : List FlowLevel) (ks : List (Option Key)) (es : List Entry) → is_empty fs ≡ false → AreEntries allowed again fs ks es → is_required (top_key ks) ≡ false
 free_inside allowed again a ks es i b = grind arith
 
-module _ (text : List ℕ) (t : ScannerState) (a : Arrives text t) (some : is_empty t.rest ≡ false) where
+module _ {text : List ℕ} {t : ScannerState} (a : Arrives text t) (some : is_empty t.rest ≡ false) where
   -- outside flow the open key is that outside
   key_outside : is_empty t.held.flow ≡ true → outside_key a.base.entries t.held.keys ≡ top_key t.held.keys
   key_outside out = ap (λ es. outside_key es t.held.keys) (no_entries t.held.key_allowed _ t.held.flow t.held.keys a.base.entries out a.are_entries)
@@ -399,18 +336,15 @@ module _ (text : List ℕ) (t : ScannerState) (a : Arrives text t) (some : is_em
   rowless : ((b : Account) (s : StepAt b a.separation t.rest t.held.position) (q : Position) → is_in_flow b.entries ≡ false → s.account.line ≡ waits q → Waiting s.account.line s.account.site → ⊥) → is_required (top_key t.held.keys) ≡ true → IsRowless text
   rowless refuted must r h = elim (cases_Bool (is_empty t.held.flow)) [
     | inl out ↦
-        let k = found (top_key t.held.keys) (key_outside out) must in
-        let at : RowAt text (account_by text t a some true []) a.separation t.rest t.held.position = row_at text a.separation t.rest (account_by text t a some true []) t.held.position r (place text t a some true [] (may _ (a.is_near out))) a.is_solid some h in
-        refuted (account_by text t a some true []) at.step_at k.0.position (in_flow_is text t a some true [] ∙ ap not out) (a.knows.required at.step_at.account k.0 at.begins k.1 k.2) (begins_waiting text (a.separation ++ t.rest) at.step_at.account at.begins)
+        let k = found _ (top_key t.held.keys) (key_outside out) must in
+        let at : RowAt text (account_by a some true []) a.separation t.rest t.held.position = row_at text a.separation t.rest (account_by a some true []) t.held.position r (place a some true [] (may _ (a.is_near out))) a.is_solid some h in
+        refuted (account_by a some true []) at.step_at k.0.position (in_flow_is a some true [] ∙ ap not out) (a.knows.required at.step_at.account k.0 at.begins k.1 k.2) (begins_waiting text (a.separation ++ t.rest) at.step_at.account at.begins)
     | inr i ↦ cc (free_inside t.held.key_allowed _ t.held.flow t.held.keys a.base.entries i a.are_entries, must)
   ]
     where
       -- it is near
       may : (k : Option Key) → IsNear k t.held.position → MayChoose true true k t.held.position t.rest
       may a near = grind (arith, some)
-
-      found : (k : Option Key) → outside_key a.base.entries t.held.keys ≡ k → is_required k ≡ true → (x : Key) × (outside_key a.base.entries t.held.keys ≡ Some x) × (x.required ≡ true)
-      found a e m = grind arith
 
   pub line_rowless : t.held.position.col ≡ 0 → is_required (top_key t.held.keys) ≡ true → IsRowless text
   line_rowless col = rowless (λ b s q out waiting on. not_first s q waiting on col)

@@ -1,86 +1,96 @@
--- Faults of names, tags and scalars: no such piece begins with the text.
-use Rattle.proof_scanner.proofs.Common.{anchor_name, and_parts, ap, are_single, Arrives, context, false, Fault, fetch_anchor, fetch_flow_scalar, fetch_tag, has_no_nul, in_flow, is_empty, is_nul, List, mark_of, NameKind, names_end, node_start, not, Ok, quoted, Quotes, Read, refused_as, ScannerState, subst, sym, tags_end, true, ℕ, ◌∙◌, ◌∷◌, ◌≡◌, [], append_assoc, Bool, check_after_quoted, columns, Context, has_break, has_open_level, held_of, inr, is_indented_by_spaces, is_separation, may_not_stand, no_nul_after, Position, position_after, position_append, quoted_scalar, site_at_place, skip_to_next_token, ◌++◌, arith, eqb-true, nat_tests, AnchorName, TabInBlockIndentation, Alias, Anchor}
-use Rattle.proof_scanner.proofs.Refusals.Common.{Checked, Faults, IsDeep, LiesDeep, QuotedAs, Said, account_by, awaits_by, blocks_by, goes, in_line, in_turn, least_by, least_is, looked_at, mapped, none_here, quoted_as, quoted_checked, read, same_has_break, saved_is, separation_append, stuck}
-use Rattle.proof_scanner.proofs.Refusals.Quotes.{after_told, refused_told, closed, piece, is, fits}
-use Rattle.proof_scanner.proofs.Refusals.AfterQuoted.{unglued}
-use Rattle.proof_scanner.proofs.Refusals.Passing.{TabStands, skip_refused}
+-- Faults of names, tags, plain and quoted scalars: no such piece begins with the text.
+use Rattle.proof_scanner.proofs.Common.{anchor_name, and_parts, ap, are_single, Arrives, context, false, Fault, fetch_anchor, fetch_flow_scalar, fetch_tag, has_no_nul, in_flow, is_empty, is_nul, List, mark_of, NameKind, names_end, node_start, not, Ok, quoted, Quotes, Read, refused_as, ScannerState, subst, sym, tags_end, true, ℕ, ◌∙◌, ◌∷◌, ◌≡◌, [], columns, Context, Position, position_after, ◌++◌, arith, eqb-true, nat_tests, AnchorName, Alias, Anchor, allow_key, before_by, before_past, begins_left, collection_of, comes_plain, fetch_plain_scalar, goes_on, goes_over, HasNoPlainFault, HasTab, innermost, is_adjacent, IsPlainFault, IsPlainRefusal, least_column, nat_le, nat_lt, no_plain, Option, plain_first, Problem, scans_end, unroll_non_block_indents, without_open, FlowIndentation, PlainDashInFlow, PlainTab}
+use Rattle.proof_scanner.proofs.Refusals.Common.{Faults, IsDeep, LiesDeep, QuotedAs, Told, goes, in_turn, looked_at, none_begins, quoted_as, read, saved_is, AreClosed, IsWhy, less_or, saved_keys, solid_text, stuck_by, without_is}
+use Rattle.proof_scanner.proofs.Refusals.Quotes.{after_told, refused_told, tab_told}
 use Rattle.model_scanner.specs.Tag as tags
 use Rattle.proof_lexers.specs.NameEnds as names
 use Rattle.proof_lexers.specs.TagEnds as tag_ends
 use Rattle.proof_scanner.specs.NoPiece as none
-use Rattle.proof_scanner.specs.Failing as defs
+use Rattle.defs_token.specs.Plain.{inside}
+use Rattle.model_scanner.specs.Plain.{plain}
+use Rattle.proof_lexers.specs.PlainEnds as plains
 
--- ---- a TAB after a quoted scalar, on a later line, which would indent the next piece
+-- ---- texts
 
-module _ (text : List ℕ) (t : ScannerState) (a : Arrives text t) (some : is_empty t.rest ≡ false) (lies : LiesDeep t) (single : Bool) (ctx : Context) (x : Read (List ℕ)) (q : QuotedAs single ctx t.held.position t.rest x) (same : ctx.indent ≡ t.held.indent) where
-  abbrev own : ScannerState
-  own = closed text t a some lies single ctx x q same
+over_alike : (c : Context) (collection : Option ℕ) (text next : List ℕ) → collection_of c.indent ≡ collection → plains.goes_over c text next ≡ goes_over c.flow collection text next
+over_alike c a b d e = grind (arith, goes_on, inside)
 
-  abbrev scalar : List ℕ
-  scalar = piece text t a some lies single ctx x q same
+-- ---- the scan
 
-  abbrev blocks : List ℕ
-  blocks = columns t.held.indent t.held.indents
+module _ {text : List ℕ} {t : ScannerState} (a : Arrives text t) (some : is_empty t.rest ≡ false) (lies : LiesDeep t) (deep : IsDeep t.held)
+    (comes : comes_plain (in_flow t.held) (is_adjacent (before_past (before_by a.base.site.before) a.separation)) t.held.position.col t.rest ≡ true) where
+  abbrev collections : List ℕ
+  collections = columns t.held.indent t.held.indents
 
-  abbrev awaits : Bool
-  awaits = has_open_level t.held.indents
+  -- the levels without those that open no collection
+  levels : AreClosed t.held.indent t.held.indents t.held.tokens (without_open t.held.indent t.held.indents t.held.tokens)
+  levels = without_is t.held.indent t.held.indents t.held.tokens a.are_levels
 
-  module _ (v : ScannerState) (c : Checked scalar own v) where
-    abbrev spaces : List ℕ
-    spaces = c.spaces.blanks ++ c.spaces.comment
+  abbrev ctx : Context
+  ctx = record { flow = in_flow t.held; indent = (without_open t.held.indent t.held.indents t.held.tokens).indent }
 
-    no_break : has_break spaces ≡ false
-    no_break = sym (same_has_break spaces) ∙ c.spaces.no_break
+  least_by_levels : least_column collections true ≡ ctx.indent
+  least_by_levels = ap (λ bs. least_column bs true) levels.same_columns ∙ levels.is_least.1
 
-    tab_stuck : {f : Fault} → TabStands blocks awaits quoted_scalar spaces v.rest v.held.position f → Said text f
-    tab_stuck d =
-        let gap : List ℕ = spaces ++ d.passed in
-        let cut : x.rest ≡ gap ++ d.rest = c.spaces.is_rest ∙ (sym (append_assoc c.spaces.blanks c.spaces.comment v.rest) ∙ (ap (λ r. spaces ++ r) d.cut ∙ sym (append_assoc spaces d.passed d.rest))) in
-        let is_filled : is_separation false gap d.rest ≡ true = separation_append false spaces d.passed d.rest (rw (sym d.cut) c.spaces.is_filled) d.is_filled in
-        let end : Position = position_after t.held.position scalar (gap ++ d.rest) in
-        let place : position_after v.held.position d.passed d.rest ≡ position_after end gap d.rest =
-        ap (λ p. position_after p d.passed d.rest) (ap (λ h. h.position) c.spaces.is_held ∙ ap (λ r. position_after x.position spaces r) d.cut) ∙
-        (sym (position_append x.position spaces d.passed d.rest) ∙ ap (λ p. position_after p gap d.rest) (q.end_is ∙ ap (λ r. position_after t.held.position scalar r) cut)) in
-        rw d.is_fault (λ _. rw place
-        (stuck text t a some [] TabInBlockIndentation (position_after end gap d.rest) (λ k may.
-        record {
-          fails = may_not_stand (defs.tab_after_quoted single scalar gap d.rest (q.cut ∙ ap (λ r. scalar ++ r) cut) (rw (sym cut) (is text t a some lies single ctx x q same)) is_filled d.goes_on d.is_solid
-              (ap (λ bs. is_indented_by_spaces quoted_scalar bs (site_at_place (account_by text t a some k []) t.held.position).awaits gap) (blocks_by text t a some k []) ∙
-              (ap (λ w. is_indented_by_spaces quoted_scalar blocks w gap) (awaits_by text t a some k []) ∙ d.is_indented_by_tab)));
-          is_first = (looked_at text t a some lies k [], rw (least_by text t a some k []) (fits text t a some lies single ctx x q same), rw (sym cut) (unglued (in_flow own.held) scalar x.rest c.may_end));
-        })))
+  collection_is : collection_of ctx.indent ≡ innermost collections
+  collection_is = levels.is_least.0 ∙ ap innermost (sym levels.same_columns)
 
-    told : Faults (Said text) (skip_to_next_token v)
-    told = mapped (λ f d. tab_stuck d) (skip_refused quoted_scalar blocks awaits spaces v (grind (arith, nat_tests, eqb-true, least_is, saved_is)) (λ _. (inr (record { leading_is = λ i. ap (λ h. h.leading) c.spaces.is_held ∙ sym no_break; col_is = λ b. absurd (cc (b, no_break)); spaced = λ b. absurd (cc (b, no_break)) }))))
+  -- the plain scalar that begins here is none
+  plain_stuck : (why : Problem) (at : Position) (x : IsPlainFault (in_flow t.held) collections t.held.position t.rest why at) → plain_first (in_flow t.held) collections t.held.position t.rest why at x → IsWhy text why at
+  plain_stuck why at x first =
+      stuck_by a some why at (λ b bs k. (l : comes_plain b (is_adjacent (before_past (before_by a.base.site.before) a.separation)) t.held.position.col t.rest ≡ true) × (y : IsPlainFault b bs t.held.position t.rest why at) × plain_first b bs t.held.position t.rest why at y) (comes, x, first)
+      (λ c may m. record { fails = no_plain m.0 m.1; is_first = (looked_at a some lies c [], m.2) })
 
-  -- what stands on the way to the next token after a quoted scalar
-  pub tab_told : (v : ScannerState) → check_after_quoted t.held.position.line own ≡ Ok v → Faults (Said text) (skip_to_next_token v)
-  tab_told v e =
-      let clean : has_no_nul x.rest ≡ true = no_nul_after scalar x.rest (subst (λ r. has_no_nul r ≡ true) q.cut a.is_clean) in
-      told v (held_of v (quoted_checked t.held.position scalar own (in_line single q.body) clean q.end_is) e)
+  -- the scalar does not begin left of its column
+  no_column : begins_left ctx t.held.position ≡ false → HasNoPlainFault ctx.flow collections t.held.position t.rest FlowIndentation
+  no_column deep place a = grind (arith, least_by_levels)
 
-module _ (text : List ℕ) (t : ScannerState) (a : Arrives text t) (some : is_empty t.rest ≡ false) (lies : LiesDeep t) where
+  -- no TAB that is wrong begins a line of it
+  no_tab_fault : (HasTab ctx t.rest → ⊥) → HasNoPlainFault ctx.flow collections t.held.position t.rest PlainTab
+  no_tab_fault free place a = grind (arith, nat_tests, eqb-true, over_alike, collection_is, least_by_levels)
+
+  refused : (f : Fault) → IsPlainRefusal ctx t.held.position t.rest f → Told text f
+  refused f (plains.by_column flow left) =
+      let shallow : nat_le (least_column collections true) t.held.position.col ≡ false = grind (arith, nat_tests, least_by_levels, left) in
+      λ _. plain_stuck FlowIndentation t.held.position (none.by_column flow shallow) tt
+  refused f (plains.by_tab deep tab) =
+      λ _. plain_stuck PlainTab t.held.position
+      (none.by_tab tab.before tab.blanks tab.rest tab.column tab.is_text (sym (over_alike ctx (innermost collections) tab.before (9 ∷ (tab.blanks ++ tab.rest)) collection_is) ∙ tab.is_over) tab.is_at (ap (nat_lt tab.column) least_by_levels ∙ tab.is_left) tab.are_blanks tab.is_token)
+      (no_column deep)
+  refused f (plains.by_dash before rest deep free flow cut begins over apart) =
+      λ _. plain_stuck PlainDashInFlow (position_after t.held.position before (45 ∷ rest))
+      (none.by_dash before rest flow cut begins (sym (over_alike ctx (innermost collections) before (45 ∷ rest) collection_is) ∙ over) apart)
+      (no_column deep, no_tab_fault free)
+
+  pub plain_told : Faults (Told text) (fetch_plain_scalar t)
+  unfolding fetch_plain_scalar unroll_non_block_indents
+  plain_told =
+      rw (saved_is t.held)
+      (read (unroll_non_block_indents (allow_key false (record t.held { keys = saved_keys t.held }))) (plain ctx t.rest t.held.position) _ (λ f k. refused f (refused_as k
+      (scans_end ctx t.rest t.held.position a.is_clean (solid_text t.rest some a.is_solid) (less_or (in_flow t.held) ctx.indent t.held.position.col (omega (arith, deep, levels.not_deeper)))))) (λ x k. goes))
+
+module _ {text : List ℕ} {t : ScannerState} (a : Arrives text t) (some : is_empty t.rest ≡ false) (lies : LiesDeep t) where
   -- `*` or `&`
-  pub name_told : (kind : NameKind) (more : List ℕ) → t.rest ≡ mark_of kind ∷ more → Faults (Said text) (fetch_anchor kind t)
+  pub name_told : (kind : NameKind) (more : List ℕ) → t.rest ≡ mark_of kind ∷ more → Faults (Told text) (fetch_anchor kind t)
   unfolding fetch_anchor
   name_told kind more e = read (node_start t.held) (anchor_name t.rest t.held.position) _ (λ f k. by kind e f (refused_as (ap (λ r. anchor_name r t.held.position) (sym e) ∙ k) (names_end (mark_of kind) more t.held.position))) (λ x k. goes)
     where
-      by : (kind : NameKind) → t.rest ≡ mark_of kind ∷ more → (f : Fault) → names.IsNameRefusal t.held.position more f → Said text f
-      by Alias e f (names.nameless lacks) = λ _. none_here text t a some lies AnchorName (none.nameless true more e lacks) tt
-      by Anchor e f (names.nameless lacks) = λ _. none_here text t a some lies AnchorName (none.nameless false more e lacks) tt
+      by : (kind : NameKind) → t.rest ≡ mark_of kind ∷ more → (f : Fault) → names.IsNameRefusal t.held.position more f → Told text f
+      by Alias e f (names.nameless lacks) = λ _. none_begins a some lies AnchorName _ (none.nameless true more e lacks) tt
+      by Anchor e f (names.nameless lacks) = λ _. none_begins a some lies AnchorName _ (none.nameless false more e lacks) tt
 
   -- `!`
-  pub tag_told : (more : List ℕ) → t.rest ≡ 33 ∷ more → Faults (Said text) (fetch_tag t)
+  pub tag_told : (more : List ℕ) → t.rest ≡ 33 ∷ more → Faults (Told text) (fetch_tag t)
   unfolding fetch_tag
   tag_told more e =
       read (node_start t.held) (tags.tag (in_flow t.held) t.rest t.held.position) _
       (λ f k. by f (refused_as (ap (λ r. tags.tag (in_flow t.held) r t.held.position) (sym e) ∙ k) (tags_end (in_flow t.held) more t.held.position))) (λ x k. goes)
     where
-      by : (f : Fault) → tag_ends.IsTagFault (in_flow t.held) t.held.position more f → Said text f
-      by f (tag_ends.at_start why reason) = λ _. none_here text t a some lies why (none.tagless more why e reason) tt
+      by : (f : Fault) → tag_ends.IsTagFault (in_flow t.held) t.held.position more f → Told text f
+      by f (tag_ends.at_start why reason) = λ _. none_begins a some lies why _ (none.tagless more why e reason) tt
 
   -- `'` or `"`
-  pub quoted_told : IsDeep t.held → (quotes : Quotes) (more : List ℕ) → t.rest ≡ none.quote_of (are_single quotes) ∷ more → Faults (Said text) (fetch_flow_scalar quotes t)
+  pub quoted_told : IsDeep t.held → (quotes : Quotes) (more : List ℕ) → t.rest ≡ none.quote_of (are_single quotes) ∷ more → Faults (Told text) (fetch_flow_scalar quotes t)
   unfolding fetch_flow_scalar
   quoted_told deep quotes more e =
       let same : (context (node_start t.held)).indent ≡ t.held.indent = ap (λ h. h.indent) (saved_is t.held) in
@@ -89,5 +99,5 @@ module _ (text : List ℕ) (t : ScannerState) (a : Arrives text t) (some : is_em
       rw e
       (quoted_as quotes (context (node_start t.held)) t.held.position more x clean (subst (λ r. quoted (are_single quotes) (context (node_start t.held)) r t.held.position ≡ Ok x) e k)) in
       read (node_start t.held) (quoted (are_single quotes) (context (node_start t.held)) t.rest t.held.position) _
-      (λ f k. refused_told text t a some lies deep (are_single quotes) (context (node_start t.held)) same more e clean f (ap (λ r. quoted (are_single quotes) (context (node_start t.held)) r t.held.position) (sym e) ∙ k))
-      (λ x k. in_turn (after_told text t a some lies (are_single quotes) (context (node_start t.held)) x (read_as x k) same) (λ v i. in_turn (tab_told text t a some lies (are_single quotes) (context (node_start t.held)) x (read_as x k) same v i) (λ w j. goes)))
+      (λ f k. refused_told a some lies deep (are_single quotes) (context (node_start t.held)) same more e clean f (ap (λ r. quoted (are_single quotes) (context (node_start t.held)) r t.held.position) (sym e) ∙ k))
+      (λ x k. in_turn (after_told a some lies (are_single quotes) (context (node_start t.held)) x (read_as x k) same) (λ v i. in_turn (tab_told a some lies (are_single quotes) (context (node_start t.held)) x (read_as x k) same v i) (λ w j. goes)))

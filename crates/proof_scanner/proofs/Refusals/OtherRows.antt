@@ -1,7 +1,7 @@
 -- A row of a text goes through each place that a beginning of a row leads to, at an account that is like the beginning's; and its next piece stands there.
-use Rattle.proof_scanner.proofs.Common.{[], Account, account_past, ap, append-nil, Begins, begins_free_line, begins_separation, Bool, false, first_account, further_lines_stand, has_no_nul, HasRow, if◌then◌else◌, is_deep_enough, is_empty, is_gap, is_in_flow, is_indented_by_spaces, is_renewed, is_separation, IsLike, IsPlace, IsRowFrom, IsWritten, least_for, line_past_separation, List, may_precede, no_nul_after, None, on_one_line, past_piece, plain_scalar, Position, position_after, refl, Row, separations, Some, spelled, Step, subst, sym, true, up_to_nul, ℕ, ◌&&◌, ◌++◌, ◌∙◌, ◌∷◌, ◌≡◌, arith, eqb-true, nat_tests, act_of, and_parts, ends_separation, inl, inr, is_break, is_in_column, line_past, longer, may_end, not, Option, same_head, Site, site_at, waits, ◌+◌, ◌==◌, ◌≤◌, ◌⊎◌}
+use Rattle.proof_scanner.proofs.Common.{[], Account, account_past, ap, append-nil, Begins, begins_free_line, begins_separation, Bool, false, first_account, further_lines_stand, has_no_nul, HasRow, if◌then◌else◌, is_deep_enough, is_empty, is_gap, is_in_flow, is_indented_by_spaces, is_separation, IsLike, IsPlace, IsRowFrom, IsWritten, least_for, List, may_precede, no_nul_after, None, plain_scalar, Position, position_after, refl, Row, separations, Some, spelled, Step, subst, sym, true, up_to_nul, ℕ, ◌&&◌, ◌++◌, ◌∙◌, ◌∷◌, ◌≡◌, arith, eqb-true, nat_tests, act_of, and_parts, ends_separation, inl, inr, is_break, is_in_column, line_past, longer, may_end, not, Option, same_head, Site, site_at, waits, ◌+◌, ◌==◌, ◌≤◌, ◌⊎◌}
 use Rattle.proof_row.proofs.Written.{At}
-use Rattle.proof_scanner.proofs.Refusals.Common.{KeepsOn, Made, Same, Walked, With, begins_at_start, begins_past, ends_before, gap_is_separation, index_after, inside, made, outside, row_walks, step_here, still_there, strict_way}
+use Rattle.proof_scanner.proofs.Refusals.Common.{some_row, Keeps, KeepsOn, Made, Same, Walked, With, begins_at_start, begins_past, ends_before, index_after, inside, made, outside, row_walks, step_here, still_there, strict_way}
 use Rattle.proof_row.proofs.Separations.{over}
 
 -- ---- a key that waits outside flow is near as long as a row goes on: its colon is still to come, on its line, at most 1024 characters after its start
@@ -15,10 +15,6 @@ pub record GoesNear (a : Account) (w : Step) (next : List ℕ) (q : Position) : 
   pub unbroken : begins_free_line a.site.before w.separation ≡ false
   pub near : (position_after a.site.position w.separation (w.piece ++ next)).index ≤ q.index + 1024
 
--- a row goes on from an account
-pub some_row : (o : Option Account) (ws : List Step) (last : List ℕ) → IsRowFrom o ws last → (c : Account) × (o ≡ Some c) × IsRowFrom (Some c) ws last
-some_row o ws last h = grind (arith, nat_tests, eqb-true)
-
 near_by : (w : Step) (ws : List Step) (last : List ℕ) (a : Account) (q : Position) → a.line ≡ waits q → IsRowFrom (Some a) (w ∷ ws) last → ((b : Account) → b.line ≡ waits q → IsRowFrom (Some b) ws last → b.site.position.index ≤ q.index + 1024) → GoesNear a w (spelled ws last) q
 near_by w ws last a q e row further = let c = some_row (account_past a w (spelled ws last)) ws last row.1 in of c.0 c.2 (made a.site a.line a.entries w (spelled ws last) c.0 c.1)
   where
@@ -28,18 +24,14 @@ near_by w ws last a q e row further = let c = some_row (account_past a w (spelle
     at : Site
     at = site_at false a.site w.separation w.piece w.shown next
 
-    -- the piece ends no nearer than it begins
-    earlier : (b : Account) → b.site.position ≡ position_after at.position w.piece next → b.site.position.index ≤ q.index + 1024 → at.position.index ≤ q.index + 1024
-    earlier b i n = grind (arith, index_after)
-
     of : (b : Account) → IsRowFrom (Some b) ws last → Made a.site a.line a.entries w next b → GoesNear a w next q
     of b on (inside some sep site one) =
         let there = still_there true (begins_free_line a.site.before w.separation) a.line b.line q e sep in
-        record { unbroken = there.0; near = earlier b (ap (λ x. x.position) site) (further b there.1 on) }
+        record { unbroken = there.0; near = (grind (arith, index_after, (ap (λ x. x.position) site), (further b there.1 on))) }
     of b on (outside m o none sep past line site one) =
         let there = still_there false (begins_free_line a.site.before w.separation) a.line m q e sep in
         let on_or_near : (o.line ≡ waits q) ⊎ (at.position.index ≤ q.index + 1024) = grind (arith, (subst (λ l. line_past (is_in_column at.position.col at.blocks) at.position at.blocks (act_of w.shown) w.key l ≡ Some o) there.1 past)) in
-        record { unbroken = there.0; near = elim on_or_near [ inl still ↦ earlier b (ap (λ x. x.position) site) (further b (line ∙ still) on) | inr near ↦ near ] }
+        record { unbroken = there.0; near = elim on_or_near [ inl still ↦ (grind (arith, index_after, (ap (λ x. x.position) site), (further b (line ∙ still) on))) | inr near ↦ near ] }
 
 -- where the last piece of a row ended while a key waits
 ends_near : (ws : List Step) (last : List ℕ) (a : Account) (q : Position) → a.line ≡ waits q → IsRowFrom (Some a) ws last → a.site.position.index ≤ q.index + 1024
@@ -65,12 +57,8 @@ begins_with_part b [] (d ∷ part) next rest h k f e = grind (arith, over)
 begins_with_part false (c ∷ whole) (d ∷ part) next rest h k f e = grind (arith, nat_tests, eqb-true, same_head, and_parts, longer, begins_with_part (c == 35) whole part next rest)
 begins_with_part true (c ∷ whole) (d ∷ part) next rest h k f e = grind (arith, nat_tests, eqb-true, same_head, longer, begins_with_part (not (is_break c)) whole part next rest h)
 
--- what is kept by each step of a beginning that the row makes too
-abbrev pub Keeps : (P : Account → Account → List ℕ → Type 0) → Type 0
-Keeps P = (x y a b : Account) (v : Step) (c : Bool) (next : List ℕ) → IsLike x y → P x y (v.separation ++ (v.piece ++ next)) → IsWritten y (With v c) next → account_past x v next ≡ Some a → account_past y (With v c) next ≡ Some b → P a b next
-
 pub keeps_on : (P : Account → Account → List ℕ → Type 0) → Keeps P → KeepsOn Same Same P
-keeps_on a keeps = grind (arith, nat_tests, eqb-true)
+keeps_on a keeps = record { first = λ x y z after e r. rw (sym e) r; second = λ x y z after e r. rw (sym e) r; both = keeps }
 
 -- the row of a text goes through each beginning
 pub row_begins : (P : Account → Account → List ℕ → Type 0) → Keeps P → (text after : List ℕ) (a : Account) (r : Row) → P first_account first_account (up_to_nul text) → Begins text after a → HasRow text r → Walked P a after
@@ -101,22 +89,25 @@ abbrev pub IsClearGapAfter : {a : Account} {separation rest : List ℕ} {here : 
 IsClearGapAfter s =
     s.past.site.before ≡ plain_scalar → (gap content : List ℕ) → s.next ≡ gap ++ content → is_gap gap ≡ true → begins_separation content ≡ false → is_empty content ≡ false → is_indented_by_spaces s.past.site.before s.past.site.blocks s.past.site.awaits gap ≡ true
 
-pub clear_of_gap : {a : Account} {separation rest : List ℕ} {here : Position} (s : StepAt a separation rest here) → IsClearAfter s → IsClearGapAfter s
-clear_of_gap s clear before gap content cut white = clear gap content cut (gap_is_separation gap content white)
-
 -- The next step of a row at a place; and a row may begin so that it leads to the account there.
 pub record RowAt (text : List ℕ) (a : Account) (separation rest : List ℕ) (here : Position) : Type 0 where
   pub step_at : StepAt a separation rest here
   pub is_clear : IsClearAfter step_at
   pub begins : Begins text (separation ++ rest) step_at.account
 
--- a step that may stand has no TAB before it
-pub no_tab_before : (b : Account) (v : Step) (after : List ℕ) (c : Account) → account_past b v after ≡ Some c → is_indented_by_spaces b.site.before b.site.blocks b.site.awaits v.separation ≡ true
-no_tab_before b v after c e =
-    let by : (t : Bool) → is_indented_by_spaces b.site.before b.site.blocks b.site.awaits v.separation ≡ t → (if t && is_deep_enough (is_in_flow b.entries) v.shown (At b v after) && further_lines_stand (least_for v.shown (At b v after)) v.shown v.piece && may_precede (is_in_flow b.entries) (At b v after).blocks v.shown v.piece after then (on_one_line v.piece (past_piece (At b v after) v.piece v.shown after (is_renewed b.site.before v.separation) v.key (line_past_separation (is_in_flow b.entries) (begins_free_line b.site.before v.separation) b.line) b.entries)) else None) ≡ Some c
-    → is_indented_by_spaces b.site.before b.site.blocks b.site.awaits v.separation ≡ true =
-    λ a i f. grind (arith, nat_tests, eqb-true) in
-    by (is_indented_by_spaces b.site.before b.site.blocks b.site.awaits v.separation) refl e
+-- What a step that may stand says of its piece.
+pub record Stood (b : Account) (v : Step) (after : List ℕ) : Type 0 where
+  pub spaced : is_indented_by_spaces b.site.before b.site.blocks b.site.awaits v.separation ≡ true
+  pub deep : is_deep_enough (is_in_flow b.entries) v.shown (At b v after) ≡ true
+  pub further : further_lines_stand (least_for v.shown (At b v after)) v.shown v.piece ≡ true
+  pub precedes : may_precede (is_in_flow b.entries) (At b v after).blocks v.shown v.piece after ≡ true
+
+pub stood : (b : Account) (v : Step) (after : List ℕ) (c : Account) → account_past b v after ≡ Some c → Stood b v after
+stood b v after c e =
+    let parts : (x y z w : Bool) (o : Option Account) → (if x && y && z && w then o else None) ≡ Some c → (x ≡ true) × (y ≡ true) × (z ≡ true) × (w ≡ true) = λ x y z w o e. grind arith in
+    let p = parts (is_indented_by_spaces b.site.before b.site.blocks b.site.awaits v.separation) (is_deep_enough (is_in_flow b.entries) v.shown (At b v after))
+    (further_lines_stand (least_for v.shown (At b v after)) v.shown v.piece) (may_precede (is_in_flow b.entries) (At b v after).blocks v.shown v.piece after) _ e in
+    record { spaced = p.0; deep = p.1; further = p.2; precedes = p.3 }
 
 -- No TAB indents what comes after a step where steps lead on to the text's end.
 clear_on : (b : Account) (ws : List Step) (last gap content : List ℕ) → IsRowFrom (Some b) ws last → spelled ws last ≡ gap ++ content → is_separation false gap content ≡ true → begins_separation content ≡ false → is_empty content ≡ false → has_no_nul content ≡ true
@@ -124,7 +115,7 @@ clear_on : (b : Account) (ws : List Step) (last gap content : List ℕ) → IsRo
 clear_on b [] last gap content row e fills solid some clean = absurd (cc (some, ap is_empty (separations last gap [] content (row.0, refl) (fills, ends_before content solid clean) (append-nil last ∙ e)).1))
 clear_on b (v ∷ vs) last gap content row e fills solid some clean =
     let c = some_row (account_past b v (spelled vs last)) vs last row.1 in
-    subst (λ f. is_indented_by_spaces b.site.before b.site.blocks b.site.awaits f ≡ true) (step_here b v (spelled vs last) gap content row.0 e fills solid clean).0 (no_tab_before b v (spelled vs last) c.0 c.1)
+    subst (λ f. is_indented_by_spaces b.site.before b.site.blocks b.site.awaits f ≡ true) (step_here b v (spelled vs last) gap content row.0 e fills solid clean).0 (stood b v (spelled vs last) c.0 c.1).spaced
 
 -- The step of a row, or of a way, that goes on from a place.
 abbrev pub step_from : (a b c : Account) (separation rest next : List ℕ) (here : Position) (w : Step) → IsLike a b → IsWritten b w next → account_past b w next ≡ Some c → w.separation ++ (w.piece ++ next) ≡ separation ++ rest
@@ -151,7 +142,7 @@ pub row_at : (text separation rest : List ℕ) (a : Account) (here : Position) (
 row_at text separation rest a here r p solid some h = by g.steps g.is_row g.spells
   where
     g : Walked (λ x y next. Begins text next y) a (separation ++ rest)
-    g = row_begins (λ x y next. Begins text next y) (λ x y b c v k next i q w e f. begins_past text _ y c (With v k) next refl w f q) text (separation ++ rest) a r (begins_at_start text) p.begins h
+    g = row_begins (λ x y next. Begins text next y) (λ x y b c v k next i q u w e f. begins_past text _ y c (With v k) next refl w f q) text (separation ++ rest) a r (begins_at_start text) p.begins h
 
     clean : has_no_nul rest ≡ true
     clean = no_nul_after separation rest g.is_clean

@@ -1,11 +1,12 @@
 -- Faults on the way to the next token, from a state between two fetches.
-use Rattle.proof_scanner.proofs.Common.{[], and_parts, ap, append-nil, append_assoc, arith, begins_white, Bool, chained, chosen, drop_stale, either, eqb-true, Err, fails, false, Fault, fetch, fetch_here, fetch_next, follows_plain, Held, Holds, in_flow, is_empty, is_far, is_indented_by_spaces, is_one_of, is_renewed, is_separation, IsPlace, IsReadOn, IsStuck, Key, key_waits, List, map, may_not_stand, MayChoose, not, Ok, on_held, or_right, outside_key, Position, position_after, position_append, Previous, refl, refused, Result, ScannerState, skip_to_next_token, Some, stale, Stands, still, sym, top_key, tried, true, unroll_indent, went, ℕ, ◌++◌, ◌+◌, ◌<◌, ◌==◌, ◌∙◌, ◌∷◌, ◌≡◌, nat_tests, cases_Bool, inl, inr, TabInBlockIndentation, At, begins_line, begins_separation, between, fills_blank, Gap, has_tab_within, is_before_indent, is_blanks, IsTabRefusal, last_line, least_column, length, not-true, same_blank, same_break, separations_are_passed, skip, suc, ◌&&◌, ◌||◌, ◌≤◌, EndsAs, reads, refuses, tab_left}
+use Rattle.proof_scanner.proofs.Common.{take, [], and_parts, ap, append-nil, append_assoc, arith, begins_white, Bool, chained, chosen, drop_stale, either, eqb-true, Err, fails, false, Fault, fetch, fetch_here, fetch_next, follows_plain, Held, Holds, in_flow, is_empty, is_far, is_indented_by_spaces, is_one_of, is_renewed, is_separation, IsPlace, IsReadOn, IsStuck, Key, key_waits, List, map, may_not_stand, MayChoose, not, Ok, on_held, or_right, outside_key, Position, position_after, position_append, Previous, refl, refused, Result, ScannerState, skip_to_next_token, Some, stale, Stands, still, sym, top_key, tried, true, unroll_indent, went, ℕ, ◌++◌, ◌+◌, ◌<◌, ◌==◌, ◌∙◌, ◌∷◌, ◌≡◌, nat_tests, cases_Bool, inl, inr, TabInBlockIndentation, At, begins_line, begins_separation, between, fills_blank, Gap, has_tab_within, is_before_indent, is_blanks, IsTabRefusal, last_line, least_column, length, not-true, same_blank, same_break, separations_are_passed, skip, suc, ◌&&◌, ◌||◌, ◌≤◌, EndsAs, reads, refuses, tab_left}
 use Rattle.proof_scanner.proofs.Refusals.Common.{Exact, index_after, is_in, last_more, least_is, no_entries, not_before_after, same_flow, separation_append, skip_stays}
-use Rattle.proof_scanner.proofs.Refusals.Places.{Faults, mapped, entries_alike, Said, IsWhy, Where, placed, behind, where_is, fault, goes}
+use Rattle.proof_scanner.proofs.Refusals.Places.{Faults, mapped, entries_alike, Told, Where, placed, behind, where_is, fault, goes}
 use Rattle.yaml_chars.specs.Class.{is_break}
 use Rattle.proof_scanner.proofs.Sound.Skips.{line_more, IsLeast, IsAt, IsIn, IsPassed, skip_tells}
 use Rattle.proof_scanner.specs.Failing as defs
 use Rattle.defs_text.specs.Classes as classes
+use Rattle.std.proofs.Math.Seq.{take-append_seam}
 
 -- ---- a TAB within columns
 
@@ -81,13 +82,6 @@ pub record TabStands (bs : List ℕ) (awaits : Bool) (before : Previous) (separa
   pub is_fault : f ≡ At TabInBlockIndentation (position_after p passed rest)
   pub is_indented_by_tab : is_indented_by_spaces before bs awaits (separation ++ passed) ≡ false
 
--- two beginnings of a text that are equally long are the same
-same_length : (a b r s : List ℕ) → a ++ r ≡ b ++ s → length a ≡ length b → a ≡ b
-same_length [] [] r s e n = refl
-same_length [] (d ∷ b) r s e n = grind arith
-same_length (c ∷ a) [] r s e n = grind arith
-same_length (c ∷ a) (d ∷ b) r s e n = grind (arith, same_length a b r s)
-
 blanks_fill : (bs rest : List ℕ) → is_blanks bs ≡ true → is_separation false bs rest ≡ true
 blanks_fill [] rest h = refl
 blanks_fill (c ∷ bs) rest h = grind (arith, fills_blank, same_blank, blanks_fill bs rest)
@@ -116,6 +110,8 @@ skip_refused before bs awaits separation t l known = elim (cases_Bool (begins_se
     told begins x p goes = goes
     told begins x (reads u passed e) (fault d) = absurd (cc e)
     told begins x (refuses g (tab_left first blanks rest cut fills left are token) e) (fault {f = f} d) =
+        -- two beginnings of a text that are equally long are the same
+        let same_length : (a b r s : List ℕ) → a ++ r ≡ b ++ s → length a ≡ length b → a ≡ b = λ a b r s e n. sym (take-append_seam a r) ∙ (ap (λ k. take k (a ++ r)) n ∙ (ap (λ x. take (length b) x) e ∙ take-append_seam b s)) in
         let q : Position = position_after t.held.position (first ++ 9 ∷ blanks) rest in
         let same : At TabInBlockIndentation d.place ≡ At TabInBlockIndentation q = sym d.is_fault ∙ fault_of e in
         let place : d.place ≡ q = cc same in
@@ -161,15 +157,11 @@ fetch_near t started = either t.held.started (λ _. next_near t) (λ n. absurd (
 
 -- ---- TABs
 
--- no key waits behind where it is near
-far_behind : (k p : Position) → is_far k p ≡ false → k.line < p.line → ⊥
-unfolding is_far
-far_behind k p h late = grind arith
-
 module _ (text : List ℕ) (t : ScannerState) (s : Stands text t) (near : HasNear t.held) where
   -- a TAB indents the line of what comes next
-  tab_stuck : {f : Fault} → TabStands s.base.site.blocks s.base.site.awaits s.base.site.before s.separation t.rest t.held.position f → Said text f
-  tab_stuck d = rw d.is_fault (λ _. by (where_is (outside_key s.base.entries t.held.keys) t.held.position t.rest d.is_some))
+  tab_stuck : {f : Fault} → TabStands s.base.site.blocks s.base.site.awaits s.base.site.before s.separation t.rest t.held.position f → Told text f
+  unfolding is_far
+  tab_stuck d = rw d.is_fault (λ _. record { is_stuck = by (where_is (outside_key s.base.entries t.held.keys) t.held.position t.rest d.is_some); stands = λ k. absurd (cc k) })
     where
       here : Position
       here = position_after t.held.position d.passed d.rest
@@ -200,23 +192,20 @@ module _ (text : List ℕ) (t : ScannerState) (s : Stands text t) (near : HasNea
         is_here = here_is;
       }
 
-      said : IsStuck text TabInBlockIndentation here → IsWhy text TabInBlockIndentation here
-      said h = record { is_stuck = h; stands = λ k. absurd (cc k) }
-
-      by : Where (outside_key s.base.entries t.held.keys) t.held.position t.rest → IsWhy text TabInBlockIndentation here
-      by (placed c may) = said (fails (chosen c [] t.held.keys s.base) (s.separation ++ d.passed) d.rest TabInBlockIndentation here here (place c may) d.goes_on d.is_solid (record { fails = may_not_stand (defs.tab_indents d.is_indented_by_tab); is_first = no_plain }))
+      by : Where (outside_key s.base.entries t.held.keys) t.held.position t.rest → IsStuck text TabInBlockIndentation here
+      by (placed c may) = fails (chosen c [] t.held.keys s.base) (s.separation ++ d.passed) d.rest TabInBlockIndentation here here (place c may) d.goes_on d.is_solid (record { fails = may_not_stand (defs.tab_indents d.is_indented_by_tab); is_first = no_plain })
       by (behind x e must late) = elim (cases_Bool (is_empty t.held.flow)) [
         | inl out ↦
             let none : s.base.entries ≡ [] = no_entries t.held.key_allowed (is_renewed s.base.site.before s.separation) t.held.flow t.held.keys s.base.entries out s.are_entries in
-            absurd (far_behind x.position t.held.position (near out x (ap (λ es. outside_key es t.held.keys) (sym none) ∙ e)) late)
+            absurd (grind (arith, (near out x (ap (λ es. outside_key es t.held.keys) (sym none) ∙ e)), late))
         | inr i ↦
             let later = (not_before_after t.held.position d.passed d.rest).0 in
             let inside : is_empty s.base.entries ≡ false = sym (same_flow t.held.key_allowed (is_renewed s.base.site.before s.separation) t.held.flow t.held.keys s.base.entries s.are_entries) ∙ i in
-            said (key_waits (chosen false [] t.held.keys s.base) (s.separation ++ d.passed) d.rest TabInBlockIndentation x.position here here
+            key_waits (chosen false [] t.held.keys s.base) (s.separation ++ d.passed) d.rest TabInBlockIndentation x.position here here
             (rw (sym (ap (λ r. s.separation ++ r) d.cut ∙ sym (append_assoc s.separation d.passed d.rest))) (s.carries [] x e must inside d.is_some))
-            (ap not (entries_alike [] t.held.keys s.base.entries ∙ inside)) filled here_is (omega (arith, later, late)) d.goes_on d.is_solid (record { fails = may_not_stand (defs.tab_indents d.is_indented_by_tab); is_first = no_plain }))
+            (ap not (entries_alike [] t.held.keys s.base.entries ∙ inside)) filled here_is (omega (arith, later, late)) d.goes_on d.is_solid (record { fails = may_not_stand (defs.tab_indents d.is_indented_by_tab); is_first = no_plain })
       ]
 
-  pub passing_told : Faults (Said text) (skip_to_next_token t)
+  pub passing_told : Faults (Told text) (skip_to_next_token t)
   passing_told =
       mapped (λ f d. tab_stuck d) (skip_refused s.base.site.before s.base.site.blocks s.base.site.awaits s.separation t (least_is s.base.site.blocks s.base.site.awaits t.held s.blocks_are s.awaits_is s.are_levels) (λ h. is_in text t s h))

@@ -79,22 +79,18 @@ pub data Asked (text : List ℕ) (why : Problem) : Type 0 where
   kind : is_told why ≡ true → Asked text why
   with_row : (r : Row) → HasRow text r → Asked text why
 
--- what is to be said of a fault
-abbrev pub Told : (text : List ℕ) → Fault → Type 0
-Told text OutOfMemory = ⊥
-Told text (At why at) = Asked text why → IsStuck text why at
-
 -- The text is stuck by it; and if it is one that stands in the text by itself, it stands there.
 pub record IsWhy (text : List ℕ) (why : Problem) (at : Position) : Type 0 where
   pub is_stuck : IsStuck text why at
   pub stands : is_shown (At why at) ≡ true → IsThere text (At why at)
 
-abbrev pub Said : (text : List ℕ) → Fault → Type 0
-Said text OutOfMemory = ⊥
-Said text (At why at) = Asked text why → IsWhy text why at
+-- what is to be said of a fault
+abbrev pub Told : (text : List ℕ) → Fault → Type 0
+Told text OutOfMemory = ⊥
+Told text (At why at) = Asked text why → IsWhy text why at
 
 -- a check whose fault is of a kind that is not told: where it fails the text has no row
-pub rowless_told : (text : List ℕ) {A : Type 0} (b : Bool) (why : Problem) (p : Position) (x : A) → is_told why ≡ false → (b ≡ true → IsRowless text) → Faults (Said text) (if b then Err (At why p) else Ok x)
+pub rowless_told : (text : List ℕ) {A : Type 0} (b : Bool) (why : Problem) (p : Position) (x : A) → is_told why ≡ false → (b ≡ true → IsRowless text) → Faults (Told text) (if b then Err (At why p) else Ok x)
 rowless_told text a why p x e rowless = grind (arith, nat_tests, fault, eqb-true, goes)
 
 -- as many flow levels as entries
@@ -104,7 +100,11 @@ many_levels allowed again a ks es h = grind (arith, many_around)
 pub entries_alike : (cs : List Bool) (ks : List (Option Key)) (es : List Entry) → is_empty (entries_by cs ks es) ≡ is_empty es
 entries_alike cs ks a = grind arith
 
-module _ (text : List ℕ) (t : ScannerState) (a : Arrives text t) (some : is_empty t.rest ≡ false) where
+-- what comes lies deep enough, unless it is a line for the document
+abbrev pub LiesDeep : ScannerState → Type 0
+LiesDeep t = begins_document_at t.held.position t.rest ≡ false → IsDeep t.held
+
+module _ {text : List ℕ} {t : ScannerState} (a : Arrives text t) (some : is_empty t.rest ≡ false) where
   -- the account after the last piece by a choice of keys
   abbrev pub account_by : (c : Bool) (cs : List Bool) → Account
   account_by c cs = chosen c cs t.held.keys a.base
@@ -136,60 +136,52 @@ module _ (text : List ℕ) (t : ScannerState) (a : Arrives text t) (some : is_em
     ]
   ]
 
--- what comes lies deep enough, unless it is a line for the document
-abbrev pub LiesDeep : ScannerState → Type 0
-LiesDeep t = begins_document_at t.held.position t.rest ≡ false → IsDeep t.held
-
-module _ (text : List ℕ) (t : ScannerState) (a : Arrives text t) (some : is_empty t.rest ≡ false) where
   -- the block collections and what is awaited at a place
-  pub blocks_by : (c : Bool) (cs : List Bool) → (site_at_place (account_by text t a some c cs) t.held.position).blocks ≡ columns t.held.indent t.held.indents
-  blocks_by c cs = ap (λ b. (site_in b gives_node t.held.position a.base.site).blocks) (in_flow_is text t a some c cs) ∙ a.blocks_are
+  pub blocks_by : (c : Bool) (cs : List Bool) → (site_at_place (account_by c cs) t.held.position).blocks ≡ columns t.held.indent t.held.indents
+  blocks_by c cs = ap (λ b. (site_in b gives_node t.held.position a.base.site).blocks) (in_flow_is c cs) ∙ a.blocks_are
 
-  pub awaits_by : (c : Bool) (cs : List Bool) → (site_at_place (account_by text t a some c cs) t.held.position).awaits ≡ has_open_level t.held.indents
-  awaits_by c cs = ap (λ b. (site_in b gives_node t.held.position a.base.site).awaits) (in_flow_is text t a some c cs) ∙ a.awaits_is
+  pub awaits_by : (c : Bool) (cs : List Bool) → (site_at_place (account_by c cs) t.held.position).awaits ≡ has_open_level t.held.indents
+  awaits_by c cs = ap (λ b. (site_in b gives_node t.held.position a.base.site).awaits) (in_flow_is c cs) ∙ a.awaits_is
 
   -- the least column there
-  pub least_by : (c : Bool) (cs : List Bool) → least_here (account_by text t a some c cs) t.held.position ≡ t.held.indent - 1
+  pub least_by : (c : Bool) (cs : List Bool) → least_here (account_by c cs) t.held.position ≡ t.held.indent - 1
   least_by c cs = grind arith
 
   -- What fails by what is so of the place in the scanner's words is what the text is stuck by.
   pub stuck_by : (why : Problem) (at : Position) (F : Bool → List ℕ → ℕ → Type 0) → F (in_flow t.held) (columns t.held.indent t.held.indents) (t.held.indent - 1)
-      → ((c : Bool) → IsAllowed text t a some c → F (is_in_flow (account_by text t a some c []).entries) (site_at_place (account_by text t a some c []) t.held.position).blocks (least_here (account_by text t a some c []) t.held.position)
-      → FailsFirst (account_by text t a some c []) a.separation t.held.position t.rest why at) → IsWhy text why at
+      → ((c : Bool) → IsAllowed c → F (is_in_flow (account_by c []).entries) (site_at_place (account_by c []) t.held.position).blocks (least_here (account_by c []) t.held.position)
+      → FailsFirst (account_by c []) a.separation t.held.position t.rest why at) → IsWhy text why at
   stuck_by why at F x first =
-      stuck text t a some [] why at (λ c may.
-      first c may (subst (λ b. F b (site_at_place (account_by text t a some c []) t.held.position).blocks (least_here (account_by text t a some c []) t.held.position)) (sym (in_flow_is text t a some c []))
-      (subst (λ bs. F (in_flow t.held) bs (least_here (account_by text t a some c []) t.held.position)) (sym (blocks_by c [])) (subst (λ k. F (in_flow t.held) (columns t.held.indent t.held.indents) k) (sym (least_by c [])) x))))
+      stuck [] why at (λ c may.
+      first c may (subst (λ b. F b (site_at_place (account_by c []) t.held.position).blocks (least_here (account_by c []) t.held.position)) (sym (in_flow_is c []))
+      (subst (λ bs. F (in_flow t.held) bs (least_here (account_by c []) t.held.position)) (sym (blocks_by c [])) (subst (λ k. F (in_flow t.held) (columns t.held.indent t.held.indents) k) (sym (least_by c [])) x))))
 
-module _ (text : List ℕ) (t : ScannerState) (a : Arrives text t) (some : is_empty t.rest ≡ false) (deep : LiesDeep t) where
-  -- a piece is looked at here, whatever is chosen
-  pub looked_at : (c : Bool) (cs : List Bool) → IsLookedAt (account_by text t a some c cs) a.separation t.held.position t.rest
-  looked_at c cs = grind (arith, nat_tests, least_by, or_left, or_right, eqb-true)
+  module _ (deep : LiesDeep t) where
+    -- a piece is looked at here, whatever is chosen
+    pub looked_at : (c : Bool) (cs : List Bool) → IsLookedAt (account_by c cs) a.separation t.held.position t.rest
+    looked_at c cs = grind (arith, nat_tests, least_by, or_left, or_right, eqb-true)
 
-  -- where no piece begins the text is stuck
-  pub none_begins : (why : Problem) (at : Position) (n : NoPiece (in_flow t.held) t.held.position t.rest why at) → no_piece_first (in_flow t.held) (t.held.indent - 1) t.held.position t.rest why at n → IsWhy text why at
-  none_begins why at n first = stuck_by text t a some why at (λ b bs k. (x : NoPiece b t.held.position t.rest why at) × no_piece_first b k t.held.position t.rest why at x) (n, first) (λ c may m. record { fails = no_piece m.0; is_first = (looked_at c [], m.1) })
+    -- where no piece begins the text is stuck
+    pub none_begins : (why : Problem) (at : Position) (n : NoPiece (in_flow t.held) t.held.position t.rest why at) → no_piece_first (in_flow t.held) (t.held.indent - 1) t.held.position t.rest why at n → IsWhy text why at
+    none_begins why at n first = stuck_by why at (λ b bs k. (x : NoPiece b t.held.position t.rest why at) × no_piece_first b k t.held.position t.rest why at x) (n, first) (λ c may m. record { fails = no_piece m.0; is_first = (looked_at c [], m.1) })
 
-  pub none_here : (why : Problem) (n : NoPiece (in_flow t.held) t.held.position t.rest why t.held.position) → no_piece_first (in_flow t.held) (t.held.indent - 1) t.held.position t.rest why t.held.position n → IsWhy text why t.held.position
-  none_here why n first = none_begins why t.held.position n first
-
-  -- what follows the piece that begins here is what the text is stuck by
-  pub followed_stuck : (why : Problem) (at : Position) (x : IsFollowed (in_flow t.held) t.held.position t.rest why at)
-      → ((c : Bool) → IsAllowed text t a some c → followed_first (in_flow t.held) (t.held.indent - 1) (is_taken (account_by text t a some c []) a.separation) (is_full (account_by text t a some c [])) t.held.position t.rest why at x) → IsWhy text why at
-  followed_stuck why at x first =
-      stuck_by text t a some why at (λ b bs k. (y : IsFollowed b t.held.position t.rest why at) × ((c : Bool) → IsAllowed text t a some c → followed_first b k (is_taken (account_by text t a some c []) a.separation) (is_full (account_by text t a some c [])) t.held.position t.rest why at y)) (x, first)
-      (λ c may m. record { fails = followed m.0; is_first = (looked_at c [], m.1 c may) })
+    -- what follows the piece that begins here is what the text is stuck by
+    pub followed_stuck : (why : Problem) (at : Position) (x : IsFollowed (in_flow t.held) t.held.position t.rest why at)
+        → ((c : Bool) → IsAllowed c → followed_first (in_flow t.held) (t.held.indent - 1) (is_taken (account_by c []) a.separation) (is_full (account_by c [])) t.held.position t.rest why at x) → IsWhy text why at
+    followed_stuck why at x first =
+        stuck_by why at (λ b bs k. (y : IsFollowed b t.held.position t.rest why at) × ((c : Bool) → IsAllowed c → followed_first b k (is_taken (account_by c []) a.separation) (is_full (account_by c [])) t.held.position t.rest why at y)) (x, first)
+        (λ c may m. record { fails = followed m.0; is_first = (looked_at c [], m.1 c may) })
 
 -- ---- faults of what is passed between pieces
 
 -- over blanks and a comment in a line; what is to be said of a comment that no blank parts from what stands before it
-pub space_told : (text : List ℕ) (tabs : SkipTabs) (more : List ℕ) (p : Position) → (begins_with 35 more ≡ true → Said text (At CommentNotSeparated p)) → (f : Fault) → space tabs more p ≡ Err f → Said text f
+pub space_told : (text : List ℕ) (tabs : SkipTabs) (more : List ℕ) (p : Position) → (begins_with 35 more ≡ true → Told text (At CommentNotSeparated p)) → (f : Fault) → space tabs more p ≡ Err f → Told text f
 space_told text tabs more p why f k = by f (refused_as k (spaces_are_passed tabs more p))
   where
-    by : (g : Fault) → IsGlued p more g → Said text g
+    by : (g : Fault) → IsGlued p more g → Told text g
     by g (glued begins) = why begins
 
-pub spaces_told : (text : List ℕ) (tabs : SkipTabs) (t : ScannerState) → (begins_with 35 t.rest ≡ true → Said text (At CommentNotSeparated t.held.position)) → Faults (Said text) (skip_spaces tabs t)
+pub spaces_told : (text : List ℕ) (tabs : SkipTabs) (t : ScannerState) → (begins_with 35 t.rest ≡ true → Told text (At CommentNotSeparated t.held.position)) → Faults (Told text) (skip_spaces tabs t)
 unfolding skip_spaces
 spaces_told text tabs t why = read t.held (space tabs t.rest t.held.position) _ (λ f k. space_told text tabs t.rest t.held.position why f k) (λ x k. goes)
 

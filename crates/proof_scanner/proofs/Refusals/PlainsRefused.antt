@@ -1,11 +1,11 @@
 -- Where a plain scalar begins and is none, no row of the text goes on.
-use Rattle.proof_scanner.proofs.Common.{[], splits, More, append-nil, stand_after, is_gap, ◌⊎◌, inl, inr, Account, act_of, after_blank, and_parts, ap, append_assoc, are_marks, arith, before_by, before_past, begins_flow, begins_plain, begins_token, Bool, comes_plain, context_of, dashes, ends_with_content, ends_with_dash, false, flow_solid, goes_on, goes_over, has_dash_before_flow, innermost, is_adjacent, is_apart, is_at_gap, is_blanks, is_deep_enough, is_document_marker, is_flow, is_in_flow, is_indented_by_spaces, is_nul, is_whole_plain, Kind, least_column, List, may_begin, may_precede, nat_le, nat_lt, not, on_line, Option, or_true, plain_lines_fit, Position, previous_by, refl, same_flow, scalar, Site, site_at_place, site_past, Stand, stops, subst, sym, true, Whole, ℕ, ◌&&◌, ◌++◌, ◌==◌, ◌∙◌, ◌∷◌, ◌≡◌, eqb-true, nat_tests, cases_Bool, and_false, zero, ◌-◌, ◌+◌, ◌<◌, suc, length, has_break, further_on, has_tab_within, last_line, or-true, begins_separation, is_empty, kind_at, is_break, is_blank, tab_blank}
+use Rattle.proof_scanner.proofs.Common.{[], IsPlainFault, Problem, splits, More, append-nil, stand_after, is_gap, ◌⊎◌, inl, inr, Account, act_of, after_blank, and_parts, ap, append_assoc, are_marks, arith, before_by, before_past, begins_flow, begins_plain, begins_token, Bool, comes_plain, dashes, ends_with_content, ends_with_dash, false, flow_solid, goes_on, goes_over, has_dash_before_flow, innermost, is_adjacent, is_apart, is_at_gap, is_blanks, is_deep_enough, is_document_marker, is_flow, is_in_flow, is_indented_by_spaces, is_nul, is_whole_plain, least_column, List, may_begin, may_precede, nat_lt, not, on_line, Option, or_true, plain_lines_fit, Position, previous_by, refl, same_flow, scalar, Site, site_at_place, site_past, Stand, stops, subst, sym, true, ℕ, ◌&&◌, ◌++◌, ◌==◌, ◌∙◌, ◌∷◌, ◌≡◌, eqb-true, nat_tests, and_false, zero, ◌-◌, ◌+◌, ◌<◌, suc, length, has_break, further_on, has_tab_within, last_line, or-true, begins_separation, is_empty, kind_at, is_break, is_blank, tab_blank}
 use Rattle.defs_token.specs.Plain.{inside, past}
 use Rattle.proof_row.specs.Ends.{plain_scalar}
 use Rattle.proof_row.proofs.Plains.{plains}
 use Rattle.proof_row.proofs.Written.{At}
 use Rattle.proof_scanner.proofs.Refusals.OtherRows.{StepAt, IsClearGapAfter}
-use Rattle.proof_scanner.proofs.Refusals.PiecesRefused.{acct, whole_at, node_site_past, flow_is, node_site, no_depth, no_lines, no_end}
+use Rattle.proof_scanner.proofs.Refusals.PiecesRefused.{Here, acct, whole_at, node_site_past, flow_is, node_site, node_stands, here_stood}
 use Rattle.proof_scanner.proofs.Sound.PlainKeeps.{same_innermost, no_comment}
 use Rattle.proof_row.proofs.Runs.{joined, neither}
 use Rattle.proof_scanner.proofs.Refusals.Common.{break_append, last_first, last_whole}
@@ -14,12 +14,9 @@ use Rattle.defs_text.specs.Classes as classes
 use Rattle.defs_token.specs.Account as pieces
 use Rattle.defs_token.specs.Token as tokens
 use Rattle.defs_token.specs.Step as steps
+use Rattle.proof_scanner.specs.NoPiece as none
 
 -- ---- the gap after it
-
--- No TAB indents what comes after the gap, if a piece does: the next step of the row asks for that.
-pub next_clear : (indent : ℕ) (bs gap : List ℕ) (aw : Bool) → is_gap gap ≡ true → least_column bs true ≡ indent → is_indented_by_spaces steps.plain_scalar bs aw gap ≡ true → has_break gap ≡ true → has_tab_within indent (last_line gap) ≡ false
-next_clear indent bs gap aw white least h broken = grind (arith, no_comment, or-true)
 
 pub stand_over : (s : Stand) (r g : List ℕ) → stand_after s (r ++ g) ≡ stand_after (stand_after s r) g
 stand_over s [] g = refl
@@ -56,12 +53,11 @@ tab_less k column c l h = by (column - k) refl h
     by zero e f = let none : column - suc k ≡ 0 = omega (arith, e) in rw none refl
     by (suc n) e f = let less : column - suc k ≡ n = omega (arith, e) in rw less (neither _ _ f).1
 
-line_less : (k column c : ℕ) (l : List ℕ) → is_blank c ≡ true → line_is k column (c ∷ l) ≡ true → line_is (suc k) column l ≡ true
-line_less k column c l b h = grind (arith, nat_tests, eqb-true, tab_less)
-
 module _ (column : ℕ) (c : ℕ) (r : List ℕ) where
   line_goes : (s : Stand) → lines_from column s (c ∷ r) ≡ true → lines_from column (past s c) r ≡ true
-  line_goes s h = grind (arith, nat_tests, eqb-true, feed_first, all_lines, line_is, first_line, others_are, and_parts, joined, line_less, first_is)
+  line_goes s h =
+      let line_less : (k column c : ℕ) (l : List ℕ) → is_blank c ≡ true → line_is k column (c ∷ l) ≡ true → line_is (suc k) column l ≡ true = λ k column c l b h. grind (arith, nat_tests, eqb-true, tab_less) in
+      grind (arith, nat_tests, eqb-true, feed_first, all_lines, line_is, first_line, others_are, and_parts, joined, line_less, first_is)
 
 lines_go : (column : ℕ) (s : Stand) (before t : List ℕ) → lines_from column s (before ++ t) ≡ true → lines_from column (stand_after s before) t ≡ true
 lines_go column s [] t h = h
@@ -151,10 +147,6 @@ gap_tab n k q blanks g b low e =
     let br : has_break q ≡ true = breaks_in inside q refl (ap is_on_line e) in
     (rw (break_append q (9 ∷ blanks), br) refl, tab_in_last n k inside q blanks g b (grind (arith, nat_tests, low)) br e)
 
--- what begins with a token is some text and no separation
-pub token_begins : (r : List ℕ) → begins_token r ≡ true → (begins_separation r ≡ false) × (is_empty r ≡ false)
-token_begins a h = grind arith
-
 -- ---- dashes
 
 -- what goes on over a text and another one goes on over both
@@ -183,54 +175,45 @@ module _ {a : Account} {separation rest : List ℕ} {here : Position} (s : StepA
   abbrev seen_here : pieces.Account
   seen_here = acct s
 
-  abbrev Here : Kind → Type 0
-  Here k = Whole k (context_of seen_here) s.step.piece s.next s.step.shown
-
-  comes_there : comes_plain (pieces.is_in_flow seen_here) (is_adjacent seen_here.before) seen_here.position.col rest ≡ true
-  comes_there = grind arith
-
-  plain_here : Here plain_scalar
-  plain_here = elim (comes_by (pieces.is_in_flow seen_here) (is_adjacent seen_here.before) seen_here.position.col rest comes_there) [
-    | inl k ↦ subst Here k (whole_at s)
+  plain_here : Here s plain_scalar
+  plain_here = elim (comes_by (pieces.is_in_flow seen_here) (is_adjacent seen_here.before) seen_here.position.col rest (grind arith)) [
+    | inl k ↦ subst (Here s) k (whole_at s)
     | inr k ↦
-        let m : Here dashes = subst Here k (whole_at s) in
-        absurd (no_marker (pieces.is_in_flow seen_here) (is_adjacent seen_here.before) seen_here.position.col rest s.next comes_there (ap (λ p. p ++ s.next) (sym m.0.0) ∙ s.text_is) m.0.1 m.0.2)
+        let m : Here s dashes = subst (Here s) k (whole_at s) in
+        absurd (no_marker (pieces.is_in_flow seen_here) (is_adjacent seen_here.before) seen_here.position.col rest s.next (grind arith) (ap (λ p. p ++ s.next) (sym m.0.0) ∙ s.text_is) m.0.1 m.0.2)
   ]
 
   site_is : At s.account s.step s.next ≡ site_at_place a here
   site_is = node_site s (ap act_of plain_here.2)
 
-  -- its column in flow
-  pub no_column : is_in_flow a.entries ≡ true → nat_le (least_column (site_at_place a here).blocks true) here.col ≡ false → ⊥
-  no_column flow left = no_depth s (scalar tokens.plain plain_here.0) plain_here.2 refl (ap (λ b. is_deep_enough b (scalar tokens.plain plain_here.0) (site_at_place a here)) flow ∙ left)
-
   -- its piece is whole
   whole : is_whole_plain (is_in_flow a.entries) (innermost (site_at_place a here).blocks) s.step.piece s.next ≡ true
   whole = grind (arith, flow_is, site_is, same_innermost, plain_here)
 
+  -- The row's plain scalar is one, if no TAB indents what comes after it.
+  pub no_plain_stands : IsClearGapAfter s → (why : Problem) (at : Position) → IsPlainFault (is_in_flow a.entries) (site_at_place a here).blocks here rest why at → ⊥
+  -- its column in flow
+  no_plain_stands is_clear why at (none.by_column flow left) =
+      cc (ap (λ b. is_deep_enough b (scalar tokens.plain plain_here.0) (site_at_place a here)) flow ∙ left, (node_stands s (scalar tokens.plain plain_here.0) plain_here.2 refl).0)
   -- a dash before a flow indicator
-  pub no_dash : (before more : List ℕ) → is_in_flow a.entries ≡ true → rest ≡ before ++ 45 ∷ more → begins_flow more ≡ true → goes_over (is_in_flow a.entries) (innermost (site_at_place a here).blocks) before (45 ∷ more) ≡ true → is_apart (stand_after after_blank before) ≡ true → ⊥
-  no_dash [] more flow cut begins over apart =
+  no_plain_stands is_clear why at (none.by_dash [] more flow cut begins over apart) =
+      let none_begins : may_begin true (is_adjacent seen_here.before) 45 more ≡ false = rw begins (and_false (not (is_at_gap more))) in
       let may : may_begin true (is_adjacent seen_here.before) 45 more ≡ true =
       let all : begins_plain (pieces.is_in_flow seen_here) (is_adjacent seen_here.before) seen_here.position.col (45 ∷ more) ≡ true = ap (begins_plain (pieces.is_in_flow seen_here) (is_adjacent seen_here.before) seen_here.position.col) (sym (s.text_is ∙ cut)) ∙ plain_here.1.0 in
       ap (λ b. may_begin b (is_adjacent seen_here.before) 45 more) (sym (flow_is s ∙ flow)) ∙ (and_parts (may_begin (pieces.is_in_flow seen_here) (is_adjacent seen_here.before) 45 more) (not ((seen_here.position.col == 0) && is_document_marker (45 ∷ more))) all).0 in
-      cc (may, none)
-    where
-      none : may_begin true (is_adjacent seen_here.before) 45 more ≡ false
-      none = rw begins (and_false (not (is_at_gap more)))
-  no_dash (c ∷ p) more flow cut begins over apart =
+      cc (may, none_begins)
+  no_plain_stands is_clear why at (none.by_dash (c ∷ p) more flow cut begins over apart) =
       let coll : Option ℕ = innermost (site_at_place a here).blocks in
       let own : is_whole_plain true coll (c ∷ (p ++ 45 ∷ [])) more ≡ true = rw (goes_both true coll inside p (45 ∷ []) more (ap (λ b. goes_on b coll inside p (45 ∷ more)) (sym flow) ∙ over) (dash_goes coll (stand_after inside p) more begins), content_end c p, flow_stops coll inside more begins) refl in
       let same : (s.step.piece ≡ c ∷ (p ++ 45 ∷ [])) × (s.next ≡ more) = plains true coll s.step.piece (c ∷ (p ++ 45 ∷ [])) s.next more (ap (λ b. is_whole_plain b coll s.step.piece s.next) (sym flow) ∙ whole) own (s.text_is ∙ (cut ∙ ap (λ r. c ∷ r) (sym (append_assoc p (45 ∷ []) more)))) in
       let dashed_there : has_dash_before_flow s.step.piece s.next ≡ true = ap (λ x. has_dash_before_flow x s.next) same.0 ∙ (ap (λ r. has_dash_before_flow (c ∷ (p ++ 45 ∷ [])) r) same.1 ∙ rw (ends_dashed after_blank c p apart, begins) refl) in
-      no_end s
-      (ap (λ t. may_precede (is_in_flow s.account.entries) (At s.account s.step s.next).blocks t s.step.piece s.next) plain_here.2 ∙
-      (ap (λ b. not (b && has_dash_before_flow s.step.piece s.next)) (sym (same_flow a.entries s.account.entries s.is_like.2) ∙ flow) ∙ ap not dashed_there))
-
+      cc (
+        (here_stood s).precedes,
+        ap (λ t. may_precede (is_in_flow s.account.entries) (At s.account s.step s.next).blocks t s.step.piece s.next) plain_here.2 ∙
+            (ap (λ b. not (b && has_dash_before_flow s.step.piece s.next)) (sym (same_flow a.entries s.account.entries s.is_like.2) ∙ flow) ∙ ap not dashed_there),
+      )
   -- a TAB that indents a line of it, or the one after it
-  pub no_tab : (before blanks more : List ℕ) (column : ℕ) → rest ≡ before ++ 9 ∷ (blanks ++ more) → goes_over (is_in_flow a.entries) (innermost (site_at_place a here).blocks) before (9 ∷ (blanks ++ more)) ≡ true → stand_after after_blank before ≡ on_line column
-      → nat_lt column (least_column (site_at_place a here).blocks true) ≡ true → is_blanks blanks ≡ true → begins_token more ≡ true → IsClearGapAfter s → ⊥
-  no_tab before blanks more column cut over stands low are token is_clear = by s.step.piece refl (splits s.step.piece before s.next (9 ∷ (blanks ++ more)) (s.text_is ∙ cut))
+  no_plain_stands is_clear why at (none.by_tab before blanks more column cut over stands low are token) = by s.step.piece refl (splits s.step.piece before s.next (9 ∷ (blanks ++ more)) (s.text_is ∙ cut))
     where
       least : ℕ
       least = least_column (site_at_place a here).blocks true
@@ -242,7 +225,7 @@ module _ {a : Account} {separation rest : List ℕ} {here : Position} (s : StepA
       coll = innermost (site_at_place a here).blocks
 
       lines : plain_lines_fit least s.step.piece ≡ true
-      lines = elim (cases_Bool (plain_lines_fit least s.step.piece)) [ inl e ↦ e | inr e ↦ absurd (no_lines s (scalar tokens.plain plain_here.0) plain_here.2 refl e) ]
+      lines = (node_stands s (scalar tokens.plain plain_here.0) plain_here.2 refl).1
 
       past_is : s.past.site ≡ site_past (is_in_flow s.account.entries) (At s.account s.step s.next) s.step.piece s.step.shown s.next (At s.account s.step s.next).blocks
       past_is = node_site_past s.account s.step s.next s.past (ap act_of plain_here.2) s.is_past
@@ -253,10 +236,14 @@ module _ {a : Account} {separation rest : List ℕ} {here : Position} (s : StepA
       -- or in the gap after it
       in_gap : (q : List ℕ) → s.next ≡ q ++ 9 ∷ (blanks ++ more) → stand_after inside q ≡ on_line column → goes_on fl coll inside q (9 ∷ (blanks ++ more)) ≡ true → stops fl coll inside s.next ≡ true → ⊥
       in_gap q e stand goes ends =
+          -- what begins with a token is some text and no separation
+          let token_begins : (begins_separation more ≡ false) × (is_empty more ≡ false) = grind (arith, token) in
+          -- No TAB indents what comes after the gap, if a piece does: the next step of the row asks for that.
+          let next_clear : (indent : ℕ) (bs gap : List ℕ) (aw : Bool) → is_gap gap ≡ true → least_column bs true ≡ indent → is_indented_by_spaces steps.plain_scalar bs aw gap ≡ true → has_break gap ≡ true → has_tab_within indent (last_line gap) ≡ false = λ indent bs gap aw white least h broken. grind (arith, no_comment, or-true) in
           let gap : is_gap q ≡ true = white_between fl coll inside q (9 ∷ (blanks ++ more)) goes (ap (stops fl coll inside) (sym e) ∙ ends) in
           let whole : is_gap (q ++ 9 ∷ blanks) ≡ true = gap_more q blanks gap are in
           let tab = gap_tab least column q blanks gap are low stand in
-          let solid = token_begins more token in
+          let solid = token_begins in
           let spaced : is_indented_by_spaces steps.plain_scalar s.past.site.blocks s.past.site.awaits (q ++ 9 ∷ blanks) ≡ true =
           subst (λ y. is_indented_by_spaces y s.past.site.blocks s.past.site.awaits (q ++ 9 ∷ blanks) ≡ true) before_is (is_clear before_is (q ++ 9 ∷ blanks) more (e ∙ sym (append_assoc q (9 ∷ blanks) more)) whole solid.0 solid.1) in
           cc (tab.1, next_clear least s.past.site.blocks (q ++ 9 ∷ blanks) s.past.site.awaits whole (ap (λ (x : Site). least_column x.blocks true) past_is ∙ ap (λ (x : Site). least_column x.blocks true) site_is) spaced tab.0)

@@ -42,12 +42,9 @@ escaped_goes false ctx start double d (f ∷ a) p u e = elim (cases_Bool ((d == 
 escaped_goes a ctx start double d b p u e = grind (arith, past_line, past_is, and_false)
 
 module _ (single : Bool) (ctx : Context) (start : Position) (least : ℕ) (limit : (k : ℕ) → nat_lt (k + 1) ctx.indent ≡ nat_lt k least) where
-  abbrev pub Why : LineStand → Position → List ℕ → Problem → Position → Type 0
-  Why s p text why at = Reason single least start s p text why at
-
   -- How a scan ends of a text from an element on.
   pub data Ends (s : LineStand) (p : Position) (text : List ℕ) (x : Result (Read (List ℕ)) Fault) : Type 0 where
-    refused : (why : Problem) (at : Position) → Why s p text why at → x ≡ Err (At why at) → Ends s p text x
+    refused : (why : Problem) (at : Position) → Reason single least start s p text why at → x ≡ Err (At why at) → Ends s p text x
     reads : (y : Read (List ℕ)) → Closed single least start s p text y.rest y.position → x ≡ Ok y → Ends s p text x
 
   ends_on : (s : LineStand) (p : Position) (text : List ℕ) (x y : Result (Read (List ℕ)) Fault) → x ≡ y → Ends s p text y → Ends s p text x
@@ -97,13 +94,11 @@ module _ (single : Bool) (ctx : Context) (start : Position) (least : ℕ) (limit
   deep_stands : (s : LineStand) (k : ℕ) → nat_lt k least ≡ false → not (begins_further s false && nat_lt k least) ≡ true
   deep_stands s k h = rw (h, and_false (begins_further s false)) refl
 
-  no_escaped : (s : LineStand) (m : Mode) (p : Position) (t : Folded) (c : ℕ) → Stood p t s m → (single ≡ false → (c == quote_of single) ≡ false) → s ≡ past_escaped → (c == quote_of single) ≡ false
-  no_escaped s m p t c a unlike h = grind arith
-
   -- content
   content_ends : (c : ℕ) (b : List ℕ) (code k : ℕ) → element_of single c b ≡ Some (spelled (content code) k) → is_white c ≡ false → (s : LineStand) (p : Position) (m : Mode) (t : Folded) → Stood p t s m → Later (drop k b)
       → Ends s p (c ∷ b) (scan single ctx start (c ∷ b) gap p t)
   content_ends c b code k is solid s p m t stood later =
+      let no_escaped : (s : LineStand) (m : Mode) (p : Position) (t : Folded) (c : ℕ) → Stood p t s m → (single ≡ false → (c == quote_of single) ≡ false) → s ≡ past_escaped → (c == quote_of single) ≡ false = λ s m p t c a unlike h. grind arith in
       started c b s m p t solid stood (no_escaped s m p t c stood (not_quote c b (spelled (content code) k) is s p)) (λ none deep i. go none deep (subst (λ o. StepOf single ctx start c b [] p t o) is (step single ctx start c b [] p t refl)))
     where
       here : Result (Read (List ℕ)) Fault
@@ -165,14 +160,11 @@ module _ (single : Bool) (ctx : Context) (start : Position) (least : ℕ) (limit
 
   -- ---- breaks
 
-  break_goes : (c : ℕ) (b : List ℕ) (p : Position) (t : Folded) → is_break c ≡ true → scan single ctx start (c ∷ b) gap p t ≡ scan single ctx start (drop (break_further c b) b) gap (position_after p (c ∷ take (break_further c b) b) (drop (break_further c b) b)) (with_break t)
-  unfolding is_break is_blank
-  break_goes c a p t e = grind (arith, nat_tests, past_line, and_false, and_parts, eqb-true, past_two)
-
   line_ends : (c : ℕ) (b : List ℕ) → element_of single c b ≡ Some (spelled line_break (break_further c b)) → is_break c ≡ true → (s : LineStand) (p : Position) (t : Folded) → Later (drop (break_further c b) b) → Ends s p (c ∷ b) (scan single ctx start (c ∷ b) gap p t)
   unfolding is_break is_blank
   line_ends c b is f s p t later =
-      ends_grown c b (spelled line_break (break_further c b)) is s p _ _ (break_goes c b p t f) refl (white_stands single ctx start c b p.col (rw f refl)) (later at_start _ gap _ (begins_here (break_leads t)))
+      let break_goes : scan single ctx start (c ∷ b) gap p t ≡ scan single ctx start (drop (break_further c b) b) gap (position_after p (c ∷ take (break_further c b) b) (drop (break_further c b) b)) (with_break t) = grind (arith, nat_tests, past_line, and_false, and_parts, eqb-true, past_two, f) in
+      ends_grown c b (spelled line_break (break_further c b)) is s p _ _ break_goes refl (white_stands single ctx start c b p.col (rw f refl)) (later at_start _ gap _ (begins_here (break_leads t)))
 
   escaped_ends : (d : ℕ) (a : List ℕ) → single ≡ false → element_of single 92 (d ∷ a) ≡ Some (spelled escaped_break (suc (break_further d a))) → is_break d ≡ true → (s : LineStand) (p : Position) (m : Mode) (t : Folded) → Stood p t s m → Later (drop (break_further d a) a)
       → Ends s p (92 ∷ d ∷ a) (scan single ctx start (92 ∷ d ∷ a) gap p t)

@@ -1,5 +1,5 @@
 -- Why the text after an opening quote is refused, told of the text from an element on.
-use Rattle.proof_scanner.proofs.Common.{past, [], after_own, and_false, ap, append_assoc, are_indented, arith, at_start, begins_further, begins_solid, begins_with, begun_with, blank, Bool, content, drop, Element, element_of, elements, escaped_break, false, further_lines_fit, has_more, is_document_marker, IsBadEscape, line_break, Lines, lines_fit, lines_of, LineStand, List, local, LocalOf, marked_from, nat_lt, nat_tests, not, past_element, past_elements, past_escaped, past_is, Position, position_after, position_append, Problem, refl, replicate, Some, Spelled, subst, suc, sym, take, take-append-drop, true, within, zero, ℕ, ◌&&◌, ◌++◌, ◌+◌, ◌==◌, ◌∙◌, ◌∷◌, ◌≡◌, eqb-true, or-false, after_chars, along, along_more, append-nil, break_further, digit_value, double_quoted_element, escape, escape_by, feed_is_no_marker, has_marker, hexadecimal, in_line_position, is_cr_lf, is_in_line, line_position, None, numeric_escape, Option, past_break, plain_element, position_past, same_blank, same_break, same_feed, single_quoted_element, ◌*◌, ◌≤◌, QuotedDocumentMarker, QuotedEnd, QuotedIndentation, TabAsIndentation, and_parts, drop-append-le, ends_before, inl, inr, length, length-take, Local, lookup, number_at, numbered, numeric_escapes, take-append-le, cases_Bool, ◌||◌, ◌⊎◌, is_empty, if◌then◌else◌, EscapedCode, HexadecimalDigit, UnknownEscape, feed_past}
+use Rattle.proof_scanner.proofs.Common.{past, [], are_marks, after_own, and_false, ap, append_assoc, are_indented, arith, at_start, begins_further, begins_solid, begins_with, begun_with, blank, Bool, content, drop, Element, element_of, elements, escaped_break, false, further_lines_fit, has_more, is_document_marker, IsBadEscape, line_break, Lines, lines_fit, lines_of, LineStand, List, local, LocalOf, marked_from, nat_lt, nat_tests, not, past_element, past_elements, past_escaped, past_is, Position, position_after, position_append, Problem, refl, replicate, Some, Spelled, subst, suc, sym, take, take-append-drop, true, within, zero, ℕ, ◌&&◌, ◌++◌, ◌+◌, ◌==◌, ◌∙◌, ◌∷◌, ◌≡◌, eqb-true, or-false, after_chars, along, along_more, append-nil, break_further, digit_value, double_quoted_element, escape, escape_by, feed_is_no_marker, has_marker, hexadecimal, in_line_position, is_cr_lf, is_in_line, line_position, None, numeric_escape, Option, past_break, plain_element, position_past, same_blank, same_break, same_feed, single_quoted_element, ◌*◌, ◌≤◌, QuotedDocumentMarker, QuotedEnd, QuotedIndentation, TabAsIndentation, and_parts, drop-append-le, ends_before, inl, inr, length, length-take, Local, lookup, number_at, numbered, numeric_escapes, take-append-le, cases_Bool, ◌||◌, ◌⊎◌, if◌then◌else◌, EscapedCode, HexadecimalDigit, UnknownEscape, feed_past}
 use Rattle.proof_scanner.proofs.Sound.QuotedBreaks.{Kind, has_content, has_blank, has_line, has_escaped, fits_from, lines_from, lines_here, empty_here, KindOf, kind, is_white}
 use Rattle.proof_scanner.specs.NoPiece.{quote_of}
 use Rattle.yaml_chars.specs.Class.{is_break, is_blank}
@@ -66,11 +66,6 @@ break_column c b p e = grind (arith, past_line, past_two, and_false)
 
 -- ---- document markers
 
--- a marker begins a line after a break, or one after that
-pub break_marks : (c : ℕ) (b body rest : List ℕ) → is_break c ≡ true → has_marker (c ∷ (take (break_further c b) b ++ body)) rest ≡ marked_from 0 body rest
-unfolding classes.is_break
-break_marks c b body rest e = grind (arith, same_break, feed_is_no_marker)
-
 -- none begins within a line
 line_marks : (w body rest : List ℕ) → is_in_line w ≡ true → has_marker (w ++ body) rest ≡ has_marker body rest
 line_marks [] body rest h = refl
@@ -79,12 +74,9 @@ line_marks (c ∷ w) body rest h = grind (arith, line_marks w body rest)
 -- ---- an element
 
 module _ (single : Bool) (c : ℕ) (b : List ℕ) (e : Spelled) (is : element_of single c b ≡ Some e) where
-  abbrev pub own_text : List ℕ
-  own_text = c ∷ take e.further b
-
   -- the position after it
   abbrev pub after_it : Position → Position
-  after_it p = position_after p own_text (drop e.further b)
+  after_it p = position_after p (c ∷ take e.further b) (drop e.further b)
 
   pub kind_of : Kind single c b e
   kind_of = subst (λ o. KindOf single c b o) is (kind single c b)
@@ -100,11 +92,6 @@ content_after single c b code k is p = ap (λ l. position_after p l (drop k b)) 
 off_margin : (n m : ℕ) → n + 1 ≤ m → (m == 0) ≡ false
 off_margin n m h = grind (arith, nat_tests, h)
 
--- after an escaped break a line begins
-pub escaped_column : (c : ℕ) (b : List ℕ) (d : ℕ) (a : List ℕ) (p : Position) → c ≡ 92 → b ≡ d ∷ a → is_break d ≡ true → (position_after p (c ∷ take (suc (break_further d a)) b) (drop (suc (break_further d a)) b)).col ≡ 0
-unfolding is_break
-escaped_column c b d a p same_c same_b f = grind (arith, break_column, past_is)
-
 -- Whether a marker begins a line of a text that begins with an element: one begins a line after it.
 pub marks_after : (single : Bool) (c : ℕ) (b : List ℕ) (e : Spelled) → (is : element_of single c b ≡ Some e) → (p : Position) (body rest : List ℕ) → has_marker (c ∷ (take e.further b ++ body)) rest ≡ marked_from (after_it single c b e is p).col body rest
 unfolding is_break classes.is_break
@@ -119,8 +106,8 @@ marks_after single c b e is p body rest = by e is (kind_of single c b e is)
     by : (e : Spelled) → (is : element_of single c b ≡ Some e) → Kind single c b e → has_marker (c ∷ (take e.further b ++ body)) rest ≡ marked_from (after_it single c b e is p).col body rest
     by e is (has_content code k solid) = grind (arith, nat_tests, eqb-true, content_after, within, content_in_line, off_margin, along_more)
     by e is (has_blank f g) = grind (arith, nat_tests, within, same_break, past_is, p, off_margin, eqb-true)
-    by e is (has_line f) = at_margin _ _ (break_column c b p f) (break_marks c b body rest f)
-    by e is (has_escaped d a double same_c same_b f) = grind (arith, nat_tests, eqb-true, at_margin, escaped_column, break_marks)
+    by e is (has_line f) = at_margin _ _ (break_column c b p f) (grind (arith, same_break, feed_is_no_marker, f))
+    by e is (has_escaped d a double same_c same_b f) = grind (arith, nat_tests, eqb-true, at_margin, break_column, past_is, same_break, feed_is_no_marker)
 
 -- ---- indented lines, element by element
 
@@ -151,11 +138,10 @@ fits_at least past_escaped k es = lines_from k least true (lines_of es)
 deep_is : (k least : ℕ) → fits_from k least true [] ≡ not (nat_lt k least)
 deep_is k least = grind arith
 
-blank_is : (k least c : ℕ) (holds : Bool) (bs : List ℕ) → fits_from k least holds (c ∷ bs) ≡ (not ((c == 9) && nat_lt k least) && fits_from (suc k) least holds bs)
-blank_is k least c holds bs = grind arith
-
 blanks_are : (k least c : ℕ) (e : Bool) (ls : Lines) → lines_from k least e (begun_with (blank c) ls) ≡ (not ((c == 9) && nat_lt k least) && lines_from (suc k) least false ls)
-blanks_are k least c e a = grind (arith, and_false, blank_is, lines_fit, has_more)
+blanks_are k least c e a =
+    let blank_is : (k least c : ℕ) (holds : Bool) (bs : List ℕ) → fits_from k least holds (c ∷ bs) ≡ (not ((c == 9) && nat_lt k least) && fits_from (suc k) least holds bs) = λ k least c holds bs. grind arith in
+    grind (arith, and_false, blank_is, lines_fit, has_more)
 
 fits_past : (least : ℕ) (s : LineStand) (k : ℕ) (e : Element) (fs : List Element) → fits_at least s k (e ∷ fs) ≡ (stands least s k e && fits_at least (past_element s e) (column_past k e) fs)
 fits_past least a k b fs = grind (arith, lines_here, and_false, blanks_are, lines_fit, empty_here, deep_is)
@@ -191,6 +177,59 @@ within_alike : (least k j : ℕ) (es : List Element) → all_stand least within 
 within_alike least k j (content c ∷ es) = within_alike least k j es
 within_alike least k j (blank c ∷ es) = within_alike least (suc k) (suc j) es
 within_alike least k j a = grind arith
+
+own : (single : Bool) (c : ℕ) (b : List ℕ) (s : Spelled) → element_of single c b ≡ Some s → Local (element_of single c) b s
+own single c b s is = subst (λ o. LocalOf (element_of single c) b o) is (local single c b)
+
+-- ---- escapes that are none
+
+-- what is wrong with one
+abbrev code_problem : Option ℕ → Problem
+code_problem None = HexadecimalDigit
+code_problem (Some n) = EscapedCode
+
+abbrev digits_problem : Option ℕ → List ℕ → Problem
+digits_problem None r = UnknownEscape
+digits_problem (Some n) r = code_problem (number_at n r)
+
+abbrev escape_problem : List ℕ → Problem
+escape_problem [] = UnknownEscape
+escape_problem (c ∷ r) = digits_problem (lookup c numeric_escapes) r
+
+bad_is : (r : List ℕ) (why : Problem) → IsBadEscape r why → escape_problem r ≡ why
+bad_is r why bad.ends = refl
+bad_is r why (bad.unknown c s i j k) = rw k refl
+bad_is r why (bad.no_digit c digits s i j k) = rw (j, k) refl
+bad_is r why (bad.no_character c digits code s i j k l) = rw (j, k) refl
+
+no_break : (c n : ℕ) → lookup c numeric_escapes ≡ Some n → classes.is_break c ≡ false
+unfolding classes.is_break
+no_break c n h = grind arith
+
+bad_none : (r : List ℕ) (why : Problem) → IsBadEscape r why → escape r ≡ None
+unfolding escape numeric_escape
+bad_none r why bad.ends = refl
+bad_none r why (bad.unknown c s i j k) = rw (i, j, k) refl
+bad_none r why (bad.no_digit c digits s i j k) = let n = no_break c digits j in rw (n, i, j) ((grind arith) ∙ ap (λ o. numbered digits o) k)
+bad_none r why (bad.no_character c digits code s i j k l) = let n = no_break c digits j in rw (n, i, j) ((grind arith) ∙ (ap (λ o. numbered digits o) k ∙ rw l refl))
+
+none_here : (single : Bool) (r : List ℕ) (why : Problem) → single ≡ false → IsBadEscape r why → element_of single 92 r ≡ None
+unfolding double_quoted_element classes.is_nul
+none_here single r why e b = grind (arith, bad_none)
+
+-- ---- what is wrong with a text first, by computing
+
+not_solid : (c : ℕ) (b : List ℕ) → is_white c ≡ true → begins_solid (c ∷ b) ≡ true → ⊥
+not_solid c b h e = grind (arith, same_break, same_blank)
+
+-- the element that begins there, and what follows it
+abbrev further_of : Option Spelled → ℕ
+further_of None = 0
+further_of (Some e) = e.further
+
+abbrev stand_of : LineStand → Option Spelled → LineStand
+stand_of s None = s
+stand_of s (Some e) = past_element s e.element
 
 -- ---- reasons
 
@@ -260,13 +299,14 @@ module _ (single : Bool) (least : ℕ) (start : Position) where
 
     -- the column after it is that of its position, where it matters
     pub columns_are : (s : LineStand) (p : Position) (fs : List Element) → all_stand least (past_element s e.element) (column_past p.col e.element) fs ≡ all_stand least (past_element s e.element) (past_it p).col fs
+    unfolding is_break
     columns_are s p fs = by e is (kind_of single c b e is)
       where
         by : (e : Spelled) → (is : element_of single c b ≡ Some e) → Kind single c b e → all_stand least (past_element s e.element) (column_past p.col e.element) fs ≡ all_stand least (past_element s e.element) (after_it single c b e is p).col fs
         by e is (has_content code k solid) = within_alike least _ _ fs
         by e is (has_blank f g) = grind (arith, nat_tests, eqb-true, blank, past_is)
         by e is (has_line f) = ap (λ k. all_stand least at_start k fs) (sym (break_column c b p f))
-        by e is (has_escaped d a double same_c same_b f) = ap (λ k. all_stand least past_escaped k fs) (sym (escaped_column c b d a p same_c same_b f))
+        by e is (has_escaped d a double same_c same_b f) = ap (λ k. all_stand least past_escaped k fs) (sym (grind (arith, break_column, past_is, same_c, same_b, f)))
 
     marks_grown : (p : Position) → is_marked p (c ∷ b) ≡ false → (body rest : List ℕ) → drop e.further b ≡ body ++ rest → marked_from p.col (before body) rest ≡ marked_from (past_it p).col body rest
     marks_grown p none body rest h = grind (arith, cut, none, marks_after)
@@ -287,216 +327,123 @@ module _ (single : Bool) (least : ℕ) (start : Position) where
         holds = rw end x.holds;
       }
 
--- ---- along a body
+  -- A body whose elements may stand, with others after them, is walked along, up to its first marker or to its end.
+  pub walk_of : (G : LineStand → Position → List ℕ → Type 0) (last : List Element) (k : Bool) (r : List ℕ) → begins_with 10 r ≡ false → ((t : LineStand) (q : Position) (x : List ℕ) → is_marked q x ≡ true → k ≡ true → G t q x)
+      → (n : ℕ) (a : List ℕ) (es : List Element) (s : LineStand) (p : Position) → n ≤ length a → elements (element_of single) n a ≡ Some es → all_stand least s p.col (es ++ last) ≡ true → marked_from p.col (drop n a) r ≡ k
+      → (all_stand least (past_elements s es) (position_after p (drop n a) r).col last ≡ true → is_marked (position_after p (drop n a) r) r ≡ false → k ≡ false → G (past_elements s es) (position_after p (drop n a) r) r) → Walk G s p (drop n a ++ r)
+  walk_of G last k r no_feed marker (suc n) [] es s p l h fit m end = absurd (omega (arith, l))
+  walk_of G last k r no_feed marker (suc n) (c ∷ a) es s p l h fit m end = walk_of G last k r no_feed marker n a es s p (omega (arith, l)) h fit m end
+  walk_of G last k r no_feed marker zero [] es s p l h fit m end =
+      let none : [] ≡ es = cc h in
+      let own : is_marked p r ≡ k = sym (or-false (is_marked p r)) ∙ m in
+      elim (cases_Bool (is_marked p r)) [
+        | inl g ↦ arrived (marker s p r g (sym own ∙ g))
+        | inr g ↦
+            arrived (subst (λ x. (all_stand least (past_elements s x) p.col last ≡ true → is_marked p r ≡ false → k ≡ false → G (past_elements s x) p r) → all_stand least s p.col (x ++ last) ≡ true → G s p r) none (λ f x. f x g (sym own ∙ g)) end fit)
+      ]
+  walk_of G last k r no_feed marker zero (c ∷ b) es s p l h fit m end =
+      -- its characters are there
+      let enough : (single : Bool) (c : ℕ) (b : List ℕ) (s : Spelled) → element_of single c b ≡ Some s → s.further ≤ length b = λ single c b s is. let f = (own single c b s is).fits in omega (arith, f, length-take s.further b) in
+      -- the elements of a body begin with one
+      let f : (x : Spelled) × (element_of single c b ≡ Some x) × (others : List Element) × (elements (element_of single) x.further b ≡ Some others) × (es ≡ x.element ∷ others) = grind arith in
+      let e : Spelled = f.0 in
+      let fits : e.further ≤ length b = enough single c b e f.1 in
+      let is : element_of single c (b ++ r) ≡ Some e = (own single c b e f.1).onward r no_feed in
+      let q : Position = after_it single c (b ++ r) e is p in
+      let rest : drop e.further (b ++ r) ≡ drop e.further b ++ r = drop-append-le e.further b r fits in
+      let whole : take e.further (b ++ r) ++ drop e.further b ≡ b = ap (λ x. x ++ drop e.further b) (take-append-le e.further b r fits) ∙ take-append-drop e.further b in
+      let at : position_after p (c ∷ b) r ≡ position_after q (drop e.further b) r = ap (λ x. position_after p (c ∷ x) r) (sym whole) ∙ place c (b ++ r) e is p (drop e.further b) r rest in
+      let parts = and_parts (stands least s p.col e.element) (all_stand least (past_element s e.element) (column_past p.col e.element) (f.2 ++ last)) (ap (λ x. all_stand least s p.col (x ++ last)) (sym f.4) ∙ fit) in
+      let End : List Element → Position → Type 0 = λ x z. all_stand least (past_elements s x) z.col last ≡ true → is_marked z r ≡ false → k ≡ false → G (past_elements s x) z r in
+      let later : End (e.element ∷ f.2) (position_after q (drop e.further b) r) = subst (λ z. End (e.element ∷ f.2) z) at (subst (λ x. End x (position_after p (c ∷ b) r)) f.4 end) in
+      elim (cases_Bool (is_marked p (c ∷ (b ++ r)))) [
+        | inl g ↦ arrived (marker s p (c ∷ (b ++ r)) g (sym m ∙ ap (λ x. x || has_marker (c ∷ b) r) g))
+        | inr g ↦
+            let marks : marked_from q.col (drop e.further b) r ≡ k = sym (marks_after single c (b ++ r) e is p (drop e.further b) r) ∙ (ap (λ x. has_marker (c ∷ x) r) whole ∙ (sym (ap (λ x. x || has_marker (c ∷ b) r) g) ∙ m)) in
+            stepped c (b ++ r) e is parts.0 g (subst (λ x. Walk G (past_element s e.element) q x) (sym rest)
+            (walk_of G last k r no_feed marker e.further b f.2 (past_element s e.element) q fits f.3 (sym (columns_are c (b ++ r) e is s p (f.2 ++ last)) ∙ parts.1) marks later))
+      ]
 
--- the elements of a body begin with one
-record Begins (single : Bool) (c : ℕ) (b : List ℕ) (es : List Element) : Type 0 where
-  first : Spelled
-  is : element_of single c b ≡ Some first
-  others : List Element
-  are : elements (element_of single) first.further b ≡ Some others
-  all : es ≡ first.element ∷ others
+  -- an element that may not stand
+  abbrev misplaced : Position → Element → Problem × Position
+  misplaced p (blank c) = (TabAsIndentation, p)
+  misplaced p e = (QuotedIndentation, start)
 
-own : (single : Bool) (c : ℕ) (b : List ℕ) (s : Spelled) → element_of single c b ≡ Some s → Local (element_of single c) b s
-own single c b s is = subst (λ o. LocalOf (element_of single c) b o) is (local single c b)
+  -- by the element that begins there; where none does, a quote closes the scalar or begins a line, or an escape is none
+  abbrev judged_by : Option Spelled → LineStand → Position → (c : ℕ) (b : List ℕ) → (later : Option (Problem × Position)) → Option (Problem × Position)
+  judged_by None s p c b later =
+      (if begins_further s (c == quote_of single) && nat_lt p.col least then Some (QuotedIndentation, start) else (if c == quote_of single then None else Some (escape_problem b, start)))
+  judged_by (Some e) s p c b later = (if stands least s p.col e.element then later else Some (misplaced p e.element))
 
--- its characters are there
-enough : (single : Bool) (c : ℕ) (b : List ℕ) (s : Spelled) → element_of single c b ≡ Some s → s.further ≤ length b
-enough single c b s is = let f = (own single c b s is).fits in omega (arith, f, length-take s.further b)
+  -- What is wrong with a text first, from so many characters on; nothing is, if a quote closes the scalar.
+  abbrev judge : ℕ → LineStand → Position → List ℕ → Option (Problem × Position)
+  judge n s p [] = Some (QuotedEnd, start)
+  judge (suc n) s p (c ∷ b) = judge n s p b
+  judge zero s p (c ∷ b) =
+      (if is_marked p (c ∷ b) then Some (QuotedDocumentMarker, start) else
+      judged_by (element_of single c b) s p c b (judge (further_of (element_of single c b)) (stand_of s (element_of single c b)) (position_after p (c ∷ take (further_of (element_of single c b)) b) (drop (further_of (element_of single c b)) b)) b))
 
--- A body whose elements may stand, with others after them, is walked along, up to its first marker or to its end.
-pub walk_of : (single : Bool) (least : ℕ) (start : Position) (G : LineStand → Position → List ℕ → Type 0) (last : List Element) (k : Bool) (r : List ℕ) → begins_with 10 r ≡ false → ((t : LineStand) (q : Position) (x : List ℕ) → is_marked q x ≡ true → k ≡ true → G t q x)
-    → (n : ℕ) (a : List ℕ) (es : List Element) (s : LineStand) (p : Position) → n ≤ length a → elements (element_of single) n a ≡ Some es → all_stand least s p.col (es ++ last) ≡ true → marked_from p.col (drop n a) r ≡ k
-    → (all_stand least (past_elements s es) (position_after p (drop n a) r).col last ≡ true → is_marked (position_after p (drop n a) r) r ≡ false → k ≡ false → G (past_elements s es) (position_after p (drop n a) r) r) → Walk single least start G s p (drop n a ++ r)
-walk_of single least start G last k r no_feed marker (suc n) [] es s p l h fit m end = absurd (omega (arith, l))
-walk_of single least start G last k r no_feed marker (suc n) (c ∷ a) es s p l h fit m end = walk_of single least start G last k r no_feed marker n a es s p (omega (arith, l)) h fit m end
-walk_of single least start G last k r no_feed marker zero [] es s p l h fit m end =
-    let none : [] ≡ es = cc h in
-    let own : is_marked p r ≡ k = sym (or-false (is_marked p r)) ∙ m in
-    elim (cases_Bool (is_marked p r)) [
-      | inl g ↦ arrived (marker s p r g (sym own ∙ g))
-      | inr g ↦
-          arrived (subst (λ x. (all_stand least (past_elements s x) p.col last ≡ true → is_marked p r ≡ false → k ≡ false → G (past_elements s x) p r) → all_stand least s p.col (x ++ last) ≡ true → G s p r) none (λ f x. f x g (sym own ∙ g)) end fit)
-    ]
-walk_of single least start G last k r no_feed marker zero (c ∷ b) es s p l h fit m end =
-    let f : Begins single c b es = grind arith in
-    let e : Spelled = f.first in
-    let fits : e.further ≤ length b = enough single c b e f.is in
-    let is : element_of single c (b ++ r) ≡ Some e = (own single c b e f.is).onward r no_feed in
-    let q : Position = after_it single c (b ++ r) e is p in
-    let rest : drop e.further (b ++ r) ≡ drop e.further b ++ r = drop-append-le e.further b r fits in
-    let whole : take e.further (b ++ r) ++ drop e.further b ≡ b = ap (λ x. x ++ drop e.further b) (take-append-le e.further b r fits) ∙ take-append-drop e.further b in
-    let at : position_after p (c ∷ b) r ≡ position_after q (drop e.further b) r = ap (λ x. position_after p (c ∷ x) r) (sym whole) ∙ place single least start c (b ++ r) e is p (drop e.further b) r rest in
-    let parts = and_parts (stands least s p.col e.element) (all_stand least (past_element s e.element) (column_past p.col e.element) (f.others ++ last)) (ap (λ x. all_stand least s p.col (x ++ last)) (sym f.all) ∙ fit) in
-    let End : List Element → Position → Type 0 = λ x z. all_stand least (past_elements s x) z.col last ≡ true → is_marked z r ≡ false → k ≡ false → G (past_elements s x) z r in
-    let later : End (e.element ∷ f.others) (position_after q (drop e.further b) r) = subst (λ z. End (e.element ∷ f.others) z) at (subst (λ x. End x (position_after p (c ∷ b) r)) f.all end) in
-    elim (cases_Bool (is_marked p (c ∷ (b ++ r)))) [
-      | inl g ↦ arrived (marker s p (c ∷ (b ++ r)) g (sym m ∙ ap (λ x. x || has_marker (c ∷ b) r) g))
-      | inr g ↦
-          let marks : marked_from q.col (drop e.further b) r ≡ k = sym (marks_after single c (b ++ r) e is p (drop e.further b) r) ∙ (ap (λ x. has_marker (c ∷ x) r) whole ∙ (sym (ap (λ x. x || has_marker (c ∷ b) r) g) ∙ m)) in
-          stepped c (b ++ r) e is parts.0 g (subst (λ x. Walk single least start G (past_element s e.element) q x) (sym rest)
-          (walk_of single least start G last k r no_feed marker e.further b f.others (past_element s e.element) q fits f.are (sym (columns_are single least start c (b ++ r) e is s p (f.others ++ last)) ∙ parts.1) marks later))
-    ]
+  judge_past : (n : ℕ) (b : List ℕ) (s : LineStand) (p : Position) → judge n s p b ≡ judge 0 s p (drop n b)
+  judge_past zero b s p = refl
+  judge_past (suc n) [] s p = refl
+  judge_past (suc n) (c ∷ b) s p = judge_past n b s p
 
--- ---- escapes that are none
+  -- what is so where a walk ends is so where it begins
+  judged : (E : LineStand → Position → List ℕ → Type 0) (J : Option (Problem × Position) → Type 0) → ((s : LineStand) (p : Position) (text : List ℕ) → E s p text → J (judge 0 s p text))
+      → (s : LineStand) (p : Position) (text : List ℕ) → Walk E s p text → J (judge 0 s p text)
+  judged E J end s p text (arrived a) = end s p text a
+  judged E J end s p text (stepped c b e is fit none w) = rw (none, is, fit, judge_past e.further b) (judged E J end _ _ _ w)
 
--- what is wrong with one
-abbrev code_problem : Option ℕ → Problem
-code_problem None = HexadecimalDigit
-code_problem (Some n) = EscapedCode
-
-abbrev digits_problem : Option ℕ → List ℕ → Problem
-digits_problem None r = UnknownEscape
-digits_problem (Some n) r = code_problem (number_at n r)
-
-abbrev escape_problem : List ℕ → Problem
-escape_problem [] = UnknownEscape
-escape_problem (c ∷ r) = digits_problem (lookup c numeric_escapes) r
-
-bad_is : (r : List ℕ) (why : Problem) → IsBadEscape r why → escape_problem r ≡ why
-bad_is r why bad.ends = refl
-bad_is r why (bad.unknown c s i j k) = rw k refl
-bad_is r why (bad.no_digit c digits s i j k) = rw (j, k) refl
-bad_is r why (bad.no_character c digits code s i j k l) = rw (j, k) refl
-
-numeric_is : (n : ℕ) (r : List ℕ) → numeric_escape n r ≡ numbered n (number_at n r)
-unfolding numeric_escape
-numeric_is n r = grind arith
-
-no_break : (c n : ℕ) → lookup c numeric_escapes ≡ Some n → classes.is_break c ≡ false
-unfolding classes.is_break
-no_break c n h = grind arith
-
-bad_none : (r : List ℕ) (why : Problem) → IsBadEscape r why → escape r ≡ None
-unfolding escape
-bad_none r why bad.ends = refl
-bad_none r why (bad.unknown c s i j k) = rw (i, j, k) refl
-bad_none r why (bad.no_digit c digits s i j k) = let n = no_break c digits j in rw (n, i, j) (numeric_is digits s ∙ ap (λ o. numbered digits o) k)
-bad_none r why (bad.no_character c digits code s i j k l) = let n = no_break c digits j in rw (n, i, j) (numeric_is digits s ∙ (ap (λ o. numbered digits o) k ∙ rw l refl))
-
-none_here : (single : Bool) (r : List ℕ) (why : Problem) → single ≡ false → IsBadEscape r why → element_of single 92 r ≡ None
-unfolding double_quoted_element classes.is_nul
-none_here single r why e b = grind (arith, bad_none)
-
--- ---- quotes
-
--- where a scalar ends, no element begins with the quote
-quote_ends : (single : Bool) (next : List ℕ) (c : ℕ) (b : List ℕ) (e : Spelled) → ends_before single next ≡ true → quote_of single ∷ next ≡ c ∷ b → element_of single c b ≡ Some e → ⊥
-unfolding single_quoted_element double_quoted_element classes.is_nul
-quote_ends a next c b e ends h is = grind arith
-
--- ---- places where no element stands
-
-not_solid : (c : ℕ) (b : List ℕ) → is_white c ≡ true → begins_solid (c ∷ b) ≡ true → ⊥
-not_solid c b h e = grind (arith, same_break, same_blank)
-
-tab_white : is_white 9 ≡ true
-unfolding is_break is_blank
-tab_white = refl
-
-tab_no_break : is_break 9 ≡ false
-unfolding is_break
-tab_no_break = refl
-
-module _ (single : Bool) (least : ℕ) (start : Position) where
-  -- no element that may stand begins there, but after a marker
-  abbrev IsFinal : (E : LineStand → Position → List ℕ → Type 0) → Type 0
-  IsFinal E = (s : LineStand) (p : Position) (c : ℕ) (b : List ℕ) (e : Spelled) → element_of single c b ≡ Some e → stands least s p.col e.element ≡ true → is_marked p (c ∷ b) ≡ false → E s p (c ∷ b) → ⊥
-
-  place_final : (why : Problem) (at : Position) → IsFinal (λ s p text. Place single least start s p text why at)
-  place_final why at s p c b e is fit none (by_end f) = cc f
-  place_final why at s p c b e is fit none (by_escape next _ double cut bad may) =
-      let first : c ≡ 92 = cc cut in
-      let rest : b ≡ next = cc cut in
-      cc (none_here single next why double bad, ap (λ r. element_of single 92 r) rest, ap (λ c. element_of single c b) first, is)
-  place_final why at s p c b e is fit none (by_column solid further low) = by e fit (kind_of single c b e is)
+  wrong_judged : (why : Problem) (at : Position) (s : LineStand) (p : Position) (text : List ℕ) → Wrong s p text why at → judge 0 s p text ≡ Some (why, at)
+  unfolding single_quoted_element double_quoted_element plain_element classes.is_blank classes.is_break classes.is_nul is_blank is_break are_marks
+  wrong_judged why at s p [] (by_marker h) = absurd (grind arith)
+  wrong_judged why at s p [] (placed _ _ none (by_column solid further low)) = absurd (cc solid)
+  wrong_judged why at s p (c ∷ b) (by_marker h) = rw h refl
+  wrong_judged why at s p text (placed _ _ none (by_end e)) = rw e refl
+  wrong_judged why at s p text (placed _ _ none (by_escape next _ double cut bad may)) =
+      let low : (begins_further s (92 == quote_of single) && nat_lt p.col least) ≡ false = grind arith in
+      rw cut (let free = rw cut at none in let empty = none_here single next why double bad in let is = bad_is next why bad in grind (arith, free, empty, is, low))
+  wrong_judged why at s p text (placed _ _ none (by_tab next cut further low)) = rw cut (let free = rw cut at none in grind (arith, free))
+  wrong_judged why at s p (c ∷ b) (placed _ _ none (by_column solid further low)) = by (element_of single c b) refl
     where
       open_here : begins_further s false ≡ true
       open_here = grind arith
 
-      stops : not (begins_further s false && nat_lt p.col least) ≡ true → ⊥
-      stops h = let x : not (true && true) ≡ true = rw (open_here, low) at h in absurd (cc x)
+      by_kind : (e : Spelled) → element_of single c b ≡ Some e → Kind single c b e → judge 0 s p (c ∷ b) ≡ Some (QuotedIndentation, start)
+      by_kind e is (has_content code k g) = rw (none, is, open_here, low) refl
+      by_kind e is (has_blank f g) = absurd (not_solid c b (rw (f, g) refl) solid)
+      by_kind e is (has_line f) = absurd (not_solid c b (rw f refl) solid)
+      by_kind e is (has_escaped d a double same_c same_b f) = rw (none, is, open_here, low) refl
 
-      by : (e : Spelled) → stands least s p.col e.element ≡ true → Kind single c b e → ⊥
-      by e fit (has_content code k g) = stops fit
-      by e fit (has_blank f g) = not_solid c b (rw (f, g) refl) solid
-      by e fit (has_line f) = not_solid c b (rw f refl) solid
-      by e fit (has_escaped d a double same_c same_b f) = stops fit
-  place_final why at s p c b e is fit none (by_tab next cut further low) = by e fit (kind_of single c b e is)
-    where
-      first : c ≡ 9
-      first = cc cut
+      by : (o : Option Spelled) → element_of single c b ≡ o → judge 0 s p (c ∷ b) ≡ Some (QuotedIndentation, start)
+      by None is = rw (none, is, further, low) refl
+      by (Some e) is = by_kind e is (kind_of single c b e is)
 
-      by : (e : Spelled) → stands least s p.col e.element ≡ true → Kind single c b e → ⊥
-      by e fit (has_content code k g) = cc (g, ap is_white first, tab_white)
-      by e fit (has_blank f g) = let x : not (true && (9 == 9) && true) ≡ true = rw (further, low, first) at fit in absurd (cc x)
-      by e fit (has_line f) = cc (f, ap is_break first, tab_no_break)
-      by e fit (has_escaped d a double same_c same_b f) = let bad : ◌≡◌ {A = ℕ} 9 92 = sym first ∙ same_c in absurd (cc bad)
-
-  wrong_final : (why : Problem) (at : Position) → IsFinal (λ s p text. Wrong single least start s p text why at)
-  wrong_final why at s p c b e is fit none a = grind (arith, place_final)
-
-  -- Two walks along a text end at one place, if they end where no element goes on.
-  record Meet (E F : LineStand → Position → List ℕ → Type 0) : Type 0 where
-    s : LineStand
-    p : Position
-    text : List ℕ
-    first : E s p text
-    second : F s p text
-
-  meet : (E F : LineStand → Position → List ℕ → Type 0) → IsFinal E → IsFinal F → (s : LineStand) (p : Position) (text : List ℕ) → Walk single least start E s p text → Walk single least start F s p text → Meet E F
-  meet E F x y s p text (arrived a) (arrived b) = record { s = s; p = p; text = text; first = a; second = b }
-  meet E F x y s p text (arrived a) (stepped c b e is fit none w) = absurd (x s p c b e is fit none a)
-  meet E F x y s p text (stepped c b e is fit none v) (arrived a) = absurd (y s p c b e is fit none a)
-  meet E F x y s p text (stepped c b e is fit none v) (stepped _ _ e2 is2 fit2 none2 w) =
-      let same : e2 ≡ e = cc (is, is2) in
-      meet E F x y _ _ _ v (rw (sym same) w)
-
-  -- ---- two reasons at one place
-
-  -- what is wrong where something is
-  abbrev verdict : LineStand → Position → List ℕ → Problem × Position
-  verdict s p text =
-      (if begins_solid text then (if begins_further s (begins_with (quote_of single) text) && nat_lt p.col least then (QuotedIndentation, start) else (escape_problem (drop 1 text), start)) else
-      (if is_empty text then (QuotedEnd, start) else (TabAsIndentation, p)))
-
-  verdict_is : (s : LineStand) (p : Position) (text : List ℕ) (why : Problem) (at : Position) → Place single least start s p text why at → verdict s p text ≡ (why, at)
-  unfolding classes.is_blank classes.is_break
-  verdict_is s p text why at (by_end e) = rw e refl
-  verdict_is s p text why at (by_escape next _ double cut bad may) = let low : (begins_further s false && nat_lt p.col least) ≡ false = grind arith in rw (cut, double, low, bad_is next why bad) refl
-  verdict_is s p text why at (by_column solid further low) = rw (solid, further, low) refl
-  verdict_is s p text why at (by_tab next cut further low) = rw cut refl
+  same_fault : (why1 why2 : Problem) (at1 at2 : Position) → ◌≡◌ {A = Option (Problem × Position)} (Some (why1, at1)) (Some (why2, at2)) → (why1 ≡ why2) × (at1 ≡ at2)
+  same_fault why1 why2 at1 at2 e = let pair : ◌≡◌ {A = Problem × Position} (why1, at1) (why2, at2) = cc e in (ap (λ z. z.0) pair, ap (λ z. z.1) pair)
 
   -- What is wrong first with a text is one thing at one position.
-  pub one_reason : (s : LineStand) (p : Position) (text : List ℕ) (why1 why2 : Problem) (at1 at2 : Position) → Reason single least start s p text why1 at1 → Reason single least start s p text why2 at2 → (why1 ≡ why2) × (at1 ≡ at2)
-  one_reason s p text why1 why2 at1 at2 x y = let m = meet _ _ (wrong_final why1 at1) (wrong_final why2 at2) s p text x y in by why1 why2 at1 at2 m.first m.second
-    where
-      by : {s : LineStand} {p : Position} {text : List ℕ} (why1 why2 : Problem) (at1 at2 : Position) → Wrong single least start s p text why1 at1 → Wrong single least start s p text why2 at2 → (why1 ≡ why2) × (at1 ≡ at2)
-      by why1 why2 at1 at2 (by_marker h) (by_marker i) = (refl, refl)
-      by why1 why2 at1 at2 (by_marker h) (placed _ _ none x) = absurd (cc (h, none))
-      by why1 why2 at1 at2 (placed _ _ none x) (by_marker h) = absurd (cc (h, none))
-      by why1 why2 at1 at2 (placed _ _ none x) (placed _ _ free y) = let same : (why1, at1) ≡ (why2, at2) = sym (verdict_is _ _ _ why1 at1 x) ∙ verdict_is _ _ _ why2 at2 y in (ap (λ z. z.0) same, ap (λ z. z.1) same)
+  pub one_reason : (s : LineStand) (p : Position) (text : List ℕ) (why1 why2 : Problem) (at1 at2 : Position) → Reason s p text why1 at1 → Reason s p text why2 at2 → (why1 ≡ why2) × (at1 ≡ at2)
+  one_reason s p text why1 why2 at1 at2 x y =
+      same_fault why1 why2 at1 at2 (sym (judged _ (λ o. o ≡ Some (why1, at1)) (wrong_judged why1 at1) s p text x) ∙ judged _ (λ o. o ≡ Some (why2, at2)) (wrong_judged why2 at2) s p text y)
+
+  closed_judged : (s : LineStand) (p : Position) (next : List ℕ) → ends_before single next ≡ true → all_stand least s p.col (before_quote s) ≡ true → is_marked p (quote_of single ∷ next) ≡ false → judge 0 s p (quote_of single ∷ next) ≡ None
+  unfolding single_quoted_element double_quoted_element classes.is_nul
+  closed_judged s p next ends fit none =
+      -- where a scalar ends, no element begins with the quote
+      let quote_ends : (single : Bool) (next : List ℕ) → ends_before single next ≡ true → element_of single (quote_of single) next ≡ None = λ a next ends. grind arith in
+      grind (arith, nat_tests, quote_ends)
 
   -- Nothing but a marker is wrong where a body stands whose lines are indented, and its closing quote.
   pub not_closed : (s : LineStand) (p : Position) (body next : List ℕ) (es : List Element) → ends_before single next ≡ true → elements (element_of single) 0 body ≡ Some es → all_stand least s p.col (es ++ before_quote (past_elements s es)) ≡ true
-      → (why : Problem) (at : Position) → (why ≡ QuotedDocumentMarker → ⊥) → Reason single least start s p (body ++ quote_of single ∷ next) why at → ⊥
+      → (why : Problem) (at : Position) → (why ≡ QuotedDocumentMarker → ⊥) → Reason s p (body ++ quote_of single ∷ next) why at → ⊥
   not_closed s p body next es ends are fits why at unlike x =
-      let m = meet _ _ (wrong_final why at) ends_final s p (body ++ quote_of single ∷ next) x
-      (walk_of single least start Ends (before_quote (past_elements s es)) (marked_from p.col body (quote_of single ∷ next)) (quote_of single ∷ next) (grind arith) (λ t q y h i. inl h) 0 body es s p (omega arith) are fits refl (λ fit free k. inr (refl, fit))) in
-      by why at unlike m.first m.second
-    where
-      -- a marker, or the closing quote
-      Ends : LineStand → Position → List ℕ → Type 0
-      Ends t q y = (is_marked q y ≡ true) ⊎ ((y ≡ quote_of single ∷ next) × (all_stand least t q.col (before_quote t) ≡ true))
-
-      ends_final : IsFinal Ends
-      ends_final t q c b e is fit none (inl h) = cc (h, none)
-      ends_final t q c b e is fit none (inr h) = quote_ends single next c b e ends (sym h.0) is
-
-      at_quote : (t : LineStand) (q : Position) (why : Problem) (at : Position) → all_stand least t q.col (before_quote t) ≡ true → Place single least start t q (quote_of single ∷ next) why at → ⊥
-      at_quote t q why at fit h = grind arith
-
-      by : {t : LineStand} {q : Position} {y : List ℕ} (why : Problem) (at : Position) → (why ≡ QuotedDocumentMarker → ⊥) → Wrong single least start t q y why at → Ends t q y → ⊥
-      by why at unlike (by_marker h) z = unlike refl
-      by why at unlike (placed _ _ none h) (inl i) = cc (none, i)
-      by {t = t} {q = q} why at unlike (placed _ _ none h) (inr i) = at_quote t q why at i.1 (rw (sym i.0) h)
+      let wrong : judge 0 s p (body ++ quote_of single ∷ next) ≡ Some (why, at) = judged _ (λ o. o ≡ Some (why, at)) (wrong_judged why at) s p _ x in
+      let Right : Option (Problem × Position) → Type 0 = λ o. (o ≡ Some (QuotedDocumentMarker, start)) ⊎ (o ≡ None) in
+      let right : Right (judge 0 s p (body ++ quote_of single ∷ next)) = judged (λ t q y. Right (judge 0 t q y)) Right (λ t q y h. h) s p _
+      (walk_of (λ t q y. Right (judge 0 t q y)) (before_quote (past_elements s es)) (marked_from p.col body (quote_of single ∷ next)) (quote_of single ∷ next) (grind arith)
+      (λ t q y h i. inl (wrong_judged QuotedDocumentMarker start t q y (by_marker h))) 0 body es s p (omega arith) are fits refl (λ fit free k. inr (closed_judged _ _ next ends fit free))) in
+      elim right [
+        | inl m ↦ unlike (same_fault why QuotedDocumentMarker at start (sym wrong ∙ m)).0
+        | inr n ↦ let none : ◌≡◌ {A = Option (Problem × Position)} (Some (why, at)) None = sym wrong ∙ n in cc none
+      ]

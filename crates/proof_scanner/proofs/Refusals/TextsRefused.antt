@@ -1,17 +1,19 @@
 -- Where a tag, a directive or a block scalar's header is none, no row of the text goes on.
-use Rattle.proof_scanner.proofs.Common.{cases_Bool, [], Account, after, all_of, alpha_starts, and_parts, ap, append-nil, are_marks, AreNotIndented, At, begins_flow, begins_with, begins_with_mark, block_may_end, block_read, block_token, BlockRead, BlockStyle, Body, body, Bool, context_of, decoded_some, directive_begins, directive_line, directive_of, double_quoted, eqb-true, Err, false, first_line, folded, further, further_text, has_header, has_no_break, has_no_nul, HasNoQuoted, Header, header_of, if◌then◌else◌, in_double_quotes, in_single_quotes, indicator_of, inl, inr, is_adjacent, is_alpha, is_at_end, is_at_gap, is_blank, is_blank_or_end, is_break, is_decimal_digit, is_empty, is_flow, is_further_text, is_in_flow, is_in_line, is_letter, is_nul, is_past, is_tag, is_uri, IsTagRefusal, Kind, kind_at, leading, leading_all, least_column, length, line_is, line_more, lines_after, List, literal, local_goes_on, local_octets, may_follow, may_precede, More, no_lines, no_nul_after, no_suffix, None, not, of_lines, Option, past, Position, Problem, put_first, read_body, read_lines, refl, same_end, scalar, single_quoted, site_at_place, slice_index, Some, split, split_append, splits, subst, suffix_goes_on, suffix_octets, sym, tag_text, tags_are_read, true, unclosed, up_to_break, verbatim_goes_on, verbatim_octets, Whole, word, written_tag, ℕ, ◌&&◌, ◌++◌, ◌==◌, ◌||◌, ◌∙◌, ◌∷◌, ◌≡◌, ◌⊎◌, arith, ends_run, runs, nat_tests, TagEnd, VerbatimTagEnd}
+use Rattle.proof_scanner.proofs.Common.{is_on_line, cases_Bool, [], NoPiece, IsBlockFault, IsQuotedFault, tab, nat_tests, is_marker, act_of, directive_token, Directive, alias_name, is_name, goes_on_with_name, all_of, arith, ◌==◌, Account, after, all_of, alpha_starts, and_parts, ap, append-nil, are_marks, AreNotIndented, At, begins_flow, begins_with, begins_with_mark, block_may_end, block_read, block_token, BlockRead, BlockStyle, Body, body, Bool, decoded_some, directive_begins, directive_line, directive_of, double_quoted, eqb-true, Err, false, first_line, folded, further, further_text, has_header, has_no_break, has_no_nul, Header, header_of, if◌then◌else◌, in_double_quotes, in_single_quotes, indicator_of, inl, inr, is_adjacent, is_alpha, is_at_end, is_at_gap, is_blank, is_blank_or_end, is_break, is_decimal_digit, is_empty, is_flow, is_further_text, is_in_flow, is_in_line, is_letter, is_nul, is_past, is_tag, is_uri, IsTagRefusal, kind_at, leading, leading_all, least_column, length, line_is, line_more, lines_after, List, literal, local_goes_on, local_octets, may_follow, may_precede, More, no_lines, no_nul_after, no_suffix, None, not, of_lines, Option, past, Position, Problem, put_first, read_body, read_lines, refl, same_end, scalar, single_quoted, site_at_place, slice_index, Some, split, split_append, splits, subst, suffix_goes_on, suffix_octets, sym, tag_text, tags_are_read, true, unclosed, up_to_break, verbatim_goes_on, verbatim_octets, word, written_tag, ℕ, ◌&&◌, ◌++◌, ◌==◌, ◌||◌, ◌∙◌, ◌∷◌, ◌≡◌, ◌⊎◌, arith, ends_run, runs, nat_tests, TagEnd, VerbatimTagEnd}
 use Rattle.defs_token.specs.Account as pieces
 use Rattle.model_scanner.specs.Tag as tags
 use Rattle.model_scanner.specs.Tag.{verbatim_end, verbatim, named, shorthand, tag_end, tag}
 use Rattle.proof_row.specs.Ends.{block_scalar}
 use Rattle.proof_row.proofs.TagEnds.{mark_is_first}
 use Rattle.proof_lexers.specs.DirectiveEnds as directives
+use Rattle.proof_scanner.specs.NoPiece as none
+use Rattle.proof_row.specs.Ends.{anchor_name}
 use Rattle.proof_lexers.specs.HeaderEnds.{ends_line}
 use Rattle.proof_lexers.proofs.Properties.Uris.{uris_are_read}
 use Rattle.proof_row.proofs.Written as written
 use Rattle.proof_scanner.specs.NoPiece.{quote_of}
 use Rattle.proof_scanner.proofs.Refusals.OtherRows.{StepAt}
-use Rattle.proof_scanner.proofs.Refusals.PiecesRefused.{acct, whole_by, rest_of, flow_is, no_lines as no_lines_there, no_end as no_end_here}
+use Rattle.proof_scanner.proofs.Refusals.PiecesRefused.{Here, acct, whole_by, rest_of, flow_is, node_stands, here_stood, marker_begins, is_piece, spot, no_block_end}
 use Rattle.proof_scanner.proofs.Refusals.Common.{end_no_text}
 
 -- ---- tags
@@ -19,9 +21,6 @@ use Rattle.proof_scanner.proofs.Refusals.Common.{end_no_text}
 no_mark : is_alpha 33 ≡ false
 unfolding is_alpha is_decimal_digit is_letter
 no_mark = refl
-
-closes_not : (start p : Position) (uri r : List ℕ) → begins_with 62 r ≡ false → verbatim_end start uri r p ≡ Err (At VerbatimTagEnd start)
-closes_not start p uri r h = grind arith
 
 -- a word and a second mark begin no verbatim tag
 no_angle : (name rest : List ℕ) → all_of is_alpha name ≡ true → (slice_index (name ++ 33 ∷ rest) 0 == 60) ≡ false
@@ -38,7 +37,9 @@ unmarked text h = grind arith
 pub refusal_fails : (flow : Bool) (text : List ℕ) (why : Problem) (p : Position) → IsTagRefusal flow text why → tag flow (33 ∷ text) p ≡ Err (At why p)
 unfolding tag verbatim shorthand named
 refusal_fails flow text why p (verbatim_octets rest f cut e) = rw (cut, (uris_are_read p rest (past (past p)) []).0, e) refl
-refusal_fails flow text why p (unclosed rest uri cut e lacks) = rw (cut, (uris_are_read p rest (past (past p)) []).0, e, closes_not p (further (length (leading is_uri rest)) (past (past p))) uri (after is_uri rest) lacks) refl
+refusal_fails flow text why p (unclosed rest uri cut e lacks) =
+    let closes_not : verbatim_end p uri (after is_uri rest) (further (length (leading is_uri rest)) (past (past p))) ≡ Err (At VerbatimTagEnd p) = grind (arith, lacks) in
+    rw (cut, (uris_are_read p rest (past (past p)) []).0, e, closes_not) refl
 refusal_fails flow text why p (verbatim_goes_on rest uri more cut e ends goes) = rw (cut, (uris_are_read p rest (past (past p)) []).0, e, ends, same_end flow more, goes) refl
 refusal_fails flow text why p (suffix_octets name rest f cut all e) =
     let z = leading_all is_alpha name (33 ∷ rest) all no_mark in
@@ -61,19 +62,16 @@ refusal_fails flow text why p (local_goes_on suffix no_verbatim none e goes) =
 
 -- ---- lines
 
-abbrev in_line : ℕ → Bool
-in_line c = not (is_break c)
-
-all_in_line : (l : List ℕ) → all_of in_line l ≡ has_no_break l
+all_in_line : (l : List ℕ) → all_of is_on_line l ≡ has_no_break l
 all_in_line [] = refl
-all_in_line (c ∷ l) = ap (λ b. in_line c && b) (all_in_line l)
+all_in_line (c ∷ l) = ap (λ b. is_on_line c && b) (all_in_line l)
 
-line_ends : (next : List ℕ) → directives.ends_line next ≡ true → ends_run in_line next ≡ true
+line_ends : (next : List ℕ) → directives.ends_line next ≡ true → ends_run is_on_line next ≡ true
 line_ends a e = grind arith
 
 -- two lines of one text are the same
 pub one_line : (line1 next1 line2 next2 : List ℕ) → line1 ++ next1 ≡ line2 ++ next2 → has_no_break line1 ≡ true → directives.ends_line next1 ≡ true → has_no_break line2 ≡ true → directives.ends_line next2 ≡ true → line1 ≡ line2
-one_line line1 next1 line2 next2 e h j k l = (runs in_line line1 line2 next1 next2 (all_in_line line1 ∙ h) (all_in_line line2 ∙ k) (line_ends next1 j) (line_ends next2 l) e).0
+one_line line1 next1 line2 next2 e h j k l = (runs is_on_line line1 line2 next1 next2 (all_in_line line1 ∙ h) (all_in_line line2 ∙ k) (line_ends next1 j) (line_ends next2 l) e).0
 
 -- a text's first line
 pub first_of : (line after : List ℕ) → is_in_line line ≡ true → ends_line after ≡ true → up_to_break (line ++ after) ≡ line
@@ -85,10 +83,6 @@ pub piece_line : (collection : Option ℕ) (piece next : List ℕ) (r : BlockRea
 piece_line collection piece next r clean is = grind (arith, end_no_text, append-nil, line_more)
 
 -- ---- a TAB after a header
-
--- a block scalar that was read ends before the text after it
-ended_body : (collection : Option ℕ) (h : Option Header) (b : Body) (next : List ℕ) (r : BlockRead) → read_body h collection b next ≡ Some r → (column : ℕ) × (is_past column next ≡ true)
-ended_body collection h b next r e = grind arith
 
 not_past : (column : ℕ) (r : List ℕ) → is_further_text column (10 ∷ r) ≡ false
 unfolding is_break are_marks
@@ -124,6 +118,8 @@ module _ (collection : Option ℕ) (header more : List ℕ) where
 
       by : (complete : List (List ℕ)) (last : List ℕ) (ended : Bool) → (split own).complete ≡ complete → (split own).last ≡ last → is_at_end (d ∷ next) ≡ ended → read_lines collection ((split own).complete) ((split own).last) (d ∷ next) (is_at_end (d ∷ next)) ≡ Some r → ⊥
       by (l ∷ ls) [] false e f g k =
+          -- a block scalar that was read ends before the text after it
+          let ended_body : (collection : Option ℕ) (h : Option Header) (b : Body) (next : List ℕ) (r : BlockRead) → read_body h collection b next ≡ Some r → (column : ℕ) × (is_past column next ≡ true) = λ collection h b next r e. grind arith in
           let read : read_body (header_of l) collection (body ls further_text) (d ∷ next) ≡ Some r = rw (e, f, g) at k in
           let past = ended_body collection (header_of l) (body ls further_text) (d ∷ next) r read in
           elim (cases_Bool (d == 10)) [
@@ -167,67 +163,79 @@ first_char (d ∷ p) header h e is = elim (cases_Bool (d == 124)) [
   | inr f ↦ elim (cases_Bool (d == 62)) [ inl g ↦ (folded, p, ap (λ z. z ∷ p) (eqb-true d 62 g)) | inr g ↦ absurd (grind arith) ]
 ]
 
-module _ {a : Account} {separation rest : List ℕ} {here : Position} (s : StepAt a separation rest here) where
-  abbrev Here : Kind → Type 0
-  Here k = Whole k (context_of (acct s)) s.step.piece s.next s.step.shown
+-- a quote begins a text that is refused for a line
+pub begins_lines : (least : ℕ) (here : Position) (rest : List ℕ) (single : Bool) (why : Problem) (at : Position) → IsQuotedFault single least here rest why at → (more : List ℕ) × (rest ≡ quote_of single ∷ more)
+begins_lines least here rest a why b d = grind (arith, nat_tests, tab, eqb-true)
 
-  pub no_tag : (more : List ℕ) (why : Problem) → rest ≡ 33 ∷ more → IsTagRefusal (is_in_flow a.entries) more why → ⊥
+module _ {a : Account} {separation rest : List ℕ} {here : Position} (s : StepAt a separation rest here) where
+  name_goes_on : (name more : List ℕ) → is_name name ≡ true → name ++ s.next ≡ more → goes_on_with_name more ≡ true
+  name_goes_on a more h e = grind (arith, all_of)
+
+  block_here : (style : BlockStyle) (more : List ℕ) → is_in_flow a.entries ≡ false → rest ≡ indicator_of style ∷ more → Here s block_scalar
   unfolding is_blank_or_end is_blank is_break is_nul is_flow
-  no_tag more why e reason =
-      let w : Here tag_text = whole_by s 33 more e in
+  block_here style more out e =
+      let block_kind : (style : BlockStyle) (fl adjacent : Bool) (column : ℕ) → fl ≡ false → kind_at fl adjacent column (indicator_of style ∷ more) ≡ block_scalar = λ a fl adjacent column h. grind (arith, nat_tests, eqb-true) in
+      subst (Here s) (block_kind style (pieces.is_in_flow (acct s)) (is_adjacent (acct s).before) (acct s).position.col (flow_is s ∙ out)) (whole_by s (indicator_of style) more e)
+
+  quoted_here : (single : Bool) (more : List ℕ) → rest ≡ quote_of single ∷ more → Here s (if single then in_single_quotes else in_double_quotes)
+  unfolding is_blank_or_end is_blank is_break is_nul is_flow
+  quoted_here true more e = whole_by s 39 more e
+  quoted_here false more e = whole_by s 34 more e
+
+  -- No piece begins with the text but the row's.
+  pub no_piece_stands : (why : Problem) (at : Position) → NoPiece (is_in_flow a.entries) here rest why at → ⊥
+  unfolding is_blank_or_end is_blank is_break is_nul is_flow
+  no_piece_stands why at (none.at_sign more e) = whole_by s 64 more e
+  no_piece_stands why at (none.backtick more e) = whole_by s 96 more e
+  no_piece_stands why at (none.percent more e other) =
+      let is_line : (d : Directive) → is_marker (act_of (directive_token d)) ≡ true = λ a. grind arith in
+      let line : Here s directive_line = whole_by s 37 more e in
+      let begins = marker_begins (acct s) s.step.piece s.next None (spot s) s.step.shown (is_piece s) (ap (λ t. is_marker (act_of t)) line.4 ∙ is_line line.0) in
+      cc (other, ap (λ (p : Position). p.col == 0) (sym s.position_is) ∙ (and_parts ((acct s).position.col == 0) _ begins).0)
+  no_piece_stands why at (none.nameless true more e lacks) = let named : Here s alias_name = whole_by s 42 more e in cc (lacks, name_goes_on named.0 more named.1.1 (rest_of s 42 named.0 more named.1.0 e))
+  no_piece_stands why at (none.nameless false more e lacks) = let named : Here s anchor_name = whole_by s 38 more e in cc (lacks, name_goes_on named.0 more named.1.1 (rest_of s 38 named.0 more named.1.0 e))
+  no_piece_stands why at (none.tagless more _ e reason) =
+      let w : Here s tag_text = whole_by s 33 more e in
       let first = mark_is_first s.step.piece w.0 w.1 in
       let left : first.0 ++ s.next ≡ more = rest_of s 33 first.0 more first.1 e in
       let follows : may_follow (is_in_flow a.entries) s.next ≡ true = ap (λ b. is_at_gap s.next || (b && begins_flow s.next)) (sym (flow_is s)) ∙ w.2 in
       let reads = tags_are_read (is_in_flow a.entries) first.0 s.next w.0.handle w.0.suffix here (ap written_tag (sym first.1) ∙ w.1) follows in
       let fails = refusal_fails (is_in_flow a.entries) more why here reason in
       cc (reads, fails, ap (λ r. tag (is_in_flow a.entries) (33 ∷ r) here) left)
-
-  pub no_directive : (line after : List ℕ) → rest ≡ 37 ∷ (line ++ after) → has_no_break line ≡ true → directives.ends_line after ≡ true → directive_of (37 ∷ line) ≡ None → ⊥
-  unfolding is_blank_or_end is_blank is_break is_nul is_flow
-  no_directive line after e one ends none =
+  no_piece_stands why at (none.unquoted true more _ e lacks n) = let w = quoted_here true more e in lacks s.step.piece s.next (sym s.text_is) (w.0, w.1)
+  no_piece_stands why at (none.unquoted false more _ e lacks n) = let w = quoted_here false more e in lacks s.step.piece s.next (sym s.text_is) (w.0, w.1)
+  no_piece_stands why at (none.headless style line after _ _ out e inner ends lacks n) =
+      let w : Here s block_scalar = block_here style (line ++ after) out e in
+      let clean : has_no_nul s.next ≡ true = no_nul_after s.step.piece s.next (ap has_no_nul s.text_is ∙ s.is_clean) in
+      let own : up_to_break s.step.piece ≡ indicator_of style ∷ line =
+      sym (piece_line (pieces.collection_column (acct s)) s.step.piece s.next w.0 clean w.1) ∙ (ap up_to_break (s.text_is ∙ e) ∙ (ap (λ b. if b then [] else indicator_of style ∷ up_to_break (line ++ after)) (unbroken style) ∙ ap (λ r. indicator_of style ∷ r) (first_of line after inner ends))) in
+      has_header (pieces.collection_column (acct s)) ((split s.step.piece).complete) ((split s.step.piece).last) s.next (is_at_end s.next) w.0 w.1 (ap header_of (line_is s.step.piece ∙ own) ∙ lacks)
+  no_piece_stands why at (none.undirected line after _ _ col e one ends lacks n) =
       let no_nul_more : (r : List ℕ) → has_no_nul (37 ∷ r) ≡ true → has_no_nul r ≡ true = λ r h. (and_parts (not (is_nul 37)) (has_no_nul r) h).1 in
-      let w : Here directive_line = whole_by s 37 (line ++ after) e in
+      let w : Here s directive_line = whole_by s 37 (line ++ after) e in
       let first = directive_begins s.step.piece w.0 w.1 in
       let left : first.0 ++ s.next ≡ line ++ after = rest_of s 37 first.0 (line ++ after) first.1 e in
       let clean : has_no_nul (first.0 ++ s.next) ≡ true = ap has_no_nul left ∙ no_nul_more (line ++ after) (sym (ap has_no_nul e) ∙ s.is_clean) in
       let same : first.0 ≡ line = one_line first.0 s.next line after left ((and_parts (not (is_break 37)) (has_no_break first.0) (sym (ap has_no_break first.1) ∙ w.2)).1) (grind (arith, (no_nul_after first.0 s.next clean))) one ends in
-      cc (none, ap (λ r. directive_of (37 ∷ r)) (sym same), ap directive_of (sym first.1), w.1)
+      cc (lacks, ap (λ r. directive_of (37 ∷ r)) (sym same), ap directive_of (sym first.1), w.1)
 
-  block_here : (style : BlockStyle) (more : List ℕ) → is_in_flow a.entries ≡ false → rest ≡ indicator_of style ∷ more → Here block_scalar
-  unfolding is_blank_or_end is_blank is_break is_nul is_flow
-  block_here style more out e =
-      let block_kind : (style : BlockStyle) (fl adjacent : Bool) (column : ℕ) → fl ≡ false → kind_at fl adjacent column (indicator_of style ∷ more) ≡ block_scalar = λ a fl adjacent column h. grind (arith, nat_tests, eqb-true) in
-      subst Here (block_kind style (pieces.is_in_flow (acct s)) (is_adjacent (acct s).before) (acct s).position.col (flow_is s ∙ out)) (whole_by s (indicator_of style) more e)
-
-  pub no_block_header : (style : BlockStyle) (line after : List ℕ) → is_in_flow a.entries ≡ false → rest ≡ indicator_of style ∷ (line ++ after) → is_in_line line ≡ true → ends_line after ≡ true → header_of (indicator_of style ∷ line) ≡ None → ⊥
-  no_block_header style line after out e inner ends none =
-      let w : Here block_scalar = block_here style (line ++ after) out e in
-      let clean : has_no_nul s.next ≡ true = no_nul_after s.step.piece s.next (ap has_no_nul s.text_is ∙ s.is_clean) in
-      let own : up_to_break s.step.piece ≡ indicator_of style ∷ line =
-      sym (piece_line (pieces.collection_column (acct s)) s.step.piece s.next w.0 clean w.1) ∙ (ap up_to_break (s.text_is ∙ e) ∙ (ap (λ b. if b then [] else indicator_of style ∷ up_to_break (line ++ after)) (unbroken style) ∙ ap (λ r. indicator_of style ∷ r) (first_of line after inner ends))) in
-      has_header (pieces.collection_column (acct s)) ((split s.step.piece).complete) ((split s.step.piece).last) s.next (is_at_end s.next) w.0 w.1 (ap header_of (line_is s.step.piece ∙ own) ∙ none)
-
+  -- The row's block scalar may stand before what follows it.
+  pub no_block_stands : is_in_flow a.entries ≡ false → (why : Problem) (at : Position) → IsBlockFault (site_at_place a here).blocks here rest why at → ⊥
+  no_block_stands out why at (none.by_column piece header more lines b cut is further lines_are empty deep left) = no_block_end s piece header more lines b out cut is further lines_are empty deep left
   -- a TAB begins the line after the header
-  pub no_block_tab : (own header more : List ℕ) (h : Header) → is_in_flow a.entries ≡ false → rest ≡ own ++ 9 ∷ more → split own ≡ of_lines (header ∷ []) [] → header_of header ≡ Some h → ⊥
-  no_block_tab own header more h out e one is =
+  no_block_stands out why at (none.by_tab own header more h e one is) =
       let same_end_by : (style : BlockStyle) (text : List ℕ) → may_precede (is_in_flow s.account.entries) (written.At s.account s.step s.next).blocks (block_token style text) s.step.piece s.next ≡ block_may_end (written.At s.account s.step s.next).blocks s.step.piece s.next = λ a b. grind (arith, nat_tests, eqb-true) in
       let first = first_char own header h (sym (line_is own) ∙ ap (λ z. first_line z.complete z.last) one) is in
-      let w : Here block_scalar = block_here first.0 (first.1 ++ 9 ∷ more) out (e ∙ ap (λ p. p ++ 9 ∷ more) first.2) in
+      let w : Here s block_scalar = block_here first.0 (first.1 ++ 9 ∷ more) out (e ∙ ap (λ p. p ++ 9 ∷ more) first.2) in
       let clean : has_no_nul s.next ≡ true = no_nul_after s.step.piece s.next (ap has_no_nul s.text_is ∙ s.is_clean) in
-      no_end_here s (ap (λ t. may_precede (is_in_flow s.account.entries) (written.At s.account s.step s.next).blocks t s.step.piece s.next) w.3 ∙
-      (same_end_by w.0.style w.0.text ∙ tab_follows (pieces.collection_column (acct s)) header more own s.step.piece s.next (written.At s.account s.step s.next).blocks w.0 (s.text_is ∙ e) one clean w.1))
+      cc (
+        (here_stood s).precedes,
+        ap (λ t. may_precede (is_in_flow s.account.entries) (written.At s.account s.step s.next).blocks t s.step.piece s.next) w.3 ∙
+            (same_end_by w.0.style w.0.text ∙ tab_follows (pieces.collection_column (acct s)) header more own s.step.piece s.next (written.At s.account s.step s.next).blocks w.0 (s.text_is ∙ e) one clean w.1),
+      )
 
-  -- ---- quoted scalars
-
-  quoted_here : (single : Bool) (more : List ℕ) → rest ≡ quote_of single ∷ more → Here (if single then in_single_quotes else in_double_quotes)
-  unfolding is_blank_or_end is_blank is_break is_nul is_flow
-  quoted_here true more e = whole_by s 39 more e
-  quoted_here false more e = whole_by s 34 more e
-
-  pub no_quoted_text : (single : Bool) (more : List ℕ) → rest ≡ quote_of single ∷ more → HasNoQuoted single rest → ⊥
-  no_quoted_text true more e none = let w = quoted_here true more e in none s.step.piece s.next (sym s.text_is) (w.0, w.1)
-  no_quoted_text false more e none = let w = quoted_here false more e in none s.step.piece s.next (sym s.text_is) (w.0, w.1)
-
-  pub no_quoted_lines : (single : Bool) (more : List ℕ) → rest ≡ quote_of single ∷ more → AreNotIndented single (least_column (site_at_place a here).blocks (site_at_place a here).awaits) rest → ⊥
-  no_quoted_lines true more e none = let w = quoted_here true more e in no_lines_there s (scalar single_quoted w.0) w.2 refl (none s.step.piece s.next (sym s.text_is) (w.0, w.1))
-  no_quoted_lines false more e none = let w = quoted_here false more e in no_lines_there s (scalar double_quoted w.0) w.2 refl (none s.step.piece s.next (sym s.text_is) (w.0, w.1))
+  -- the further lines of the row's quoted scalar are indented
+  pub lines_stand : (single : Bool) (why : Problem) (at : Position) → AreNotIndented single (least_column (site_at_place a here).blocks (site_at_place a here).awaits) rest
+      → IsQuotedFault single (least_column (site_at_place a here).blocks (site_at_place a here).awaits) here rest why at → ⊥
+  lines_stand true why at lacks n = let b = begins_lines _ here rest true why at n in let w = quoted_here true b.0 b.1 in cc ((node_stands s (scalar single_quoted w.0) w.2 refl).1, lacks s.step.piece s.next (sym s.text_is) (w.0, w.1))
+  lines_stand false why at lacks n = let b = begins_lines _ here rest false why at n in let w = quoted_here false b.0 b.1 in cc ((node_stands s (scalar double_quoted w.0) w.2 refl).1, lacks s.step.piece s.next (sym s.text_is) (w.0, w.1))

@@ -41,12 +41,11 @@ lines_up p (c ∷ t) next h f = grind (arith, line_ended, line_grows, and_false,
 pub some_piece : (collection : Option ℕ) (piece next : List ℕ) (b : BlockRead) → block_read collection piece next ≡ Some b → is_empty piece ≡ false
 some_piece a d e b h = grind arith
 
--- after the last line stands no line feed
-past_text : (column : ℕ) (next : List ℕ) → is_at_end next ≡ false → is_past column next ≡ true → begins_with 10 next ≡ false
-past_text column next e h = further_is_no_break column next (rw e at h)
-
 pub piece_has_line : (collection : Option ℕ) (piece next : List ℕ) (b : BlockRead) → is_at_end next ≡ false → block_read collection piece next ≡ Some b → (is_empty (split piece).complete ≡ false) × (begins_with 10 next ≡ false)
-piece_has_line collection piece next b e h = grind (arith, past_text)
+piece_has_line collection piece next b e h =
+    -- after the last line stands no line feed
+    let past_text : (column : ℕ) (next : List ℕ) → is_at_end next ≡ false → is_past column next ≡ true → begins_with 10 next ≡ false = λ column next e h. further_is_no_break column next (rw e at h) in
+    grind (arith, past_text)
 
 -- ---- the piece
 

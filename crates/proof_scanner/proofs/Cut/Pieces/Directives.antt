@@ -12,14 +12,11 @@ break_fills : (c : ℕ) (f rest : List ℕ) → is_break c ≡ true → is_separ
 unfolding is_blank is_break
 break_fills c f rest h k = grind (arith, nat_tests)
 
-feed_fills : (c : ℕ) (r rest : List ℕ) → is_before_line_feed c r ≡ true → is_separation false (take 1 r) rest ≡ true
-unfolding is_break
-feed_fills c r rest h = grind (arith, nat_tests, break_fills)
-
 pub break_is_separation : (next : List ℕ) → ends_line next ≡ true → is_separation false (first_break next) (next_line next) ≡ true
+unfolding is_break
 break_is_separation [] h = refl
 break_is_separation (c ∷ r) h = elim (cases_Bool (is_before_line_feed c r)) [
-  | inl e ↦ rw e (break_fills c (take 1 r) (drop 1 r) h (feed_fills c r (drop 1 r) e))
+  | inl e ↦ rw e (break_fills c (take 1 r) (drop 1 r) h (grind (arith, nat_tests, break_fills, e)))
   | inr e ↦ rw e (break_fills c [] r h refl)
 ]
 

@@ -1,5 +1,5 @@
 -- What the scan of a plain scalar reads is its piece.
-use Rattle.proof_scanner.proofs.Common.{and_parts, at_dash, begins_flow, begins_plain, Bool, collection_column, collection_of, comes_plain, Context, false, is_adjacent, is_blank, is_blank_or_end, is_break, is_separation, is_white, is_whole_plain, IsPlainRead, List, not, Ok, Plain, plain, plain_value, PlainIsRead, Position, position_after, position_append, Read, read_as, ReadAs, scalar, scans_end, slice_index, Some, starts, true, ℕ, ◌++◌, ◌≡◌, arith, nat_tests, eqb-true}
+use Rattle.proof_scanner.proofs.Common.{and_parts, at_dash, begins_flow, begins_plain, Bool, collection_column, collection_of, comes_plain, Context, false, is_adjacent, is_blank, is_blank_or_end, is_break, is_separation, is_whole_plain, IsPlainRead, List, Ok, Plain, plain, plain_value, PlainIsRead, Position, position_after, position_append, Read, read_as, ReadAs, scalar, scans_end, slice_index, Some, starts, true, ℕ, ◌++◌, ◌≡◌, arith, nat_tests, eqb-true}
 use Rattle.yaml_chars.specs.Class as model_classes
 use Rattle.defs_token.specs.Account.{Account, is_in_flow}
 use Rattle.model_scanner.specs.Plain as models
@@ -7,10 +7,6 @@ use Rattle.proof_lexers.proofs.Bridges.{same_flow}
 use Rattle.proof_scanner.proofs.Cut.Pieces.Separations.{gap_is_separation}
 
 -- ---- a plain scalar begins with content
-
--- a character that isn't white
-abbrev IsSolid : ℕ → Type 0
-IsSolid c = not (is_white c) ≡ true
 
 -- ---- in flow a dash before a flow indicator is refused
 

@@ -12,10 +12,6 @@ pub without_breaks : (class : ℕ → Bool) → class 10 ≡ false → class 13 
 unfolding is_break
 without_breaks class lf cr c h = grind (arith, nat_tests)
 
-pub uri_has_none : (c : ℕ) → is_uri c ≡ true → is_break c ≡ false
-unfolding is_uri is_decimal_digit is_letter
-uri_has_none c h = without_breaks is_uri refl refl c h
-
 pub tag_has_none : (c : ℕ) → is_tag c ≡ true → is_break c ≡ false
 unfolding is_tag is_uri is_decimal_digit is_letter
 tag_has_none c h = without_breaks is_tag refl refl c h
@@ -38,7 +34,10 @@ closed_in_line (c ∷ []) h = grind arith
 closed_in_line (c ∷ d ∷ t) h = grind arith
 
 verbatim_in_line : (t : List ℕ) (g : Tag) → verbatim t ≡ Some g → has_no_break t ≡ true
-verbatim_in_line t g h = elim (cases_Bool (is_same (after is_uri t) (codes ">"))) [ inl e ↦ spanned is_uri uri_has_none t (closed_in_line (after is_uri t) e) | inr e ↦ absurd (grind arith) ]
+unfolding is_uri is_decimal_digit is_letter
+verbatim_in_line t g h =
+    let uri_has_none : (c : ℕ) → is_uri c ≡ true → is_break c ≡ false = λ c h. without_breaks is_uri refl refl c h in
+    elim (cases_Bool (is_same (after is_uri t) (codes ">"))) [ inl e ↦ spanned is_uri uri_has_none t (closed_in_line (after is_uri t) e) | inr e ↦ absurd (grind arith) ]
 
 named_in_line : (name from : List ℕ) (g : Tag) → begins_with_mark from ≡ true → named name from ≡ Some g → has_no_break from ≡ true
 unfolding is_break
