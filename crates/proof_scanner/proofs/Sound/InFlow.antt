@@ -1,6 +1,6 @@
 -- A piece in flow was read: if the definition and the scanner agree on its entries and tokens, what holds where it begins holds between two fetches after it.
-use Rattle.proof_scanner.proofs.Common.{[], Account, account_past, act_of, ap, AreEntries, AreNumbered, arith, begins_free_line, begun_by, begun_inside, Bool, chosen, Colon, colon_of, columns, entries_by, entries_past, Entry, entry_by, false, FlowLevel, had_by, has_break, HasHadHere, is_empty, is_renewed, is_waiting, IsEntryOf, IsLine, IsPiece, Key, key_end, least_column, length, length-append, Line, line_by, line_past_separation, List, may_stand, MayChoose, nat_le, None, not, NotBefore, Option, outside_key, pair_position, pop, Position, position_after, previous_by, put, refl, ScannerState, seen, shown_position, Site, site_here, site_past, Some, spelled, Step, suc, sym, takes_pair, Tok, Token, tokens_at, tokens_of_step, tokens_up_to, true, with_had, with_keys, ℕ, ◌&&◌, ◌++◌, ◌∙◌, ◌∷◌, ◌≡◌, ◌≤◌}
-use Rattle.proof_scanner.proofs.Sound.Common.{among, ArrivesBy, but_for_key_past, completes_at, first_among, goes_past, had_as_it_was, IsDeep, keys_along, keys_first, line_taken, may_around, not_before_after, not_before_then, numbered_around, numbered_more, one_around, open_around, past_step, same_levels, some_rest, unbroken, unbroken_around, with_entries}
+use Rattle.proof_scanner.proofs.Common.{[], Account, account_past, act_of, ap, AreEntries, AreNumbered, arith, begins_free_line, begun_by, begun_inside, Bool, chosen, colon_of, columns, entries_by, entries_past, Entry, entry_by, false, FlowLevel, had_by, has_break, HasHadHere, is_empty, is_renewed, is_waiting, IsEntryOf, IsLine, IsPiece, Key, least_column, length, length-append, Line, line_by, line_past_separation, List, may_stand, MayChoose, nat_le, None, not, NotBefore, Option, outside_key, pair_position, pop, Position, position_after, previous_by, put, refl, ScannerState, seen, shown_position, Site, site_here, site_past, Some, spelled, Step, suc, sym, takes_pair, Tok, Token, tokens_at, tokens_of_step, tokens_up_to, true, with_had, with_keys, ℕ, ◌&&◌, ◌++◌, ◌∙◌, ◌∷◌, ◌≡◌, ◌≤◌}
+use Rattle.proof_scanner.proofs.Sound.Common.{among, ArrivesBy, but_for_key_past, completes_at, goes_past, had_as_it_was, IsDeep, keys_along, line_taken, may_around, not_before_after, not_before_then, numbered_around, numbered_more, one_around, open_around, past_step, same_levels, some_rest, unbroken, unbroken_around, with_entries, keys_own}
 use Rattle.proof_scanner.proofs.Known.Steps.{keyless, knows_inside}
 use Rattle.proof_scanner.proofs.Sound.Reads.{Onward, Reads, stands_so}
 
@@ -121,22 +121,18 @@ module _ (text : List ℕ) (t : ScannerState) (f : FlowLevel) (fs : List FlowLev
       with_keys 1 a.site.position (w ∷ ws) last a.site.blocks l xs ks (a.tokens ++ tokens_inside (site_here true t.held.position a.site) piece tok next e))
   keyless_tokens l xs ws last h =
       let w : Step = keyless a.separation piece tok in
-      let p : Position = a.site.position in
       let x : Site = at_text (spelled ws last) in
-      let own : List Token = tokens_inside (site_here true t.held.position a.site) piece tok next e in
       let single : Bool = takes_pair e.kind e.pair in
-      let past : Position = position_after x.position piece (spelled ws last) in
-      let there : Position = pair_position past (spelled ws last) in
-      let at_end : Colon = key_end tok past ws last in
-      let first : with_had (colon_of 0 p (w ∷ ws) last) single (had_by false k e.had) k a.tokens ≡ a.tokens =
-      rw (had_as_it_was k e.had) (grind arith) in
+      let own : List Token = tokens_inside (site_here true t.held.position a.site) piece tok next e in
+      let there : Position = pair_position (position_after x.position piece (spelled ws last)) (spelled ws last) in
+      let first : with_had (colon_of 0 a.site.position (w ∷ ws) last) single (had_by false k e.had) k a.tokens ≡ a.tokens = rw (had_as_it_was k e.had) (grind arith) in
       let second : tokens_at a.site x w ws last l (entry_by false k e ∷ xs) ≡ own =
       ap (λ y. y ++ (put (shown_position x piece tok (spelled ws last)) tok ∷ []))
       ((grind arith) ∙ ap (λ y. begun_inside single e.pair x.position there there (act_of tok) false y) (had_as_it_was k e.had)) ∙
-      (ap (λ y. tokens_inside (at_text y) piece tok y e) h ∙ ap (λ q. tokens_inside (site_here true q a.site) piece tok next e) (sym (a.position_is ∙ ap (λ y. position_after p a.separation y) cut))) in
-      ap (λ y. with_keys 1 p (w ∷ ws) last a.site.blocks l xs ks y ++ tokens_at a.site x w ws last l (entry_by false k e ∷ xs)) first ∙
-      (ap (λ y. with_keys 1 p (w ∷ ws) last a.site.blocks l xs ks a.tokens ++ y) second ∙
-      sym (keys_first 1 p (w ∷ ws) last a.site.blocks l xs ks a.tokens own (first_among (length a.tokens) k ks (among (length a.tokens) (k ∷ ks) a.are_numbered)).1))
+      (ap (λ y. tokens_inside (at_text y) piece tok y e) h ∙ ap (λ q. tokens_inside (site_here true q a.site) piece tok next e) (sym (a.position_is ∙ ap (λ y. position_after a.site.position a.separation y) cut))) in
+      keys_own 0 a.site.position (w ∷ ws) last a.site.blocks l (entry_by false k e) xs k ks a.tokens (tokens_at a.site x w ws last l (entry_by false k e ∷ xs))
+      (among (length a.tokens) (k ∷ ks) a.are_numbered) ∙
+      ap (λ ts. with_keys 1 a.site.position (w ∷ ws) last a.site.blocks l xs ks ts) (cc (first, second))
 
 module _ (text : List ℕ) (t u : ScannerState) (f g : FlowLevel) (fs : List FlowLevel) (k : Option Key) (ks : List (Option Key)) (e e2 : Entry) (es : List Entry) (a : ArrivesBy text t (f ∷ fs) (k ∷ ks) (e ∷ es)) (piece next : List ℕ) (tok : Tok) where
   abbrev at_piece : Site

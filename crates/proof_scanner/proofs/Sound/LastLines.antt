@@ -1,4 +1,5 @@
 -- The last line of a text as the text grows, and the column after it.
+use Rattle.std.proofs.Math.Seq.{take-nil}
 use Rattle.proof_scanner.proofs.Common.{[], and_parts, ap, arith, Bool, eqb-true, false, has_break, has_no_break, has_tab_within, if◌then◌else◌, inl, inr, is_at_line_end, is_before_line_feed, is_break, is_empty, is_one_of, is_separation, last_line, length, List, nat_lt, nat_tests, not, not-true, or-true, Position, position_after, position_past, put_first, refl, split, split_by, suc, take, take-append-le, true, zero, ℕ, ◌&&◌, ◌++◌, ◌+◌, ◌-◌, ◌==◌, ◌||◌, ◌∙◌, ◌∷◌, ◌≡◌, ◌≤◌, ◌⊎◌}
 
 -- ---- breaks in a text and one character more
@@ -76,19 +77,10 @@ tab_within_more n l c (inl other) h = go n l h
   where
     go : (n : ℕ) (l : List ℕ) → is_one_of (take n l) 9 ≡ false → is_one_of (take n (l ++ c ∷ [])) 9 ≡ false
     go zero l h = refl
-    go (suc n) [] h = rw other (none n)
-      where
-        none : (n : ℕ) → is_one_of (take n []) 9 ≡ false
-        none a = grind arith
+    go (suc n) [] h = rw (other, take-nil n) refl
     go (suc n) (x ∷ l) h = grind (arith, go n l)
 
 -- ---- tABs among the blanks of a line, left of a column
-
-pub take_none : (n : ℕ) → ◌≡◌ {A = List ℕ} (take n []) []
-take_none a = grind arith
-
-pub none_before : (column : ℕ) → column - 0 ≡ column
-none_before column = omega arith
 
 -- A blank in a column, before others: no TAB stands left of a later column if none does there, and the blank is no TAB left of it.
 pub blank_more : (k column c : ℕ) (bs : List ℕ) → ((c == 9) && nat_lt k column) ≡ false → has_tab_within (column - suc k) bs ≡ false → has_tab_within (column - k) (c ∷ bs) ≡ false

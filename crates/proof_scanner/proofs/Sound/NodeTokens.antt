@@ -1,5 +1,5 @@
 -- What a part of a node begins: an opening bracket the first entry of a collection, other pieces nothing.
-use Rattle.proof_scanner.proofs.Common.{if◌then◌else◌, [], Account, act_of, ap, append_assoc, AreNumbered, arith, begun_by, Bool, Colon, colon_of, depth_past, ends_at, entries_by, entries_past, Entry, entry_by, false, filled, first_entry, flow_mapping_start, FlowLevel, gives_node, Had, had_by, HasHadHere, insert, is_keyed, is_waiting, IsLineHere, IsLive, Key, key, key_tokens, length, level_of, Line, line_by, line_past, List, map, MayChoose, None, Option, pair_position, pop, Position, position_after, put, put_if, put_key, refl, shown_position, Site, site_here, Some, spelled, Step, suc, sym, taken, takes_pair, Tok, Token, tokens_at, tokens_of_step, tokens_up_to, true, with_had, with_keys, with_line, zero, ℕ, ◌&&◌, ◌++◌, ◌∙◌, ◌∷◌, ◌≡◌, ◌≤◌, kind_of}
+use Rattle.proof_scanner.proofs.Common.{[], if◌then◌else◌, Account, act_of, ap, append_assoc, AreNumbered, arith, begun_by, Bool, Colon, colon_of, depth_past, ends_at, entries_by, entries_past, Entry, entry_by, false, filled, first_entry, flow_mapping_start, FlowLevel, gives_node, Had, had_by, HasHadHere, insert, is_keyed, is_waiting, IsLineHere, IsLive, Key, key, key_tokens, length, level_of, Line, line_by, line_past, List, map, MayChoose, None, Option, pair_position, pop, Position, position_after, put, put_if, put_key, refl, shown_position, Site, site_here, Some, spelled, Step, suc, sym, taken, takes_pair, Tok, Token, tokens_at, tokens_of_step, tokens_up_to, true, with_had, with_keys, with_line, zero, ℕ, ◌&&◌, ◌++◌, ◌∙◌, ◌∷◌, ◌≡◌, ◌≤◌, kind_of}
 use Rattle.std.proofs.lemmas.List.Edits.{insert-append_left}
 use Rattle.proof_scanner.proofs.Sound.Sides.{with_entries}
 use Rattle.proof_scanner.proofs.Sound.OutOfFlow.{Outer}
@@ -113,6 +113,11 @@ keys_first d p ws last bs l es [] ts us a = refl
 keys_first d p ws last bs l [] (k ∷ ks) ts us a = grind (arith, key_first, first_among)
 keys_first d p ws last bs l (e ∷ es) (k ∷ ks) ts us a = grind (arith, first_among, had_first, fewer, had_longer, keys_first (suc d) p ws last bs l es ks)
 
+-- Own tokens of a step stand after those so far: the key of the innermost entry goes in before, and so do those around it.
+pub keys_own : (d : ℕ) (p : Position) (ws : List Step) (last bs : List ℕ) (l : Line) (e : Entry) (es : List Entry) (k : Option Key) (ks : List (Option Key)) (ts own : List Token) → AreAmong (length ts) (k ∷ ks) →
+    with_keys d p ws last bs l (e ∷ es) (k ∷ ks) ts ++ own ≡ with_keys (suc d) p ws last bs l es ks (with_had (colon_of d p ws last) (takes_pair e.kind e.pair) e.had k ts ++ own)
+keys_own d p ws last bs l e es k ks ts own a = grind (arith, keys_first, first_among, fewer, had_longer)
+
 -- ---- the tokens of a part of a node: with its key put in, or without
 
 -- ---- an entry in which no key waits
@@ -179,14 +184,12 @@ node_tokens level s separation piece tok allowed c k new e es ks ts l ws last ac
     let depth : ℕ = depth_begun level 0 in
     let colon : Colon = colon_of depth p ws last in
     let single : Bool = takes_pair e.kind e.pair in
-    let inner : List Token = with_had colon single x.had k ts in
     let own : Token = put (shown_position at piece tok (spelled ws last)) tok in
-    let step : List Token = key_inside w.key single at colon ++ (own ∷ []) in
-    let first : tokens_up_to (with_entries s l (x ∷ es)) (k ∷ ks) ts (w ∷ ws) last ≡ with_keys (suc depth) p ws last s.blocks l es ks inner = keys_past level 0 s.position w ws last act begins s.blocks l (x ∷ es) (k ∷ ks) ts in
-    let parts : AreAmong (length ts) (k ∷ []) × AreAmong (length ts) ks = first_among (length ts) k ks are_among in
-    ap (λ y. y ++ tokens_at s at w ws last l (x ∷ es)) first ∙
-    (ap (λ y. with_keys (suc depth) p ws last s.blocks l es ks inner ++ y) (grind arith) ∙
-    (sym (keys_first (suc depth) p ws last s.blocks l es ks inner step (fewer (length ts) (length inner) ks (had_longer colon single x.had k ts) parts.1)) ∙
+    let inner : List Token = with_had colon single x.had k ts in
+    let step : tokens_at s at w ws last l (x ∷ es) ≡ key_inside w.key single at colon ++ (own ∷ []) = grind arith in
+    ap (λ y. y ++ tokens_at s at w ws last l (x ∷ es)) (keys_past level 0 s.position w ws last act begins s.blocks l (x ∷ es) (k ∷ ks) ts) ∙
+    (keys_own depth p ws last s.blocks l x es k ks ts (tokens_at s at w ws last l (x ∷ es)) are_among ∙
+    (ap (λ y. with_keys (suc depth) p ws last s.blocks l es ks (inner ++ y)) step ∙
     (ap (λ y. with_keys (suc depth) p ws last s.blocks l es ks y) (grind (arith, key_between, had_first, had_as_it_was)) ∙
     sym (keys_around_begun level p ws last s.blocks l (entry_by c (saved allowed new k) (entry_past_node allowed e) ∷ es) (saved allowed new k ∷ ks) (ts ++ (own ∷ []))))))
 
@@ -207,12 +210,13 @@ line_after_node strict must allowed c k new l here p bs rest h e q may = grind a
 -- ---- the tokens after it
 
 -- The tokens after it are those before, with the ends that stand here, and its own.
-pub node_outer_tokens : (level : Option FlowLevel) (s : Site) (separation piece : List ℕ) (tok : Tok) (strict allowed c : Bool) (k : Option Key) (new : Key) (l m : Line) (p : Position) (rest : List ℕ) (ts : List Token) (ws : List Step) (last : List ℕ) →
+pub node_outer_tokens : (level : Option FlowLevel) (s : Site) (separation piece next : List ℕ) (tok : Tok) (strict allowed c : Bool) (k : Option Key) (new : Key) (l m : Line) (here p : Position) (rest : List ℕ) (ts us : List Token) (ws : List Step) (last : List ℕ) →
     act_of tok ≡ gives_node → begun_by tok ≡ with_begun level [] →
-    IsLineHere false allowed (0 ∷ []) k m → MayChoose strict c (saved allowed new k) p rest → is_waiting l ≡ false → AreAmong (length ts) (k ∷ []) →
-    (let b : Site = site_here false (position_after s.position separation (piece ++ spelled ws last)) s in
+    IsLineHere false allowed (0 ∷ []) k m → MayChoose strict c (saved allowed new k) p rest → is_waiting l ≡ false → AreAmong (length ts) (k ∷ []) → spelled ws last ≡ next → here ≡ position_after s.position separation (piece ++ next) →
+    (let b : Site = site_here false here s in
     let w : Step = record { separation = separation; piece = piece; shown = tok; key = bit_of allowed c } in
     let before : Account = Outer s (line_by (choice_before allowed c) k l) in
-    new.position ≡ b.position → new.number ≡ length (ts ++ ends_at b.position s.blocks b.blocks) → AreSame k p rest s.blocks b.blocks → tokens_up_to before (k ∷ []) ts (w ∷ ws) last ++ tokens_of_step before w ws last ≡
-    with_keys 0 (past_step s.position w ws last) ws last b.blocks (line_by c (saved allowed new k) taken) (with_begun level []) (with_no_key level (saved allowed new k ∷ [])) ((ts ++ ends_at b.position s.blocks b.blocks) ++ (put (shown_position b piece tok (spelled ws last)) tok ∷ [])))
-node_outer_tokens level s separation piece tok strict allowed c k new l m p rest ts ws last act begins a may idle b place number same = grind (arith, append_assoc, keys_past, key_between, key_first, keys_around_begun, taken)
+    us ≡ ts ++ ends_at here s.blocks b.blocks → shown_position b piece tok next ≡ here → new.position ≡ here → new.number ≡ length us → AreSame k p rest s.blocks b.blocks →
+    tokens_up_to before (k ∷ []) ts (w ∷ ws) last ++ tokens_of_step before w ws last ≡
+    with_keys 0 (position_after here piece next) ws last b.blocks (line_by c (saved allowed new k) taken) (begun_by tok) (with_no_key level (saved allowed new k ∷ [])) (us ++ (put here tok ∷ [])))
+node_outer_tokens level s separation piece next tok strict allowed c k new l m here p rest ts us ws last act begins a may idle b e at u shown place number same = grind (arith, append_assoc, keys_past, key_between, key_first, keys_around_begun, taken)

@@ -1,10 +1,11 @@
 -- The scan of a plain scalar refuses TABs that indent its further lines, and in flow a dash before a flow indicator.
+use Rattle.std.proofs.Math.Seq.{take-nil}
 use Rattle.proof_scanner.proofs.Common.{Bool, Context, Err, Fault, List, Ok, Plain, PlainState, Position, Read, Result, Stop, Turn, [], after_first, and_false, and_parts, and_then, ap, append_assoc, append_cancel_right, arith, at_char, at_dash, begins_flow, begins_solid, ended, eqb-true, fail, false, first, has_break, has_dash_before_flow, has_tab_within, if◌then◌else◌, inl, inr, is_at_comment_or_end, is_before_line_feed, is_blanks, is_cr_lf, is_gap, joined, last_line, leading, lines_have_no_tab, nat_lt, nat_tests, not, not-true, nothing, on, or_true, plain_from, plain_lines_fit, put_first, refl, run, same_blank, same_break, split, starts, stop, suc, sym, tabs, true, turn, turn_in, turned, ℕ, ◌&&◌, ◌++◌, ◌-◌, ◌==◌, ◌||◌, ◌∙◌, ◌∷◌, ◌≡◌, ◌≤◌, ◌⊎◌, break_leads}
 use Rattle.defs_text.specs.Classes as classes
 use Rattle.yaml_chars.specs.Class.{is_break, is_blank}
 use Rattle.yaml_chars.specs.Class as model_classes
 use Rattle.model_scanner.specs.Plain.{Mode, inside, between, goes_on, plain}
-use Rattle.proof_scanner.proofs.Sound.Steps.{blank_more, last_first, last_whole, none_before, same_flow_start, take_none}
+use Rattle.proof_scanner.proofs.Sound.Steps.{blank_more, last_first, last_whole, same_flow_start}
 
 -- ---- what a text says of TABs, character by character
 
@@ -171,7 +172,7 @@ lines_are column tabbed t = is_blanks (first_line t) && plain_lines_fit column t
 
 -- all lines: the first, and the others
 pub all_lines : (column : ℕ) (ls : List (List ℕ)) (last : List ℕ) → lines_have_no_tab column (ls ++ (last ∷ [])) ≡ (line_is 0 column (first_of ls last) && lines_have_no_tab column (after_first ls last))
-all_lines column a last = grind (arith, none_before)
+all_lines column a last = grind arith
 
 put_first_others : (c : ℕ) (ls : List (List ℕ)) (last : List ℕ) → after_first (put_first c ls last).complete (put_first c ls last).last ≡ after_first ls last
 put_first_others c a last = grind arith
@@ -201,7 +202,7 @@ module _ (column : ℕ) (c : ℕ) (r : List ℕ) where
 
     -- content ends the indentation
     content_line : (k : ℕ) → classes.is_blank c ≡ false → (l : List ℕ) → line_is k column (c ∷ l) ≡ true
-    content_line k f l = rw (f, take_none (column - k)) refl
+    content_line k f l = rw (f, take-nil (column - k)) refl
 
 -- What the scan says of each character says that the further lines fit.
 lines_fit : (column : ℕ) (x : Spot) (t g rest : List ℕ) → tabs_fit column x (t ++ g) rest ≡ true → lines_are column x t ≡ true
@@ -225,12 +226,12 @@ tabbed_gap column [] rest n h = h
 tabbed_gap column (c ∷ g) rest n h = grind (arith, and_parts, same_break, tabbed_gap column g rest)
 
 blanks_gap : (column k : ℕ) (g rest : List ℕ) → has_break g ≡ false → is_gap g ≡ true → tabs_fit column (at k) g rest ≡ true → IsClear (column - k) g rest
-blanks_gap column k [] rest n w h = grind (arith, take_none)
+blanks_gap column k [] rest n w h = grind (arith, take-nil)
 blanks_gap column k (c ∷ g) rest n w h = grind (arith, and_parts, tabbed_gap, same_break, same_blank, blank_more, blanks_gap column (suc k) g rest)
 
 broken_gap : (column : ℕ) (x : Spot) (g rest : List ℕ) → is_gap g ≡ true → has_break g ≡ true → tabs_fit column x g rest ≡ true → IsClear column (last_line g) rest
 broken_gap column x [] rest w b h = absurd (cc b)
-broken_gap column x (c ∷ g) rest w b h = grind (arith, and_parts, same_break, last_first, or_true, last_whole, none_before, blanks_gap, broken_gap column (past_spot column x c) g rest)
+broken_gap column x (c ∷ g) rest w b h = grind (arith, and_parts, same_break, last_first, or_true, last_whole, blanks_gap, broken_gap column (past_spot column x c) g rest)
 
 -- ---- the dash
 

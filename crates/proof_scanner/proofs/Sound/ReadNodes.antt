@@ -1,5 +1,5 @@
 -- A part of a node was read where a piece begins, be it an opening bracket or no collection: what holds between two fetches holds after it.
-use Rattle.proof_scanner.proofs.Common.{Account, AreEntries, Arrives, Bool, Entry, FlowLevel, Indent, IsCarriedOn, IsLine, IsNear, IsOpenOutside, IsPairOf, IsPiece, Key, KnowsKey, Line, List, MayChoose, None, NotBefore, Option, Outside, Position, Previous, ScannerState, Site, SoFar, Some, Step, Tok, Token, [], act_of, ap, arith, begins_free_line, begun_by, chosen, ends_at, entries_by, entry_by, false, first_choice, first_entry, further_lines_stand, gives_node, has_break, inl, is_deep_enough, is_empty, is_in_column, is_renewed, least_for, length, line_by, line_past, may_precede, may_stand, no_pair, not, outside_key, pop, position_after, previous_by, put, refl, seen, shown_position, site_at, site_here, site_in, site_past, spelled, subst, sym, taken, tokens_of_step, tokens_up_to, true, with_keys, ℕ, ◌&&◌, ◌++◌, ◌∙◌, ◌∷◌, ◌≡◌, ◌≤◌, must_be_key, kind_of}
+use Rattle.proof_scanner.proofs.Common.{[], Account, AreEntries, Arrives, Bool, Entry, FlowLevel, Indent, IsCarriedOn, IsLine, IsNear, IsOpenOutside, IsPairOf, IsPiece, Key, KnowsKey, Line, List, MayChoose, None, NotBefore, Option, Outside, Position, Previous, ScannerState, Site, SoFar, Some, Step, Tok, Token, act_of, ap, arith, begins_free_line, begun_by, chosen, entries_by, entry_by, false, first_choice, first_entry, further_lines_stand, gives_node, has_break, inl, is_deep_enough, is_empty, is_in_column, is_renewed, least_for, length, line_by, line_past, may_precede, may_stand, no_pair, not, outside_key, pop, position_after, previous_by, put, refl, seen, shown_position, site_at, site_here, site_in, site_past, spelled, subst, sym, taken, tokens_up_to, true, with_keys, ℕ, ◌&&◌, ◌++◌, ◌∙◌, ◌∷◌, ◌≡◌, ◌≤◌, must_be_key, kind_of}
 use Rattle.proof_scanner.proofs.Sound.Common.{after_piece, among, by_sides, ArrivesBy, begun_numbered, bit_of, choice_before, choices_around, completes_at, entry_past_node, Goes, IsDeep, levels_by, line_after_node, line_taken, node_in_entry, node_outer_tokens, node_tokens, not_before_after, not_before_then, Outer, outer_completes, past_step, saved, saved_keys, some_rest, tokens_before, with_begun, with_entries, with_no_key}
 use Rattle.proof_scanner.proofs.Known.Steps.{knows_saved, is_of_node}
 use Rattle.proof_scanner.proofs.Sound.Outsides.{new_key, keys_saved, numbered_inside, must_be_here, numbered_past, unbroken_node, one_node, taken_node, may_node, line_node, same_node, open_node}
@@ -143,31 +143,16 @@ module _ (text : List ℕ) (t : ScannerState) (level : Option FlowLevel) (k : Op
     idle = λ s. (grind arith);
   }
 
-  tokens_past : (strict c : Bool) → MayChoose strict c key_then d.end d.rest → (ws : List Step) (last : List ℕ) → spelled ws last ≡ next_of d →
-      (let w : Step = record { separation = a.separation; piece = d.piece; shown = d.tok; key = bit_of t.held.key_allowed c } in
-      tokens_up_to (Outer a.site (line_of c a.line)) (k ∷ []) a.tokens (w ∷ ws) last ++ tokens_of_step (Outer a.site (line_of c a.line)) w ws last ≡
-      with_keys 0 (site_then t [] a.site d).position ws last x.blocks (line_by c key_then taken) (begun_by d.tok) keys_then (t.held.tokens ++ (own ∷ [])))
-  tokens_past strict c may ws last h =
-      let here : List ℕ → Position = λ y. position_after a.site.position a.separation (d.piece ++ y) in
-      let q : t.held.position ≡ here (spelled ws last) = place ∙ ap here (sym h) in
-      let before_at : Position → List Token = λ p. a.tokens ++ ends_at p a.site.blocks (site_here false p a.site).blocks in
-      let whole : Position → List ℕ → List Token = λ p y.
-      with_keys 0 (position_after p d.piece y) ws last (site_here false p a.site).blocks (line_by c key_then taken) (with_begun level []) keys_then (before_at p ++ (put (shown_position (site_here false p a.site) d.piece d.tok y) d.tok ∷ [])) in
-      node_outer_tokens level a.site a.separation d.piece d.tok strict t.held.key_allowed c k (new_key t) a.line a.line_here d.end d.rest a.tokens ws last r.act r.begun (line_node text t k a within deep some d.end d.rest later)
-      may a.no_key (among (length a.tokens) (k ∷ []) a.are_numbered) q
-      (ap length (a.tokens_are ∙ ap before_at q)) (rw (sym q) (same_node text t k a within deep some d.end d.rest later)) ∙
-      (ap (λ y. whole (here y) y) h ∙ (ap (λ p. whole p (next_of d)) (sym place) ∙
-      (ap (λ ts. with_keys 0 (site_then t [] a.site d).position ws last x.blocks (line_by c key_then taken) (with_begun level []) keys_then ts)
-      (ap (λ ts. ts ++ (put (shown_position x d.piece d.tok (next_of d)) d.tok ∷ [])) (sym a.tokens_are) ∙ ap (λ p. t.held.tokens ++ (put p d.tok ∷ [])) (r.shown x)) ∙
-      ap (λ es. with_keys 0 (site_then t [] a.site d).position ws last x.blocks (line_by c key_then taken) es keys_then (t.held.tokens ++ (own ∷ []))) (sym r.begun))))
-
   rows : (strict c : Bool) (cs : List Bool) → MayChoose strict c key_then d.end d.rest → SoFar strict text (next_of d) (chosen c cs keys_then base_then) (tokens_up_to (chosen c cs keys_then base_then) keys_then (t.held.tokens ++ (own ∷ [])))
   rows strict c cs may =
       subst (λ b. SoFar strict text (next_of d) b (tokens_up_to b keys_then (t.held.tokens ++ (own ∷ []))))
       (ap (λ es. record { site = site_then t [] a.site d; line = line_by c key_then taken; entries = es }) (r.begun ∙ (grind arith)) ∙
       ap (λ y. record { site = site_then t [] a.site d; line = line_by c y taken; entries = entries_by cs keys_then (with_begun level []) }) (sym (grind arith)))
       (outer_completes text a.site a.separation d.piece (next_of d) d.tok x same_site strict (bit_of t.held.key_allowed c) (line_of c a.line) (line_of c a.line_here) (after_by c) (tokens_up_to (Outer a.site (line_of c a.line)) (k ∷ []) a.tokens)
-      (λ ws last. with_keys 0 (site_then t [] a.site d).position ws last x.blocks (line_by c key_then taken) (begun_by d.tok) keys_then (t.held.tokens ++ (own ∷ []))) (goes strict c may) (tokens_past strict c may)
+      (λ ws last. with_keys 0 (site_then t [] a.site d).position ws last x.blocks (line_by c key_then taken) (begun_by d.tok) keys_then (t.held.tokens ++ (own ∷ []))) (goes strict c may)
+      (λ ws last h. node_outer_tokens level a.site a.separation d.piece (next_of d) d.tok strict t.held.key_allowed c k (new_key t) a.line a.line_here t.held.position d.end d.rest
+      a.tokens t.held.tokens ws last r.act r.begun (line_node text t k a within deep some d.end d.rest later) may a.no_key (among (length a.tokens) (k ∷ []) a.are_numbered) h place
+      a.tokens_are (r.shown x) refl refl (same_node text t k a within deep some d.end d.rest later))
       (completes_at text t [] (k ∷ []) [] a (d.piece ++ next_of d) (position_after a.site.position a.separation (d.piece ++ next_of d)) r.reads.cut place strict (choice_before t.held.key_allowed c) []
       (rw (sym place) (rw (sym r.reads.cut) (may_node text t k a within deep some d.end d.rest later strict c may)))))
 

@@ -1,7 +1,7 @@
 -- Where a text ends: no open key is one, and the stream's end and those of the block collections stand where the row has them.
 use Rattle.yaml_tokens.specs.declared.problem.Problem.TheVariants as problem
 use Rattle.std.proofs.lemmas.List.{append-nil}
-use Rattle.proof_scanner.proofs.Common.{Account, AreAround, AreCollections, AreEntries, AreLevels, Arrives, At, Bool, Completes, Entry, FlowLevel, Had, HasHad, Held, Holds, Indent, IsRead, IsTopLevel, Key, Levels, Line, List, MayChoose, Option, Position, ScannerState, Site, Step, Token, [], ap, append_assoc, arith, block_end, blocks, checked, chosen, cleared, columns, ended_at, ends_at, ends_here, ends_with_stream, entries_by, false, fetch_stream_end, has_required, have_no_key, if◌then◌else◌, in_flow, is_empty, is_keyed, is_renewed, is_waiting, length, may_end, nat_lt, next_line, not, not-true, not_ended, outside_key, pop, position_after, put, refl, replicate, site_here, stream_position, subst, suc, sym, tokens_at_end, tokens_up_to, tried, true, unroll_indent, unrolled, went, with_keys, ℕ, ◌++◌, ◌-◌, ◌<◌, ◌∙◌, ◌∷◌, ◌≡◌, ◌≤◌}
+use Rattle.proof_scanner.proofs.Common.{if◌then◌else◌, [], Account, AreAround, AreCollections, AreEntries, AreLevels, Arrives, At, Bool, Completes, Entry, FlowLevel, Had, HasHad, Held, Holds, Indent, IsRead, Key, Levels, Line, List, MayChoose, Option, Position, ScannerState, Site, Step, Token, ap, append_assoc, arith, block_end, blocks, checked, chosen, cleared, columns, ended_at, ends_at, ends_here, ends_with_stream, entries_by, false, fetch_stream_end, has_required, have_no_key, in_flow, is_empty, is_keyed, is_renewed, is_waiting, length, may_end, nat_lt, next_line, not, not-true, not_ended, outside_key, pop, position_after, put, refl, replicate, site_here, stream_position, subst, suc, sym, tokens_at_end, tokens_up_to, tried, true, unroll_indent, unrolled, went, with_keys, ℕ, ◌++◌, ◌<◌, ◌∙◌, ◌∷◌, ◌≡◌, ◌≤◌, IsNotRight, innermost}
 use Rattle.proof_scanner.proofs.Cut.Documents.{unroll_keeps}
 use Rattle.proof_scanner.proofs.Sound.Completed.{completed_at_end}
 use Rattle.proof_scanner.proofs.Cut.Unrolls.{unrolled_in_flow}
@@ -79,28 +79,13 @@ below : (m i : ℕ) (ds : List Indent) → AreCollections i ds → i ≤ suc m �
 below m i [] a h = tt
 below m i (d ∷ ds) a h = rw a.0 (omega (arith, h), below m d.indent ds a.2 (omega (arith, h, a.1)))
 
--- whether the innermost collection is not deeper than a column
-abbrev FirstIsNot : (column : ℕ) → List ℕ → Type 0
-FirstIsNot col [] = Unit {0}
-FirstIsNot col (n ∷ ns) = n ≤ col
-
-first_going_on : (col : ℕ) (bs : List ℕ) → FirstIsNot col (not_ended col bs)
+first_going_on : (col : ℕ) (bs : List ℕ) → IsNotRight (innermost (not_ended col bs)) col
 first_going_on col [] = tt
 first_going_on col (n ∷ ns) = grind (arith, first_going_on col ns)
 
-collections_below : (col i : ℕ) (ds : List Indent) → AreCollections i ds → FirstIsNot col (columns i ds) → NoneDeeper col (columns i ds)
-collections_below col i [] a f = tt
-collections_below col i (d ∷ ds) a f =
-    let first : i - 1 ≤ col = subst (λ b. FirstIsNot col (if b then (i - 1) ∷ columns d.indent ds else columns d.indent ds)) a.0 f in
-    below col i (d ∷ ds) a (omega (arith, first))
-
-levels_below : (col i : ℕ) (ds : List Indent) → AreLevels i ds → FirstIsNot col (columns i ds) → NoneDeeper col (columns i ds)
+levels_below : (col i : ℕ) (ds : List Indent) → AreLevels i ds → IsNotRight (innermost (columns i ds)) col → NoneDeeper col (columns i ds)
 levels_below col i [] a f = tt
-levels_below col i (d ∷ ds) a f = by d.needs_block_end a.0 f
-  where
-    by : (b : Bool) → IsTopLevel b i d.indent ds → FirstIsNot col (if b then (i - 1) ∷ columns d.indent ds else columns d.indent ds) → NoneDeeper col (if b then (i - 1) ∷ columns d.indent ds else columns d.indent ds)
-    by true h g = (g, below col d.indent ds a.1 (omega (arith, h, g)))
-    by false h g = collections_below col d.indent ds a.1 g
+levels_below col i (d ∷ ds) a f = grind (arith, below col d.indent ds a.1)
 
 pub shorter : (col : ℕ) (bs : List ℕ) → length (not_ended col bs) ≤ length bs
 shorter col [] = omega arith
@@ -118,11 +103,9 @@ ends_split end (n ∷ ns) h = by (nat_lt end.col n) refl (λ k. ends_split end n
     by a e later k = grind (arith, shorter, none_ends)
 
 -- the same by the levels of indentation that the scanner holds
-pub ends_by_levels : (end : Position) (bs : List ℕ) (i : ℕ) (ds : List Indent) → AreLevels i ds → not_ended end.col bs ≡ columns i ds → ends_with_stream end bs ≡ ends_at end bs (not_ended end.col bs) ++ ends_of (length (columns i ds)) (stream_position end)
-ends_by_levels end bs i ds a e =
-    let first : FirstIsNot end.col (columns i ds) = rw (sym e) (first_going_on end.col bs) in
-    ends_split end bs (rw e (levels_below end.col i ds a first)) ∙
-    ap (λ x. ends_at end bs (not_ended end.col bs) ++ ends_of (length x) (stream_position end)) e
+pub ends_by_levels : (end : Position) (bs : List ℕ) (i : ℕ) (ds : List Indent) → AreLevels i ds → not_ended end.col bs ≡ columns i ds →
+    ends_with_stream end bs ≡ ends_at end bs (not_ended end.col bs) ++ ends_of (length (columns i ds)) (stream_position end)
+ends_by_levels end bs i ds a e = rw (sym e) (ends_split end bs (rw e (levels_below end.col i ds a (rw (sym e) (first_going_on end.col bs)))))
 
 -- ---- the stream's end
 

@@ -1,12 +1,13 @@
 -- A colon that ends no key: what holds where it begins holds between two fetches after it.
-use Rattle.proof_scanner.proofs.Common.{Account, [], allow_key, another, ap, append-nil, append_assoc, AreLevels, arith, Arrives, At, before_by, before_past, begin_keyless_mapping, begin_keyless_value, begin_pair, begins_free_line, begun_outside, Bool, chained, check_value_space, checked, chosen, colon_may_precede, columns, ends_at, entries_by, Entry, entry_by, false, Fault, fetch_value, first_account, FlowLevel, gives_colon, has_open_level, Held, Holds, if◌then◌else◌, in_flow, Indent, inl, innermost, inr, insert, insert_key, inside, is_adjacent, is_break, is_deeper, is_empty, is_in_column, is_near, is_value, is_value_indicator, IsEntryOf, IsLive, IsNotRight, Key, length, length-append, Line, line_past, List, MayChoose, None, not, not-false, not_ended, Ok, on_held, opened, opens_pair, Option, Outside, outside_key, pair_past, pair_position, paired, past, placed, pop, Position, position_after, push, put, put_key, refl, Result, roll_indent, roll_one_col_indent, ScannerState, settled, Site, site_at, site_here, Some, spelled, start_if, Step, subst, suc, sym, taken, takes_pair, Tok, Token, token, tokens_at, tokens_of_step, tokens_up_to, top_key, tried, true, try_held, waits, went, with_held, with_keys, with_top, ℕ, ◌++◌, ◌==◌, ◌>>=◌, ◌||◌, ◌∙◌, ◌∷◌, ◌≡◌, ◌≤◌, KeysBefore, keys_before, line_grows}
+use Rattle.proof_scanner.proofs.Common.{[], if◌then◌else◌, Account, allow_key, another, ap, append-nil, append_assoc, AreLevels, arith, Arrives, At, before_by, before_past, begin_keyless_mapping, begin_keyless_value, begin_pair, begins_free_line, begun_outside, Bool, chained, check_value_space, checked, chosen, colon_may_precede, columns, ends_at, entries_by, Entry, entry_by, false, Fault, fetch_value, first_account, FlowLevel, gives_colon, has_open_level, Held, Holds, in_flow, Indent, inl, innermost, inr, insert, insert_key, inside, is_adjacent, is_break, is_deeper, is_empty, is_in_column, is_near, is_value, is_value_indicator, IsEntryOf, IsLive, IsNotRight, Key, length, length-append, Line, line_past, List, MayChoose, None, not, not-false, not_ended, Ok, on_held, opened, opens_pair, Option, Outside, outside_key, pair_past, pair_position, paired, past, placed, pop, Position, position_after, push, put, put_key, refl, Result, roll_indent, roll_one_col_indent, ScannerState, settled, Site, site_at, site_here, Some, spelled, start_if, Step, subst, suc, sym, taken, takes_pair, Tok, Token, token, tokens_at, tokens_of_step, tokens_up_to, top_key, tried, true, try_held, waits, went, with_held, with_keys, with_top, ℕ, ◌++◌, ◌==◌, ◌>>=◌, ◌||◌, ◌∙◌, ◌∷◌, ◌≡◌, ◌≤◌, KeysBefore, keys_before, line_grows, free}
 use Rattle.model_scanner.specs.declared.level.FlowLevel.TheVariants.{Pair as InPair}
 use Rattle.model_scanner.specs.Block.{value_of}
-use Rattle.proof_scanner.proofs.Sound.Steps.{exactly, held_exactly, Onward, all_go_on, among, by_sides, with_sides, ArrivesBy, begun_after, ends_outside, fewer, first_among, first_not_right, goes_inside, goes_of, is_written, IsDeep, key_longer, keyless, keys_along, keys_first, line_free, line_taken, low_enough, no_waiting, not_before_after, not_before_then, numbered_around, numbered_more, opens_none, opens_one, OpensOne, Outer, outer_completes, outer_then, past_one, past_step, read_outside, Reads, reads_before_none, rolls_to, RollsTo, some_levels, started_tokens, steps_in_flow, tokens_before, value_is, weaker, with_entries, with_start, line_rest_in_line, same_in_line}
+use Rattle.proof_scanner.proofs.Sound.Steps.{exactly, held_exactly, Onward, all_go_on, among, by_sides, with_sides, ArrivesBy, begun_after, ends_outside, first_not_right, goes_inside, goes_of, is_written, IsDeep, key_longer, keyless, keys_along, line_free, line_taken, low_enough, no_waiting, not_before_after, not_before_then, numbered_around, numbered_more, opens_none, opens_one, OpensOne, Outer, outer_completes, outer_then, past_one, past_step, read_outside, Reads, reads_before_none, rolls_to, RollsTo, some_levels, started_tokens, steps_in_flow, tokens_before, value_is, weaker, with_entries, with_start, line_rest_in_line, same_in_line}
 use Rattle.proof_scanner.proofs.Sound.ColonSpaces.{colon_gap, colon_spaced, gap_is, past_colon, past_gap}
 use Rattle.proof_scanner.proofs.Sound.Questions.{pair_level}
 use Rattle.model_scanner.specs.State.{after}
 use Rattle.yaml_tokens.specs.declared.problem.Problem.TheVariants as problem
+use Rattle.proof_scanner.proofs.Sound.Common.{keys_own}
 
 -- ---- where a colon is an indicator
 
@@ -40,40 +41,41 @@ colon_reads t more ds i ts allowed fs ks y cut here before columns_are awaits le
 
 -- ---- outside flow
 
-pub keyless_stands : (text more : List ℕ) (t : ScannerState) (a : ArrivesBy text t [] (None ∷ []) []) → t.rest ≡ 58 ∷ more → t.held.key_allowed ≡ true → colon_may_precede more ≡ true →
-    is_value_indicator false (is_adjacent (before_past (before_by a.site.before) a.separation)) more ≡ true → (i : ℕ) (ds : List Indent) → columns i ds ≡ opened t.held.position.col (columns t.held.indent t.held.indents) → AreLevels i ds → has_open_level ds ≡ true →
-    Onward text t.rest (colon_end t more ds i (with_start Tok.block_mapping_start t) true [] (None ∷ []))
-keyless_stands text more t a e allowed apart ind i ds columns_are levels awaits =
-    read_outside text t (colon_end t more ds i (with_start Tok.block_mapping_start t) true [] (None ∷ [])) a (58 ∷ []) more (colon_gap more) Tok.value (begun_after t.held.position a.site.blocks) _ refl
-    (colon_reads t more ds i (with_start Tok.block_mapping_start t) true [] (None ∷ []) _ e refl refl (ap (opened t.held.position.col) a.blocks_are ∙ sym columns_are) (sym awaits) levels a.was_adjacent)
-    (record { line_is = (inl refl, refl, tt); no_key = refl; flow_is = refl; keys_are = refl }) (record {
-      is_piece = (refl, ind);
-      stands = rw (a.is_indented (ap is_empty e), apart) refl;
-      after_is = ap (λ l. line_past (is_in_column t.held.position.col bs) t.held.position bs gives_colon false l) (line_free t.held.key_allowed t.rest a.line_here allowed a.line_is);
-      begun = refl;
-      begins_none = refl;
-      tokens_are = ap (λ cs. (if is_deeper t.held.position.col cs then placed None (token t.held.position Tok.block_mapping_start) t.held.tokens else t.held.tokens) ++ put t.held.position Tok.value ∷ []) (sym a.blocks_are) ∙
-          (started_tokens (is_deeper t.held.position.col bs) t.held.tokens a.tokens (ends_at t.held.position a.site.blocks bs) t.held.position Tok.block_mapping_start (put t.held.position Tok.value) a.tokens_are ∙
-          ap (λ l. a.tokens ++ ((ends_at t.held.position a.site.blocks bs ++ begun_outside (is_deeper t.held.position.col bs) t.held.position t.held.position gives_colon false (Some l)) ++ (put t.held.position Tok.value ∷ []))) (sym (line_free t.held.key_allowed t.rest a.line_here allowed a.line_is)));
-    })
-  where
-    bs : List ℕ
-    bs = not_ended t.held.position.col a.site.blocks
-
 pub keyless_outside : (text more : List ℕ) (t : ScannerState) (a : ArrivesBy text t [] (None ∷ []) []) → t.rest ≡ 58 ∷ more → colon_may_precede more ≡ true → is_value_indicator false (is_adjacent (before_past (before_by a.site.before) a.separation)) more ≡ true → IsDeep t.held →
     Holds (Onward text t.rest) (value_by more t [] (None ∷ []))
 unfolding begin_keyless_value begin_keyless_mapping
 keyless_outside text more t a e apart ind deep =
-    exactly _ (held_exactly (record { rest = past_gap more; held = at_value more t [] (None ∷ []) })
-    (exactly _ (checked (not t.held.key_allowed) (At problem.ValueNotAllowed t.held.position) (λ f. went (m.is_held, not-false t.held.key_allowed f))) (λ allowed. went (ap (λ v. allow_key (not (in_flow v)) v) l.is_held, allowed)))) (λ allowed. went
-    (keyless_stands text more t a e allowed apart ind l.indent l.indents (l.columns_are ∙ m.columns_are) l.are_levels l.awaits))
+    exactly _ (held_exactly (record { rest = past_gap more; held = h })
+    (exactly _ (checked (not t.held.key_allowed) (At problem.ValueNotAllowed p) (λ f. went (m.is_held, not-false t.held.key_allowed f))) (λ allowed. went (ap (λ v. allow_key (not (in_flow v)) v) l.is_held, allowed)))) (λ allowed. went
+    (read_outside text t _ a (58 ∷ []) more (colon_gap more) Tok.value (begun_after p a.site.blocks) _ refl
+    (colon_reads t more l.indents l.indent (with_start Tok.block_mapping_start t) true [] (None ∷ []) _ e refl refl
+    (ap (opened p.col) a.blocks_are ∙ sym (l.columns_are ∙ m.columns_are)) (sym l.awaits) l.are_levels a.was_adjacent)
+    (record { line_is = (inl refl, refl, tt); no_key = refl; flow_is = refl; keys_are = refl }) (record {
+      is_piece = (refl, ind);
+      stands = rw (a.is_indented (ap is_empty e), apart) refl;
+      after_is = ap (λ y. line_past (is_in_column p.col bs) p bs gives_colon false y) (is_free allowed);
+      begun = refl;
+      begins_none = refl;
+      tokens_are = ap (λ cs. (if is_deeper p.col cs then placed None (token p Tok.block_mapping_start) t.held.tokens else t.held.tokens) ++ put p Tok.value ∷ []) (sym a.blocks_are) ∙
+          (started_tokens (is_deeper p.col bs) t.held.tokens a.tokens (ends_at p a.site.blocks bs) p Tok.block_mapping_start (put p Tok.value) a.tokens_are ∙
+          ap (λ y. a.tokens ++ ((ends_at p a.site.blocks bs ++ begun_outside (is_deeper p.col bs) p p gives_colon false (Some y)) ++ (put p Tok.value ∷ []))) (sym (is_free allowed)));
+    })))
   where
+    p : Position
+    p = t.held.position
+
+    bs : List ℕ
+    bs = not_ended p.col a.site.blocks
+
+    is_free : t.held.key_allowed ≡ true → a.line_here ≡ free
+    is_free allowed = line_free t.held.key_allowed t.rest a.line_here allowed a.line_is
+
     h : Held
     h = at_value more t [] (None ∷ [])
 
     -- the level of a mapping, if one begins
-    m : RollsTo t.held.position.col None (token t.held.position Tok.block_mapping_start) h (roll_indent t.held.position.col None Tok.block_mapping_start t.held.position h)
-    m = rolls_to t.held.position.col None Tok.block_mapping_start t.held.position h refl a.are_levels (first_not_right t.held.position.col t.held.indent t.held.indents a.are_levels deep)
+    m : RollsTo p.col None (token p Tok.block_mapping_start) h (roll_indent p.col None Tok.block_mapping_start p h)
+    m = rolls_to p.col None Tok.block_mapping_start p h refl a.are_levels (first_not_right p.col t.held.indent t.held.indents a.are_levels deep)
 
     rolled : Held
     rolled = record h { indents = m.indents; indent = m.indent; tokens = with_start Tok.block_mapping_start t }
@@ -92,18 +94,15 @@ valued_entry e = record { kind = e.kind; pair = pair_past (takes_pair e.kind e.p
 pub single_is : (f : FlowLevel) (fs : List FlowLevel) (k : Option Key) (e : Entry) → IsEntryOf f k e → takes_pair e.kind e.pair ≡ opens_pair (f ∷ fs)
 single_is f fs k e h = grind arith
 
--- the tokens with the start of a single pair, if one begins
-abbrev pub with_pair : (single : Bool) → (more : List ℕ) → ScannerState → List Token
-with_pair single more t = (if single then t.held.tokens ++ token (pair_position (past t.held.position) more) Tok.flow_mapping_start ∷ [] else t.held.tokens)
-
--- what stands after it, with its account
-pub keyless_within : (text more : List ℕ) (t : ScannerState) (f : FlowLevel) (fs : List FlowLevel) (ks : List (Option Key)) (e : Entry) (es : List Entry) (a : ArrivesBy text t (f ∷ fs) (None ∷ ks) (e ∷ es)) → t.rest ≡ 58 ∷ more → colon_may_precede more ≡ true →
-    is_value_indicator true (is_adjacent (before_past (before_by a.site.before) a.separation)) more ≡ true → IsDeep t.held →
-    Onward text t.rest (colon_end t more t.held.indents t.held.indent (with_pair (opens_pair (f ∷ fs)) more t) false (pair_level InPair f ∷ fs) (None ∷ ks))
-unfolding is_break
-keyless_within text more t f fs ks e es a cut apart ind deep =
-    goes_inside text t (colon_end t more t.held.indents t.held.indent (with_pair (opens_pair (f ∷ fs)) more t) false (pair_level InPair f ∷ fs) (None ∷ ks)) f (pair_level InPair f) fs None ks e (valued_entry e) es a (58 ∷ []) more Tok.value (colon_gap more)
-    (colon_reads t more t.held.indents t.held.indent (with_pair (opens_pair (f ∷ fs)) more t) false (pair_level InPair f ∷ fs) (None ∷ ks) _ cut refl refl a.blocks_are a.awaits_is a.are_levels a.was_adjacent)
+pub keyless_inside : (text more : List ℕ) (t : ScannerState) (f : FlowLevel) (fs : List FlowLevel) (ks : List (Option Key)) (e : Entry) (es : List Entry) (a : ArrivesBy text t (f ∷ fs) (None ∷ ks) (e ∷ es)) → t.rest ≡ 58 ∷ more → colon_may_precede more ≡ true →
+    is_value_indicator true (is_adjacent (before_past (before_by a.site.before) a.separation)) more ≡ true → IsDeep t.held → Holds (Onward text t.rest) (value_by more t (f ∷ fs) (None ∷ ks))
+unfolding begin_keyless_value begin_keyless_mapping is_break
+keyless_inside text more t f fs ks e es a cut apart ind deep =
+    chained {P = λ w. w ≡ record { rest = past_gap more; held = (record t.held { flow = pair_level InPair f ∷ fs; keys = None ∷ ks; position = pair_position (past t.held.position) more; leading = false; key_allowed = false; tokens = ts }) }}
+    (tried (record { rest = past_gap more; held = at_value more t (f ∷ fs) (None ∷ ks) }) _ (grind (arith, went, opens_none)) (λ s d. ap (λ y. record { rest = past_gap more; held = y }) d)) (λ w d.
+    went (subst (λ z. Onward text t.rest (on_held (push t.held.position Tok.value) z)) (sym d)
+    (goes_inside text t _ f (pair_level InPair f) fs None ks e (valued_entry e) es a (58 ∷ []) more Tok.value (colon_gap more)
+    (colon_reads t more t.held.indents t.held.indent ts false (pair_level InPair f ∷ fs) (None ∷ ks) _ cut refl refl a.blocks_are a.awaits_is a.are_levels a.was_adjacent)
     (record {
       flow_is = refl;
       keys_are = refl;
@@ -117,15 +116,11 @@ keyless_within text more t f fs ks e es a cut apart ind deep =
       colons = λ n p ws last. refl;
       tokens_are = (grind (arith, append_assoc)) ∙ (ap (λ q. a.tokens ++ (start_if (opens_pair (f ∷ fs)) (pair_position q more) Tok.flow_mapping_start ++ (put t.held.position Tok.value ∷ []))) (sym (past_one t.held.position 58 more refl)) ∙
           (ap (λ b. a.tokens ++ (start_if b (pair_position (position_after t.held.position (58 ∷ []) more) more) Tok.flow_mapping_start ++ (put t.held.position Tok.value ∷ []))) (sym (single_is f fs None e a.are_entries.0)) ∙ ap (λ x. a.tokens ++ (x ++ (put t.held.position Tok.value ∷ []))) (sym (grind arith))));
-    })
-
-pub keyless_inside : (text more : List ℕ) (t : ScannerState) (f : FlowLevel) (fs : List FlowLevel) (ks : List (Option Key)) (e : Entry) (es : List Entry) (a : ArrivesBy text t (f ∷ fs) (None ∷ ks) (e ∷ es)) → t.rest ≡ 58 ∷ more → colon_may_precede more ≡ true →
-    is_value_indicator true (is_adjacent (before_past (before_by a.site.before) a.separation)) more ≡ true → IsDeep t.held → Holds (Onward text t.rest) (value_by more t (f ∷ fs) (None ∷ ks))
-unfolding begin_keyless_value begin_keyless_mapping
-keyless_inside text more t f fs ks e es a cut apart ind deep =
-    chained {P = λ w. w ≡ record { rest = past_gap more; held = (record t.held { flow = pair_level InPair f ∷ fs; keys = None ∷ ks; position = pair_position (past t.held.position) more; leading = false; key_allowed = false; tokens = with_pair (opens_pair (f ∷ fs)) more t }) }}
-    (tried (record { rest = past_gap more; held = at_value more t (f ∷ fs) (None ∷ ks) }) _ (grind (arith, went, opens_none)) (λ s d. ap (λ y. record { rest = past_gap more; held = y }) d)) (λ w d.
-    went (subst (λ z. Onward text t.rest (on_held (push t.held.position Tok.value) z)) (sym d) (keyless_within text more t f fs ks e es a cut apart ind deep)))
+    }))))
+  where
+    -- the tokens with the start of a single pair, if one begins
+    ts : List Token
+    ts = (if opens_pair (f ∷ fs) then t.held.tokens ++ token (pair_position (past t.held.position) more) Tok.flow_mapping_start ∷ [] else t.held.tokens)
 
 -- ---- a colon that ends the key that is open: what holds where it begins holds between two fetches after it
 
@@ -243,11 +238,9 @@ module _ (text more : List ℕ) (t : ScannerState) (f : FlowLevel) (fs : List Fl
       let w : Step = keyless a.separation (58 ∷ []) Tok.value in
       let ys : List Entry = entries_by (pop cs) ks es in
       let first : List ℕ → List Token = λ r. key_in (takes_pair x.kind x.pair) (position_after (position_after a.site.position a.separation (58 ∷ r)) (58 ∷ []) r) r a.tokens in
-      let put_in : List Token = first (spelled ws last) in
       let shown : List Token = put (position_after a.site.position a.separation (58 ∷ spelled ws last)) Tok.value ∷ [] in
-      let many : length a.tokens ≤ length put_in = key_longer (takes_pair x.kind x.pair) (put (pair_position (past_step a.site.position w ws last) (spelled ws last)) Tok.flow_mapping_start) k.number k.position a.tokens in
-      sym (keys_first 1 a.site.position (w ∷ ws) last a.site.blocks l ys ks put_in shown (fewer (length a.tokens) (length put_in) ks many (first_among (length a.tokens) (Some k) ks (among (length a.tokens) (Some k ∷ ks) a.are_numbered)).1)) ∙
-      (keys_along (λ m. suc m) (λ m. suc m) (λ m. refl) (λ m. refl) 0 a.site.position (past_step a.site.position w ws last) w ws last (λ m. refl) a.site.blocks l ys ks (put_in ++ shown) ∙
+      keys_own 0 a.site.position (w ∷ ws) last a.site.blocks l (entry_by true (Some k) x) ys (Some k) ks a.tokens shown (among (length a.tokens) (Some k ∷ ks) a.are_numbered) ∙
+      (keys_along (λ m. suc m) (λ m. suc m) (λ m. refl) (λ m. refl) 0 a.site.position (past_step a.site.position w ws last) w ws last (λ m. refl) a.site.blocks l ys ks (first (spelled ws last) ++ shown) ∙
       ap (λ ts. with_keys 1 (past_step a.site.position w ws last) ws last a.site.blocks l ys ks ts) (ap (λ r. first r ++ (put (position_after a.site.position a.separation (58 ∷ r)) Tok.value ∷ [])) h ∙ inner_alike))
 
   pub inner_stands : (not (opens_pair (f ∷ fs)) || (k.position.line == t.held.position.line)) ≡ true → Onward text t.rest inner_after
