@@ -24,10 +24,7 @@ written_by collection piece next b z h none = by z.lines z.last z.is z.are h
     by (l ∷ ls) a is are h = grind arith
 
 pub written : (collection : Option ℕ) (piece next : List ℕ) (b : BlockRead) → block_read collection piece next ≡ Some b → is_at_end next ≡ false → Written piece next
-written collection piece next b h e =
-    let z : Lined piece = lined piece in
-    let none : (slice_index next 0 == 10) ≡ false = (grind arith) ∙ (piece_has_line collection piece next b e h).1 in
-    written_by collection piece next b z (ap (λ s. read_lines collection s.complete s.last next false) (sym (ap split z.is ∙ split_spell z.lines z.last z.are z.inner)) ∙ (ap (λ x. read_lines collection (split piece).complete (split piece).last next x) (sym e) ∙ h)) none
+written collection piece next b h e = grind (arith, written_by, lined piece, piece_has_line, split_spell)
 
 -- ---- positions
 

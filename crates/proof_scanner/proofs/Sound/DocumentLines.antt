@@ -55,11 +55,7 @@ line_past t h d = record { rest = d.rest; held = record h { position = d.end; le
 line_reads : (t : ScannerState) (d : Read) (h : Held) (y : Site) → IsRead t d → y.position ≡ position_after t.held.position d.piece (next_of d) → y.before ≡ previous_by d.tok → y.blocks ≡ columns h.indent h.indents → y.awaits ≡ has_open_level h.indents → AreLevels h.indent h.indents →
     t.held.adjacent_value_at ≤ t.held.position.index → (h.adjacent_value_at ≡ t.held.adjacent_value_at) × (h.started ≡ t.held.started) × (h.ended ≡ t.held.ended) → Reads t (line_past t h d) y d.piece (next_of d) d.gap
 line_reads t d h y r here before columns_are awaits levels was same =
-    let far = adjacent_kept t (line_past t h d) (before_by y.before) d.piece (next_of d) d.gap r.is_solid r.end_is was same.0 (ap before_by before ∙ r.token.before) in
-    let no_tabs : HasNoTabs y d.gap d.rest = inr (rw before (r.no_tabs y.blocks y.awaits)) in
-    let leads_then : IsLeading d.leading y d.gap d.rest = λ _ more _. r.leads more ∙ ap (λ b. begins_line b d.gap) (sym before) in
-    let read_on : IsReadOn y.before y.position d.gap d.rest = rw before (r.read_on y.position) in
-    assumption (no_tabs, leads_then, read_on, far, r.end_is ∙ ap (λ q. position_after q d.gap d.rest) (sym here))
+    grind (arith, r, r.token, adjacent_kept t (line_past t h d) (before_by y.before) d.piece (next_of d) d.gap r.is_solid)
 
 -- ---- what begins such a line
 

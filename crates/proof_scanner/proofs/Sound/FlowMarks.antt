@@ -161,7 +161,7 @@ module _ (text more : List ℕ) (closes : Bool) (tok : Tok) (c : ℕ) (i : IsClo
   own_tokens = pair_end t.held.position e.pair ++ (put t.held.position tok ∷ [])
 
   tokens_are : a.tokens ++ own_tokens ≡ past_closer.held.tokens
-  tokens_are = ap (λ ts. ts ++ own_tokens) (sym (tokens_before text t f fs k ks e es a)) ∙ sym (grind (arith, append_assoc))
+  tokens_are = grind (arith, append_assoc, tokens_before)
 
   numbered : (b : Bool) → AreNumbered (length past_closer.held.tokens) (keys_by b ks)
   numbered b = grind (arith, numbered_then a.tokens past_closer.held.tokens k ks own_tokens (sym tokens_are) a.are_numbered)

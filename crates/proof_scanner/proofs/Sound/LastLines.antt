@@ -17,13 +17,10 @@ break_append (c ∷ a) b = grind (arith, break_append a b)
 
 complete_is : (r : List ℕ) → is_empty (split r).complete ≡ has_no_break r
 complete_is [] = refl
-complete_is (c ∷ r) = by (is_break c) (is_before_line_feed c r) refl (complete_is r)
+complete_is (c ∷ r) = grind (arith, not-true, feed_breaks, kept, complete_is r)
   where
     kept : (complete : List (List ℕ)) (last : List ℕ) → is_empty (put_first c complete last).complete ≡ is_empty complete
     kept a last = grind arith
-
-    by : (x y : Bool) → is_before_line_feed c r ≡ y → is_empty (split r).complete ≡ has_no_break r → is_empty (split_by x y c (split r)).complete ≡ (not x && has_no_break r)
-    by b a e h = grind (arith, not-true, feed_breaks, kept)
 
 -- one character more at its start
 pub last_first : (c : ℕ) (r : List ℕ) → last_line (c ∷ r) ≡ (if is_break c || has_break r then last_line r else c ∷ last_line r)

@@ -1,5 +1,5 @@
 -- Where a block collection begins, and where the value of an entry is awaited: the levels of indentation, and the columns of the block collections.
-use Rattle.proof_scanner.proofs.Common.{AreCollections, AreLevels, Bool, Held, Indent, IsNotRight, IsTopLevel, List, Option, Position, Tok, Token, [], ap, arith, columns, deepen, drop_open, drop_open_level, false, has_open_level, if◌then◌else◌, in_block, in_flow, innermost, is_deeper, is_empty, level, nat_le, nat_lt, opened, placed, refl, roll_indent, roll_one_col_indent, subst, sym, token, top_needs_block_end, true, ℕ, ◌+◌, ◌-◌, ◌<◌, ◌∙◌, ◌∷◌, ◌≡◌, ◌≤◌, eqb-true}
+use Rattle.proof_scanner.proofs.Common.{AreCollections, AreLevels, Bool, Held, Indent, IsNotRight, IsTopLevel, List, Option, Position, Tok, Token, [], ap, arith, columns, deepen, drop_open, drop_open_level, false, has_open_level, if◌then◌else◌, in_block, in_flow, innermost, is_deeper, is_empty, level, nat_le, nat_lt, opened, placed, refl, roll_indent, roll_one_col_indent, subst, sym, token, top_needs_block_end, true, ℕ, ◌+◌, ◌-◌, ◌<◌, ◌∙◌, ◌∷◌, ◌≡◌, ◌≤◌, eqb-true, nat_tests, nat_tests}
 
 -- a column is deeper than the innermost collection just where it is deeper than its level
 pub deeper_is : (col i : ℕ) (ds : List Indent) → AreCollections i ds → is_deeper col (columns i ds) ≡ nat_lt i (col + 1)

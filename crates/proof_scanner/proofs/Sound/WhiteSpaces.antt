@@ -65,17 +65,7 @@ feed_after c a s e = grind (arith, feed, and_parts, or_true)
 white_read : (in_comment found : Bool) (a : List ℕ) (s : Held) → Holds (IsPastWhite in_comment s.leading a) (white in_comment found a s)
 unfolding white is_break
 white_read b found [] s = grind (arith, went, refused)
-white_read i found (c ∷ a) s = of i (class.is_break c) (c == 32) (c == 35) refl refl refl (λ i f u. white_read i f a u)
-  where
-    more : (i : Bool) (u : ScannerState) → is_break c ≡ false → IsPastWhite i s.leading a u → (u.rest ≡ past_white i a) × (u.held.leading ≡ (s.leading || has_break (c ∷ white_of i a)))
-    more i u e h = (h.0, h.1 ∙ ap (λ b. s.leading || not (not b && has_no_break (white_of i a))) (sym e))
-
-    stay : (u : ScannerState) → goes_over c ≡ false → (u.rest ≡ c ∷ a) × (u.held.leading ≡ (s.leading || false)) → IsPastWhite false s.leading (c ∷ a) u
-    stay u e h = rw e h
-
-    of : (i x y z : Bool) → class.is_break c ≡ x → (c == 32) ≡ y → (c == 35) ≡ z → ((j : Bool) → ((f : Bool) (u : Held) → Holds (IsPastWhite j u.leading a) (white j f a u))) →
-        Holds (IsPastWhite i s.leading (c ∷ a)) (if x then white false true a (at_break c a s) else (if i then white true found a (moved s) else (if y then white false true a (moved s) else (if z then white true found a (moved s) else white_end found (c ∷ a) s))))
-    of a b y z e f g h = grind (arith, same_break, weakened, feed_after, or_true, more, no_break_hash, eqb-true, stay, went, refused)
+white_read i found (c ∷ a) s = grind (arith, same_break, weakened, feed_after, or_true, no_break_hash, eqb-true, went, refused, white_read true found a, white_read false true a, white_read true true a)
 
 -- The state after spaces, breaks and comments.
 abbrev pub past_white_space : ScannerState → ScannerState
