@@ -1,6 +1,6 @@
 -- The block collections that end where a piece begins: the levels that go on are those of the row, and each end has its token.
-use Rattle.proof_scanner.proofs.Common.{end_level, [], if◌then◌else◌, ap, append-nil, append_assoc, AreLevels, arith, Arrives, before_by, before_past, begins_free_line, begins_separation, begins_token, block_end, blocks, Bool, chained, columns, ends_at, ends_here, false, Fault, free, has_open_level, Held, Holds, Indent, is_adjacent, is_at_comment_or_end, is_deeper, is_empty, is_indented_by_spaces, IsLine, IsLineHere, IsNear, Key, length, Levels, Line, line_past_separation, List, nat_lt, not, not-false, not_ended, on_held, Option, outside_key, Position, put, refl, replicate, Result, ScannerState, site_here, skip_to_next_token, Some, stale, Stands, sym, taken, Token, tried, true, try_held, unroll_indent, unrolled, with_levels, ℕ, ◌&&◌, ◌++◌, ◌+◌, ◌-◌, ◌==◌, ◌>>=◌, ◌∙◌, ◌∷◌, ◌≡◌, ◌≤◌, both_hold, length-append, ArrivesAmong}
-use Rattle.proof_scanner.proofs.Sound.Steps.{Nearer, exact, shorter, stale_stands, unrolled_in_flow, unrolled_outside}
+use Rattle.proof_scanner.proofs.Common.{end_level, [], if◌then◌else◌, ap, append-nil, append_assoc, AreLevels, arith, Arrives, before_by, before_past, begins_free_line, begins_separation, begins_token, block_end, blocks, Bool, chained, columns, ends_at, ends_here, false, Fault, free, has_open_level, Holds, Indent, is_adjacent, is_at_comment_or_end, is_deeper, is_empty, is_indented_by_spaces, IsLine, IsLineHere, IsNear, Key, length, Levels, Line, line_past_separation, List, nat_lt, not, not-false, not_ended, on_held, Option, outside_key, Position, put, refl, replicate, Result, ScannerState, site_here, skip_to_next_token, Some, stale, Stands, sym, taken, Token, tried, true, try_held, unroll_indent, unrolled, with_levels, ℕ, ◌&&◌, ◌++◌, ◌+◌, ◌-◌, ◌==◌, ◌>>=◌, ◌∙◌, ◌∷◌, ◌≡◌, ◌≤◌, both_hold, length-append, ArrivesAmong}
+use Rattle.proof_scanner.proofs.Sound.Steps.{exact, shorter, stale_stands, unrolled_in_flow, unrolled_outside}
 use Rattle.proof_scanner.proofs.Sound.Rolled.{all_close, deeper_is}
 use Rattle.proof_scanner.proofs.Sound.ToToken.{passed_stands}
 use Rattle.proof_row.proofs.Inserted.{before_again}
@@ -14,9 +14,6 @@ pub record Ended (p : Position) (cols : List ℕ) (awaits : Bool) (ts : List Tok
 
 no_ends : (p : Position) (bs : List ℕ) (ts : List Token) → ts ≡ ts ++ ends_at p bs bs
 no_ends p bs ts = let none : length bs - length bs ≡ 0 = omega arith in sym (ap (λ n. ts ++ replicate n (put p block_end)) none ∙ append-nil ts)
-
-deeper_now : (col i : ℕ) (b : Bool) → nat_lt (col + 1) i ≡ b → nat_lt col (i - 1) ≡ b
-deeper_now col i a e = grind arith
 
 -- one end more
 one_end : (p : Position) (n : ℕ) (cs : List ℕ) (ts us : List Token) → us ≡ (ts ++ put p block_end ∷ []) ++ ends_at p cs (not_ended p.col cs) → us ≡ ts ++ ends_at p (n ∷ cs) (not_ended p.col cs)
@@ -35,7 +32,7 @@ levels_end p i (d ∷ ds) ts a =
         Ended p (columns d.indent ds) (has_open_level ds) (end_level d.needs_block_end p ts) (unrolled (p.col + 1) p d.indent ds (end_level d.needs_block_end p ts)) →
         Ended p (columns i (d ∷ ds)) (has_open_level (d ∷ ds)) ts (unrolled (p.col + 1) p i (d ∷ ds) ts)
     by b c e f h k =
-        grind (arith, deeper_now, no_ends, deeper_is, one_end p (i - 1) (columns d.indent ds) ts (unrolled (p.col + 1) p d.indent ds (end_level d.needs_block_end p ts)).tokens)
+        grind (arith, no_ends, deeper_is, one_end p (i - 1) (columns d.indent ds) ts (unrolled (p.col + 1) p d.indent ds (end_level d.needs_block_end p ts)).tokens)
 
 -- ---- from what holds between two fetches to what holds where the next piece begins, or at the text's end
 
@@ -111,14 +108,10 @@ arrives_now text v s solid near = by (is_empty v.held.flow) refl
         (arrives_with text v s solid near u (ap (λ b. (site_here (not b) p s.base.site).blocks) e ∙ z.columns_are) (ap (λ b. (site_here (not b) p s.base.site).awaits) e ∙ z.open_is) z.are_levels
         (z.tokens_are ∙ ap (λ b. v.held.tokens ++ ends_here (not b) p s.base.site.blocks) (sym e)))
 
--- with stale keys dropped the open key outside flow is near
-pub near_key : (text : List ℕ) (u : ScannerState) (h : Held) → Nearer text u h → HasNearKey (record u { held = h })
-near_key text u h n out = grind arith
-
 -- where a piece begins, after stale keys
 pub stale_arrives : (text : List ℕ) (u : ScannerState) → Stands text u → begins_separation u.rest ≡ false →
     Holds (λ v. Arrives text (on_held (λ s. unroll_indent (s.position.col + 1) s) v) × (length v.rest ≡ length u.rest)) (try_held stale u)
-stale_arrives text u s solid = tried u (stale u.held) (stale_stands text u s) (λ h n. (arrives_now text (record u { held = h }) n.stands solid (near_key text u h n), refl))
+stale_arrives text u s solid = tried u (stale u.held) (stale_stands text u s) (λ h n. (arrives_now text (record u { held = h }) n.stands solid (grind arith), refl))
 
 -- From one fetch to where the next piece begins, or to the text's end: the way to the next token, stale keys, and the ends of block collections.
 pub arrived : (text : List ℕ) (t : ScannerState) (f : ScannerState → Result ScannerState Fault) (P : ScannerState → Type 0) → Stands text t → ((v : ScannerState) → Arrives text v → length v.rest ≤ length t.rest → Holds P (f v)) →

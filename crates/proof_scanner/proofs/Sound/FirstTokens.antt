@@ -28,13 +28,10 @@ row_first (suc n) a (w ∷ ws) f last r =
     next : List ℕ
     next = spelled ws f
 
-    alone : (o : Option Tok) → IsPiece (account_at a w next) w.piece next o w.token.position w.token.tok → IsPiece (account_at a w next) w.piece next None w.token.position w.token.tok
-    alone o h = grind arith
-
     followed : (n : ℕ) (vs : List Written) → IsPiece (account_at a w next) w.piece next (first_token vs last) w.token.position w.token.tok →
         IsPiece (account_at a w next) w.piece next (first_token (take n vs) None) w.token.position w.token.tok
     followed (suc n) (v ∷ vs) h = h
-    followed n vs h = grind (arith, alone)
+    followed n vs h = grind (arith)
 
 -- so many tokens of the stream's start and a row
 begun_by : (text : List ℕ) (begin : Position) (ws : List Written) (after : List ℕ) (last : Option Tok) (n : ℕ) → spelled ws after ≡ up_to_nul text →

@@ -1,7 +1,7 @@
 -- Commas and closing brackets: what holds where they begin holds between two fetches after them. Outside flow they close nothing.
-use Rattle.proof_scanner.proofs.Common.{[], Act, act_of, adjacent_in_flow, another, ap, append_assoc, AreAround, AreEntries, AreLevels, arith, Arrives, before_by, before_past, begin_flow, begins_free_line, begins_with, begun_outside, blanks_and_comment, Bool, Collection, columns, end_entry, end_flow, ends_at, ends_spaces, entries_by, Entry, eqb-true, false, fetch_flow_collection_end, fetch_flow_collection_start, fetch_flow_entry, first_entry, flow_collection, flow_end, flow_level, flow_start, FlowLevel, free, gives_closing, gives_comma, gives_node, has_no_nul, has_open_level, Held, Holds, if◌then◌else◌, in_block, in_flow, increase_flow_level, Indent, is_blank, is_deeper, is_empty, is_in_column, is_renewed, is_required, IsAdjacent, IsLine, IsPairOf, Key, least_for, length, level_of, Line, line_past, List, map, Mapping, nat_le, nat_lt, no_nul_after, no_pair, None, not, on_held, Option, other, outside_key, pair_end, past, past_blanks_and_comment, past_line_rest, Position, position_after, position_in_line, Previous, previous_by, push, put, refl, refused, remove_implicit_key, roll_one_col_indent, ScannerState, seen, Site, site_here, site_in, Some, Step, subst, suc, sym, taken, Tok, Token, top_key, true, went, with_keys, with_top, Yes, ℕ, ◌&&◌, ◌++◌, ◌∙◌, ◌∷◌, ◌≡◌, ◌⊎◌, kind_of, length-map, inl, inr, is_break}
+use Rattle.proof_scanner.proofs.Common.{[], Act, act_of, adjacent_in_flow, another, ap, append_assoc, AreLevels, arith, Arrives, before_by, before_past, begin_flow, begins_free_line, begins_with, begun_outside, blanks_and_comment, Bool, Collection, columns, end_entry, end_flow, ends_at, ends_spaces, entries_by, Entry, eqb-true, false, fetch_flow_collection_end, fetch_flow_collection_start, fetch_flow_entry, first_entry, flow_collection, flow_end, flow_level, flow_start, FlowLevel, free, gives_closing, gives_comma, gives_node, has_no_nul, has_open_level, Held, Holds, if◌then◌else◌, in_block, in_flow, increase_flow_level, Indent, is_blank, is_deeper, is_empty, is_in_column, is_required, IsAdjacent, IsLine, IsPairOf, Key, least_for, length, level_of, Line, line_past, List, map, Mapping, nat_le, nat_lt, no_nul_after, no_pair, None, not, on_held, Option, other, pair_end, past, past_blanks_and_comment, past_line_rest, Position, position_after, position_in_line, Previous, previous_by, push, put, refl, refused, remove_implicit_key, roll_one_col_indent, ScannerState, seen, Site, site_here, site_in, Some, Step, subst, suc, sym, taken, Tok, Token, top_key, true, went, with_keys, with_top, Yes, ℕ, ◌&&◌, ◌++◌, ◌∙◌, ◌∷◌, ◌≡◌, ◌⊎◌, kind_of, length-map, inl, inr, is_break}
 use Rattle.proof_scanner.proofs.Cut.FlowEnds.{adjacent_collection, closed_tokens, ended_is, ended_now, ends_by_comma, ends_mapping, ends_sequence, entry_is, entry_now, IsEndOf}
-use Rattle.proof_scanner.proofs.Sound.Steps.{exactly, held_exactly, Onward, adjacent_kept, ArrivesBy, begins_key, by_sides, deep_for, had_as_it_was, indicator_end, indicator_passed, is_clear, IsDeep, IsRead, IsToken, key_gone, keyless, keyless_tokens, keys_along, line_rest_cut, line_rest_fills, line_rest_in_line, line_taken, low_enough, many_around, next_of, node_read, numbered_then, past_it, past_rest_is_clear, past_step, quiet_before, Read, read_outside, reads_before_none, reads_in_line, same_has_break, saved_is, saved_keys, site_of, site_then, started_tokens, state_after, steps_in_flow, tokens_before, with_entries, goes_inside}
+use Rattle.proof_scanner.proofs.Sound.Steps.{exactly, held_exactly, Onward, adjacent_kept, ArrivesBy, begins_key, by_sides, deep_for, indicator_end, indicator_passed, is_clear, IsDeep, IsRead, IsToken, key_gone, keyless, keyless_tokens, keys_along, line_rest_cut, line_rest_fills, line_rest_in_line, low_enough, many_around, next_of, node_read, numbered_then, past_it, past_rest_is_clear, past_step, quiet_before, Read, read_outside, reads_before_none, reads_in_line, same_has_break, saved_is, saved_keys, site_of, site_then, started_tokens, state_after, steps_in_flow, tokens_before, with_entries, goes_inside}
 use Rattle.model_scanner.specs.State.{after}
 use Rattle.model_scanner.specs.declared.level.FlowLevel.TheVariants.{Entry as InEntry}
 use Rattle.proof_scanner.proofs.Cut.Flows.{IsOpeningOf, opening_mapping, opening_sequence}
@@ -102,13 +102,6 @@ clear_ends : (a : List ℕ) → is_clear a ≡ true → ends_spaces Yes a ≡ tr
 unfolding is_blank
 clear_ends b h = grind arith
 
-entries_then : (again : Bool) (fs : List FlowLevel) (ks : List (Option Key)) (es : List Entry) → again ≡ false → AreAround fs ks es → AreEntries false again fs ks es
-entries_then again fs ks es h b = grind arith
-
--- what may begin outside flow after it
-line_after : (fs : List FlowLevel) (broken : Bool) (p : Position) (rest : List ℕ) (k : Option Key) (l : Line) → broken ≡ false → l ≡ taken → IsLine (not (is_empty fs)) false broken p rest k l
-line_after fs broken p rest k l b h = grind arith
-
 module _ (text more : List ℕ) (tok : Tok) (c : ℕ) (i : IsCloser true tok c) (t : ScannerState) (f : FlowLevel) (fs : List FlowLevel) (k : Option Key) (ks : List (Option Key)) (e : Entry) (es : List Entry)
     (a : ArrivesBy text t (f ∷ fs) (k ∷ ks) (e ∷ es)) (deep : IsDeep t.held) (cut : t.rest ≡ c ∷ more) (hash : begins_with 35 more ≡ false) where
   abbrev gap : List ℕ
@@ -163,8 +156,8 @@ module _ (text more : List ℕ) (tok : Tok) (c : ℕ) (i : IsCloser true tok c) 
         keys_are = refl;
         one_each = cc a.one_each;
         same_key = refl;
-        are_entries = entries_then (is_renewed (previous_by tok) gap) fs ks es q.2 a.are_entries.2;
-        line_is = line_after fs (begins_free_line (previous_by tok) gap) end left (outside_key es ks) a.line q.1 (line_taken text t f fs k ks e es a);
+        are_entries = grind arith;
+        line_is = grind arith;
         are_numbered = numbered_then a.tokens past_closer.held.tokens k ks own_tokens (sym tokens_are) a.are_numbered;
         in_line = λ _ _. ap (λ b. not (not b && true)) i.is_end.in_line;
       }) (record {

@@ -1,5 +1,5 @@
 -- A piece in flow was read: if the definition and the scanner agree on its entries and tokens, what holds where it begins holds between two fetches after it.
-use Rattle.proof_scanner.proofs.Common.{[], Account, account_past, act_of, ap, AreEntries, AreNumbered, arith, begins_free_line, begun_by, begun_inside, Bool, chosen, colon_of, columns, entries_by, entries_past, Entry, entry_by, false, FlowLevel, had_by, has_break, HasHadHere, is_empty, is_renewed, is_waiting, IsEntryOf, IsLine, IsPiece, Key, least_column, length, length-append, Line, line_by, line_past_separation, List, may_stand, MayChoose, nat_le, None, not, NotBefore, Option, outside_key, pair_position, pop, Position, position_after, previous_by, put, refl, ScannerState, seen, shown_position, Site, site_here, site_past, Some, spelled, Step, suc, sym, takes_pair, Tok, Token, tokens_at, tokens_of_step, tokens_up_to, true, with_had, with_keys, ℕ, ◌&&◌, ◌++◌, ◌∙◌, ◌∷◌, ◌≡◌, ◌≤◌}
+use Rattle.proof_scanner.proofs.Common.{[], Account, account_past, act_of, ap, AreEntries, AreNumbered, arith, begins_free_line, begun_by, begun_inside, Bool, chosen, colon_of, columns, entries_by, entries_past, Entry, entry_by, false, FlowLevel, had_by, has_break, HasHadHere, is_empty, is_renewed, is_waiting, IsEntryOf, IsLine, IsPiece, Key, least_column, length, length-append, Line, line_by, line_past_separation, List, may_stand, MayChoose, nat_le, None, not, NotBefore, Option, outside_key, pair_position, pop, Position, position_after, previous_by, put, refl, ScannerState, seen, shown_position, Site, site_here, site_past, Some, spelled, Step, suc, sym, takes_pair, Tok, Token, tokens_at, tokens_up_to, true, with_had, with_keys, ℕ, ◌&&◌, ◌++◌, ◌∙◌, ◌∷◌, ◌≡◌, ◌≤◌}
 use Rattle.proof_scanner.proofs.Sound.Common.{among, ArrivesBy, but_for_key_past, completes_at, goes_past, had_as_it_was, IsDeep, keys_along, line_taken, may_around, not_before_after, not_before_then, numbered_around, numbered_more, one_around, open_around, past_step, same_levels, some_rest, unbroken, unbroken_around, with_entries, keys_own}
 use Rattle.proof_scanner.proofs.Known.Steps.{keyless, knows_inside}
 use Rattle.proof_scanner.proofs.Sound.Reads.{Onward, Reads, stands_so}
@@ -69,7 +69,7 @@ module _ (text : List ℕ) (t u : ScannerState) (f : FlowLevel) (fs : List FlowL
         (goes_past strict text (a.separation ++ (piece ++ next)) (before c cs) (chosen c cs ls (account_then piece_here)) (tokens_up_to (before c cs) (k ∷ ks) a.tokens) (tokens_up_to (chosen c cs ls (account_then piece_here)) ls u.held.tokens)
         (flow_step (n.bit cs)) next refl (grind (arith, same_levels))
         (account c cs (unbroken_around text t f fs k ks e es a some u.held.position u.rest later strict c was) (one_around text t f fs k ks e es a some u.held.position u.rest later piece g.in_line strict c was))
-        (λ _ i. ap (λ y. is_waiting (line_by c y a.line)) g.same_key ∙ i) (tokens c cs)
+        (λ _ i. ap (λ y. is_waiting (line_by c y a.line)) g.same_key ∙ i) (grind arith)
         (completes_at text t (f ∷ fs) (k ∷ ks) (e ∷ es) a (piece ++ next) piece_here r.cut place strict c (n.choice cs ∷ n.outer cs)
         (rw (sym place) (rw (sym r.cut) (may_around text t f fs k ks e es a some u.held.position u.rest later strict c was))))));
   })
@@ -86,10 +86,6 @@ module _ (text : List ℕ) (t u : ScannerState) (f : FlowLevel) (fs : List FlowL
       account : (c : Bool) (cs : List Bool) → line_past_separation true (begins_free_line a.site.before a.separation) (line_by c (outside_key es ks) a.line) ≡ Some (line_by c (outside_key es ks) a.line) → (has_break piece && is_waiting (line_by c (outside_key es ks) a.line)) ≡ false →
           account_past (before c cs) (flow_step (n.bit cs)) next ≡ Some (chosen c cs ls (account_then piece_here))
       account c cs unbroken one = rw (n.stands, unbroken, n.entry_past cs, one) (ap (λ y. Some (with_entries (flow_past piece_here) (line_by c y a.line) (entries_by cs ls es2))) (sym g.same_key))
-
-      tokens : (c : Bool) (cs : List Bool) (ws : List Step) (last : List ℕ) → spelled ws last ≡ next →
-          tokens_up_to (before c cs) (k ∷ ks) a.tokens (flow_step (n.bit cs) ∷ ws) last ++ tokens_of_step (before c cs) (flow_step (n.bit cs)) ws last ≡ tokens_up_to (chosen c cs ls (account_then piece_here)) ls u.held.tokens ws last
-      tokens c cs ws last h = grind arith
 
   -- What holds where the piece begins holds between two fetches after it.
   pub steps_in_flow : (gs : List FlowLevel) (gap : List ℕ) → Reads t u (flow_past t.held.position) piece next gap → Enters gs gap → Steps t.held.position → Onward text t.rest u

@@ -86,12 +86,9 @@ module _ (text : List ℕ) (t : ScannerState) (a : Arrives text t) (deep : IsDee
       adjacent = t.held.adjacent_value_at;
     }
 
-    in_line : ends_in_line q.piece ≡ true
-    in_line = grind (arith, nat_tests, eqb-true, content_last, and_parts)
-
     one_line_of : is_empty x.rest ≡ false → x.position.line ≤ t.held.position.line → (has_break q.piece ≡ false) × (has_break q.gap ≡ false)
     unfolding is_break
-    one_line_of some h = grind (arith, q, not_before_after, on_one_line, in_line, no_break_on_line)
+    one_line_of some h = grind (arith, q, not_before_after, on_one_line, nat_tests, eqb-true, content_last, and_parts, no_break_on_line)
 
     allowed_by : (fl : Bool) → x.value.leading ≡ allowed_past None fl plain_scalar q.gap
     allowed_by true = q.leads ∙ ap has_break (sym (no_comment q.gap q.white).1)

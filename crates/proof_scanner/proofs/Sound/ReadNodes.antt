@@ -81,19 +81,10 @@ module _ (text : List ℕ) (t : ScannerState) (level : Option FlowLevel) (fs : L
   some_here : is_empty t.rest ≡ false
   some_here = some_rest t.rest d.piece (next_of d) r.reads.cut r.reads.is_solid
 
-  before_end : NotBefore t.held.position d.end
-  before_end = grind (arith, not_before_then, not_before_after)
-
   stands_here : may_stand (not (is_empty fs)) a.site (site_of t fs a.site) a.separation d.piece d.tok (next_of d) ≡ true
   stands_here = rw (a.is_indented some_here, r.is_deep, r.lines_stand, r.precedes) refl
 
 -- ---- outside flow
-
--- of a flow level that begins outside flow
-module _ (level : Option FlowLevel) where
-  entries_outside : (t : ScannerState) (d : Read) (before : Previous) (fl : Bool) → IsBegun level t d → d.allowed ≡ allowed_past level fl before d.gap → (again : Bool) (ks : List (Option Key)) →
-      AreEntries d.allowed again (levels_by level []) (with_no_key level ks) (with_begun level [])
-  entries_outside t d before fl i e again ks = grind arith
 
 module _ (text : List ℕ) (t : ScannerState) (level : Option FlowLevel) (k : Option Key) (a : ArrivesBy text t [] (k ∷ []) []) (d : Read) (within : t.held.flow ≡ []) (deep : IsDeep t.held) (r : IsRead t level [] a.site a.line [] a.separation d) where
   abbrev place : t.held.position ≡ position_after a.site.position a.separation (d.piece ++ next_of d)
@@ -103,7 +94,7 @@ module _ (text : List ℕ) (t : ScannerState) (level : Option FlowLevel) (k : Op
   some = some_here text t level [] (k ∷ []) [] a d r
 
   abbrev later : NotBefore t.held.position d.end
-  later = before_end text t level [] (k ∷ []) [] a d r
+  later = grind (arith, not_before_then, not_before_after)
 
   abbrev own : Token
   own = put t.held.position d.tok
@@ -183,7 +174,7 @@ module _ (text : List ℕ) (t : ScannerState) (level : Option FlowLevel) (k : Op
         flow_is = ap (levels_by level) within;
         keys_are = ap (with_no_key level) (keys_saved t k [] keys);
         one_each = grind arith;
-        are_entries = entries_outside level t d (previous_by d.tok) false r.is_begun r.allowed_is (is_renewed (previous_by d.tok) d.gap) (key_then ∷ []);
+        are_entries = grind (arith, r);
         line_is = subst (λ y. IsLine (not (is_empty (levels_by level []))) d.allowed (begins_free_line (previous_by d.tok) d.gap) d.end d.rest y taken) (sym same) (grind (arith, taken_node text t k a within deep some d.end d.rest later d.allowed, r.one_line));
         is_open = subst (λ y. IsOpenOutside y (site_then t [] a.site d).position d.end d.rest (site_of t [] a.site).blocks) (sym same) (open_node text t k a within deep some d.end d.rest later (site_then t [] a.site d).position (after_piece t.held.position d.piece (next_of d) r.reads.is_solid));
         no_key = refl;

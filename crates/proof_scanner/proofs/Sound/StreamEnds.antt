@@ -2,7 +2,7 @@
 use Rattle.proof_scanner.proofs.Sound.Rolled.{all_close}
 use Rattle.yaml_tokens.specs.declared.problem.Problem.TheVariants as problem
 use Rattle.std.proofs.lemmas.List.{append-nil}
-use Rattle.proof_scanner.proofs.Common.{if◌then◌else◌, [], Account, AreAround, AreCollections, AreEntries, AreLevels, Arrives, At, Bool, Completes, Entry, FlowLevel, Had, HasHad, Held, Holds, Indent, IsRead, Key, Levels, Line, List, MayChoose, Option, Position, ScannerState, Site, Step, Token, ap, append_assoc, arith, block_end, blocks, checked, chosen, cleared, columns, ended_at, ends_at, ends_here, ends_with_stream, entries_by, false, fetch_stream_end, has_required, have_no_key, in_flow, is_empty, is_keyed, is_renewed, is_waiting, length, may_end, nat_lt, next_line, not, not-true, not_ended, outside_key, pop, position_after, put, refl, replicate, site_here, stream_position, subst, suc, sym, tokens_at_end, tokens_up_to, tried, true, unroll_indent, unrolled, went, with_keys, ℕ, ◌++◌, ◌<◌, ◌∙◌, ◌∷◌, ◌≡◌, ◌≤◌, IsNotRight, innermost, end_level}
+use Rattle.proof_scanner.proofs.Common.{if◌then◌else◌, [], Account, AreAround, AreCollections, AreEntries, AreLevels, Arrives, At, Bool, Completes, Entry, FlowLevel, Had, HasHad, Held, Holds, Indent, IsRead, Key, Levels, Line, List, MayChoose, Option, Position, ScannerState, Site, Step, Token, ap, append_assoc, arith, block_end, blocks, checked, chosen, cleared, columns, ended_at, ends_at, ends_here, ends_with_stream, entries_by, false, fetch_stream_end, has_required, have_no_key, in_flow, is_empty, is_keyed, is_renewed, is_waiting, length, may_end, nat_lt, next_line, not, not-true, not_ended, outside_key, pop, position_after, put, refl, replicate, site_here, stream_position, subst, suc, sym, tokens_at_end, tokens_up_to, tried, true, unroll_indent, unrolled, went, with_keys, ℕ, ◌++◌, ◌∙◌, ◌∷◌, ◌≡◌, ◌≤◌, IsNotRight, innermost, end_level}
 use Rattle.proof_scanner.proofs.Cut.Documents.{unroll_keeps}
 use Rattle.proof_scanner.proofs.Sound.Completed.{completed_at_end}
 use Rattle.proof_scanner.proofs.Cut.Unrolls.{unrolled_in_flow}
@@ -44,9 +44,6 @@ same_line_start p = grind arith
 abbrev pub ends_of : ℕ → Position → List Token
 ends_of n p = replicate n (put p block_end)
 
-pub positive : (n i : ℕ) → n < i → nat_lt 0 i ≡ true
-positive n i h = grind arith
-
 -- no level is left then
 abbrev pub none_left : Position → ℕ → List Indent → List Token → Levels
 none_left p i ds ts = record { indent = 0; indents = []; tokens = ts ++ ends_of (length (columns i ds)) p }
@@ -58,7 +55,7 @@ ended_more p i ds ts = ap (λ (x : List Token). record { indent = 0; indents = [
 pub all_levels : (p : Position) (i : ℕ) (ds : List Indent) (ts : List Token) → AreLevels i ds → unrolled 0 p i ds ts ≡ none_left p i ds ts
 unfolding unrolled
 all_levels p i [] ts a = rw (a, append-nil) refl
-all_levels p i (d ∷ ds) ts a = grind (arith, positive, ended_more, all_levels p d.indent ds (end_level d.needs_block_end p ts) (all_close d.indent ds a.1).0)
+all_levels p i (d ∷ ds) ts a = grind (arith, ended_more, all_levels p d.indent ds (end_level d.needs_block_end p ts) (all_close d.indent ds a.1).0)
 
 -- whether no collection is deeper than a column
 abbrev pub NoneDeeper : (column : ℕ) → List ℕ → Type 0
