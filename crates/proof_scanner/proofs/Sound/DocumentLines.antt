@@ -80,14 +80,7 @@ unrolled_outside s e a = rw e (ap (λ (u : Levels). record s { indent = u.indent
 line_stands : (text : List ℕ) (t : ScannerState) (d : Read) (a : ArrivesBy text t [] (None ∷ []) []) → IsRead t d → t.held.flow ≡ [] → with_top None t.held.keys ≡ None ∷ [] → Onward text t.rest (line_past t (begun_from (all_ended t.held)) d)
 line_stands text t d a r flow keys =
     read_outside text t (line_past t (begun_from (all_ended t.held)) d) a d.piece (next_of d) d.gap d.tok (record { line = taken; blocks = [] }) x (ap (λ k. site_in false k t.held.position a.site) r.token.act)
-    (line_reads t d (begun_from (all_ended t.held)) _ r refl refl refl (r.token.awaits_outside x.blocks x.awaits (next_of d)) refl a.was_adjacent (refl, refl, refl)) (record { line_is = (inr refl, sym r.not_free, tt); no_key = refl; flow_is = flow; keys_are = keys }) (record {
-      is_piece = rw (r.token.shown x d.piece (next_of d)) (r.is_piece (seen (with_entries a.site a.line []) x a.separation) r.at_margin refl);
-      stands = rw (a.is_indented (some_rest t.rest d.piece (next_of d) r.cut r.is_solid), r.token.lines (least_for d.tok x) d.piece, r.precedes false x.blocks) refl;
-      after_is = ap (λ k. line_of_piece (is_in_column x.position.col x.blocks) x.position x.blocks k false a.line_here) r.token.act ∙ (grind arith);
-      begun = r.token.begun;
-      begins_none = ap begins_key r.token.act;
-      tokens_are = tokens;
-    })
+    (line_reads t d (begun_from (all_ended t.held)) _ r refl refl refl (r.token.awaits_outside x.blocks x.awaits (next_of d)) refl a.was_adjacent (refl, refl, refl)) (record { line_is = (inr refl, sym r.not_free, tt); no_key = refl; flow_is = flow; keys_are = keys }) (grind (arith, append_assoc, append-nil, r, r.token, r.is_piece (seen (with_entries a.site a.line []) x a.separation) r.at_margin refl, a.is_indented (some_rest t.rest d.piece (next_of d) r.cut r.is_solid), tokens))
   where
     x : Site
     x = site_in false gives_marker t.held.position a.site

@@ -1,7 +1,7 @@
 -- Commas and closing brackets: what holds where they begin holds between two fetches after them. Outside flow they close nothing.
-use Rattle.proof_scanner.proofs.Common.{[], Act, act_of, adjacent_in_flow, another, ap, append_assoc, AreLevels, arith, Arrives, before_by, before_past, begin_flow, begins_free_line, begins_with, begun_outside, blanks_and_comment, Bool, Collection, columns, end_entry, end_flow, ends_at, ends_spaces, entries_by, Entry, eqb-true, false, fetch_flow_collection_end, fetch_flow_collection_start, fetch_flow_entry, first_entry, flow_collection, flow_end, flow_level, flow_start, FlowLevel, free, gives_closing, gives_comma, gives_node, has_no_nul, has_open_level, Held, Holds, if◌then◌else◌, in_block, in_flow, increase_flow_level, Indent, is_blank, is_deeper, is_empty, is_in_column, is_required, IsAdjacent, IsLine, IsPairOf, Key, least_for, length, level_of, Line, line_past, List, map, Mapping, nat_le, nat_lt, no_nul_after, no_pair, None, not, on_held, Option, other, pair_end, past, past_blanks_and_comment, past_line_rest, Position, position_after, position_in_line, Previous, previous_by, push, put, refl, refused, remove_implicit_key, roll_one_col_indent, ScannerState, seen, Site, site_here, site_in, Some, Step, subst, suc, sym, taken, Tok, Token, top_key, true, went, with_keys, with_top, Yes, ℕ, ◌&&◌, ◌++◌, ◌∙◌, ◌∷◌, ◌≡◌, ◌⊎◌, kind_of, length-map, inl, inr, is_break}
+use Rattle.proof_scanner.proofs.Common.{[], Act, act_of, adjacent_in_flow, another, ap, append_assoc, AreLevels, arith, Arrives, before_by, before_past, begin_flow, begins_free_line, begins_with, begun_outside, blanks_and_comment, Bool, Collection, columns, end_entry, end_flow, ends_at, ends_spaces, entries_by, Entry, eqb-true, false, fetch_flow_collection_end, fetch_flow_collection_start, fetch_flow_entry, first_entry, flow_collection, flow_end, flow_level, flow_start, FlowLevel, free, gives_closing, gives_comma, gives_node, has_no_nul, has_open_level, Held, Holds, if◌then◌else◌, in_block, in_flow, increase_flow_level, Indent, is_blank, is_deeper, is_empty, is_in_column, is_required, IsAdjacent, IsLine, IsPairOf, Key, least_for, length, level_of, Line, line_past, List, map, Mapping, nat_le, nat_lt, no_nul_after, no_pair, None, not, on_held, Option, other, pair_end, past, past_blanks_and_comment, past_line_rest, Position, position_after, position_in_line, Previous, previous_by, push, put, refl, refused, remove_implicit_key, roll_one_col_indent, ScannerState, seen, Site, site_here, site_in, Some, Step, subst, suc, sym, taken, Tok, Token, top_key, true, went, with_keys, with_top, Yes, ℕ, ◌&&◌, ◌++◌, ◌∙◌, ◌∷◌, ◌≡◌, ◌⊎◌, kind_of, length-map, inl, inr, is_break, append-nil}
 use Rattle.proof_scanner.proofs.Cut.FlowEnds.{adjacent_collection, closed_tokens, ended_is, ended_now, ends_by_comma, ends_mapping, ends_sequence, entry_is, entry_now, IsEndOf}
-use Rattle.proof_scanner.proofs.Sound.Steps.{exactly, held_exactly, Onward, adjacent_kept, ArrivesBy, begins_key, by_sides, deep_for, indicator_end, indicator_passed, is_clear, IsDeep, IsRead, IsToken, key_gone, keyless, keyless_tokens, keys_along, line_rest_cut, line_rest_fills, line_rest_in_line, low_enough, many_around, next_of, node_read, numbered_then, past_it, past_rest_is_clear, past_step, quiet_before, Read, read_outside, reads_before_none, reads_in_line, same_has_break, saved_is, saved_keys, site_of, site_then, started_tokens, state_after, steps_in_flow, tokens_before, with_entries, goes_inside}
+use Rattle.proof_scanner.proofs.Sound.Steps.{exactly, held_exactly, Onward, adjacent_kept, ArrivesBy, begins_key, by_sides, deep_for, indicator_end, indicator_passed, is_clear, IsDeep, IsRead, IsToken, key_gone, keyless, keyless_tokens, keys_along, line_rest_cut, line_rest_fills, line_rest_in_line, low_enough, many_around, next_of, node_read, numbered_then, past_it, past_rest_is_clear, past_step, quiet_before, Read, read_outside, reads_before_none, reads_in_line, same_has_break, saved_is, saved_keys, site_of, site_then, started_tokens, state_after, steps_in_flow, tokens_before, with_entries, goes_inside, line_taken}
 use Rattle.model_scanner.specs.State.{after}
 use Rattle.model_scanner.specs.declared.level.FlowLevel.TheVariants.{Entry as InEntry}
 use Rattle.proof_scanner.proofs.Cut.Flows.{IsOpeningOf, opening_mapping, opening_sequence}
@@ -51,16 +51,7 @@ stray_at text more closes tok c k t a keys e hash =
     read_outside text t (stray_past closes t tok more) a (c ∷ []) more (blanks_and_comment more) tok (record { line = line_then closes; blocks = at.blocks }) at (ap (λ x. site_in false x t.held.position a.site) k.act ∙ (grind arith))
     (reads_in_line t (stray_past closes t tok more) _ (c ∷ []) more (blanks_and_comment more) refl e (line_rest_cut more) (line_rest_fills more) (line_rest_in_line more) (indicator_end t.held.position c more k.is_end.in_line) refl (is_previous closes k.previous)
     a.blocks_are (k.awaits false at.blocks at.awaits more ∙ a.awaits_is) a.are_levels (λ some. absurd (cc some)) (adjacent_kept t (stray_past closes t tok more) other (c ∷ []) more (blanks_and_comment more) refl (indicator_end t.held.position c more k.is_end.in_line) a.was_adjacent refl refl).1 (refl, refl))
-    (record { line_is = allowed_by closes (begins_free_line (previous_by tok) (blanks_and_comment more)) (quiet_before (previous_by tok) t.held.position (blanks_and_comment more) [] (is_previous closes k.previous) (line_rest_in_line more)).1; no_key = grind arith; flow_is = refl; keys_are = keys }) (record {
-      is_piece = rw (k.shown at (c ∷ []) more) (k.is_end.piece (seen (with_entries a.site a.line []) at a.separation) more None refl);
-      stands = rw (a.is_indented (ap is_empty e), k.lines (least_for tok at) (c ∷ []), k.precedes false at.blocks (c ∷ []) more, hash) refl;
-      after_is = ap (λ x. line_past (is_in_column at.position.col at.blocks) at.position at.blocks x false a.line_here) k.act ∙ (grind arith);
-      begun = k.begun;
-      begins_none = ap begins_key k.act ∙ (grind arith);
-      tokens_are = started_tokens false t.held.tokens a.tokens (ends_at t.held.position a.site.blocks at.blocks) t.held.position tok (put t.held.position tok) a.tokens_are ∙
-          (ap (λ x. a.tokens ++ ((ends_at t.held.position a.site.blocks at.blocks ++ x) ++ ((put t.held.position tok) ∷ []))) (sym (ap (λ x. begun_outside (is_deeper at.position.col at.blocks) at.position at.position x false (Some a.line_here)) k.act ∙ (grind arith))) ∙ ap
-          (λ p. a.tokens ++ ((ends_at t.held.position a.site.blocks at.blocks ++ begun_outside (is_deeper at.position.col at.blocks) at.position at.position (act_of tok) false (Some a.line_here)) ++ (put p tok ∷ []))) (sym (k.shown at (c ∷ []) more)));
-    })
+    (record { line_is = allowed_by closes (begins_free_line (previous_by tok) (blanks_and_comment more)) (quiet_before (previous_by tok) t.held.position (blanks_and_comment more) [] (is_previous closes k.previous) (line_rest_in_line more)).1; no_key = grind arith; flow_is = refl; keys_are = keys }) (grind (arith, append_assoc, append-nil, k, a.is_indented (ap is_empty e), k.is_end.piece (seen (with_entries a.site a.line []) at a.separation) more None refl))
   where
     at : Site
     at = site_here false t.held.position a.site
@@ -82,19 +73,8 @@ unfolding is_break
 comma_inside text more t f fs k ks e es a flow keys cut deep hash =
     goes_inside text t _ f (next_level f) fs k ks e (first_entry e.kind) es a (44 ∷ []) more Tok.flow_entry (blanks_and_comment more)
     (reads_before_none t _ _ (44 ∷ []) more (blanks_and_comment more) refl cut (line_rest_cut more) (line_rest_fills more) (line_rest_in_line more) refl
-    (indicator_end t.held.position 44 more refl) refl refl a.blocks_are a.awaits_is a.are_levels a.was_adjacent (refl, refl, refl)) (record {
-      flow_is = grind arith;
-      keys_are = ap (with_top None) keys;
-      entry_is = grind arith;
-      has_had = (inl refl, refl);
-      in_line = refl;
-      begun = refl;
-      is_piece = ends_by_comma.piece (seen (with_entries a.site a.line (e ∷ es)) (site_here true t.held.position a.site) a.separation) more None refl;
-      stands = rw (a.is_indented (ap is_empty cut), low_enough text t f fs (k ∷ ks) (e ∷ es) a deep, hash) refl;
-      entry_past = λ xs. (grind arith);
-      colons = λ n p ws last. refl;
-      tokens_are = grind (arith, append_assoc, tokens_before);
-    })
+    (indicator_end t.held.position 44 more refl) refl refl a.blocks_are a.awaits_is a.are_levels a.was_adjacent (refl, refl, refl)) (grind (arith, append_assoc, tokens_before, a.is_indented (ap is_empty cut), low_enough text t f fs (k ∷ ks) (e ∷ es) a deep,
+    ends_by_comma.piece (seen (with_entries a.site a.line (e ∷ es)) (site_here true t.held.position a.site) a.separation) more None refl))
 
 -- ---- a closing bracket in flow: the collection ends, with its last entry
 
@@ -151,16 +131,7 @@ module _ (text more : List ℕ) (tok : Tok) (c : ℕ) (i : IsCloser true tok c) 
       let far = adjacent_kept t (record past_closer { held = record past_closer.held { adjacent_value_at = t.held.adjacent_value_at } }) other (c ∷ []) more gap refl (indicator_end t.held.position c more i.is_end.in_line) a.was_adjacent refl refl in
       steps_in_flow text t past_closer f fs k ks e es a (c ∷ []) more tok ks es fs gap
       (reads_in_line t past_closer _ (c ∷ []) more gap refl cut (line_rest_cut more) (line_rest_fills more) (line_rest_in_line more) (indicator_end t.held.position c more i.is_end.in_line) refl (inr i.previous) a.blocks_are
-      (i.awaits true x.blocks x.awaits more ∙ a.awaits_is) a.are_levels adjacent_after (grind arith) (refl, refl)) (record {
-        flow_is = refl;
-        keys_are = refl;
-        one_each = cc a.one_each;
-        same_key = refl;
-        are_entries = grind arith;
-        line_is = grind arith;
-        are_numbered = numbered_then a.tokens past_closer.held.tokens k ks own_tokens (sym tokens_are) a.are_numbered;
-        in_line = λ _ _. ap (λ b. not (not b && true)) i.is_end.in_line;
-      }) (record {
+      (i.awaits true x.blocks x.awaits more ∙ a.awaits_is) a.are_levels adjacent_after (grind arith) (refl, refl)) (grind (arith, q, line_taken text t f fs k ks e es a, numbered_then a.tokens past_closer.held.tokens k ks own_tokens (sym tokens_are) a.are_numbered)) (record {
         is_piece = rw (i.shown x (c ∷ []) more) (i.is_end.piece (seen (with_entries a.site a.line (e ∷ es)) x a.separation) more None refl);
         stands = rw (a.is_indented (ap is_empty cut), deep_for true tok x (i.least x) (low_enough text t f fs (k ∷ ks) (e ∷ es) a deep), i.lines (least_for tok x) (c ∷ []), i.precedes true x.blocks (c ∷ []) more, hash) refl;
         choice = λ cs. false;

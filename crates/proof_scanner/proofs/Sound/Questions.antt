@@ -1,5 +1,5 @@
 -- The function of the model that reads a dash: what holds where it begins holds between two fetches after it.
-use Rattle.proof_scanner.proofs.Common.{before_by, [], if◌then◌else◌, weakened, allow_key, another, ap, AreLevels, arith, Arrives, At, begin_key, begins_with_space_or_break, blanks_and_comment, both_hold, check_block_entry, check_dash, check_key_space, checked, columns, dash_may_precede, ends_at, Entry, eqb-true, false, Fault, fetch_block_entry, fetch_key, FlowLevel, gap, gives_dash, gives_question, has_break, has_open_level, has_tab_before_piece, Held, Holds, in_flow, Indent, inl, inr, is_at_break_or_flow, is_at_gap, is_blank, is_break, is_deeper, is_empty, is_in_column, is_one_of, is_separation, Key, Keyed, keyed, leading, lexed, line_past, List, No, None, not, not-false, not_ended, Ok, on_held, opened, Option, or_parts, or_true, pair_past, past, past_blanks_and_comment, past_line_rest, peek, placed, Position, position_after, push, put, refl, remove_implicit_key, Result, roll_entry, roll_indent, same_break, ScannerState, settled, Site, skip_indicator, skip_spaces, skip_yaml_whitespace, Some, space, start_if, subst, suc, sym, take, takes_pair, Tok, Token, token, top_needs_block_end, true, try_held, went, Yes, ℕ, ◌&&◌, ◌++◌, ◌==◌, ◌>>=◌, ◌||◌, ◌∙◌, ◌∷◌, ◌≡◌, ◌≤◌, refused}
+use Rattle.proof_scanner.proofs.Common.{before_by, [], if◌then◌else◌, weakened, allow_key, another, ap, AreLevels, arith, Arrives, At, begin_key, begins_with_space_or_break, blanks_and_comment, both_hold, check_block_entry, check_dash, check_key_space, checked, columns, dash_may_precede, ends_at, Entry, eqb-true, false, Fault, fetch_block_entry, fetch_key, FlowLevel, gap, gives_dash, gives_question, has_break, has_open_level, has_tab_before_piece, Held, Holds, in_flow, Indent, inl, inr, is_at_break_or_flow, is_at_gap, is_blank, is_break, is_deeper, is_empty, is_in_column, is_one_of, is_separation, Key, Keyed, keyed, leading, lexed, line_past, List, No, None, not, not-false, not_ended, Ok, on_held, opened, Option, or_parts, or_true, pair_past, past, past_blanks_and_comment, past_line_rest, peek, placed, Position, position_after, push, put, refl, remove_implicit_key, Result, roll_entry, roll_indent, same_break, ScannerState, settled, Site, skip_indicator, skip_spaces, skip_yaml_whitespace, Some, space, start_if, subst, suc, sym, take, takes_pair, Tok, Token, token, top_needs_block_end, true, try_held, went, Yes, ℕ, ◌&&◌, ◌++◌, ◌==◌, ◌>>=◌, ◌||◌, ◌∙◌, ◌∷◌, ◌≡◌, ◌≤◌, refused, append_assoc, append_assoc, append-nil, append-nil}
 use Rattle.yaml_chars.specs.Class.{is_break as is_break_here, is_flow as is_flow_here}
 use Rattle.model_scanner.specs.State.{after, after as after_first}
 use Rattle.proof_lexers.proofs.Bridges.{same_flow}
@@ -79,16 +79,7 @@ dash_outside text more t a e gap allowed deep =
         (reads_before_none (with_sides t [] (None ∷ [])) _ _ (45 ∷ []) more (blanks_and_comment more) refl e (line_rest_cut more) (line_rest_fills more)
         (line_rest_in_line more) refl (indicator_end p 45 more refl) refl refl (ap (opened p.col) a.blocks_are ∙ sym (n.columns_are ∙ r.columns_are)) (sym n.awaits)
         n.are_levels a.was_adjacent (refl, refl, refl))
-        (record { line_is = (inl refl, refl, tt); no_key = refl; flow_is = refl; keys_are = refl }) (record {
-          is_piece = (refl, gap, refl);
-          stands = rw (a.is_indented (ap is_empty e), apart) refl;
-          after_is = ap (λ l. line_past (is_in_column p.col bs) p bs gives_dash false l) (line_free t.held.key_allowed t.rest a.line_here allowed a.line_is);
-          begun = refl;
-          begins_none = refl;
-          tokens_are = ap (λ cs. (if is_deeper p.col cs then placed None (token p Tok.block_sequence_start) t.held.tokens else t.held.tokens) ++ own (past p) ∷ []) (sym a.blocks_are) ∙
-              (started_tokens (is_deeper p.col bs) t.held.tokens a.tokens (ends_at p a.site.blocks bs) p Tok.block_sequence_start (own (past p)) a.tokens_are ∙
-              ap (λ q. a.tokens ++ ((ends_at p a.site.blocks bs ++ start_if (is_deeper p.col bs) p Tok.block_sequence_start) ++ (own q ∷ []))) (sym (past_one p 45 more refl)));
-        }))))
+        (record { line_is = (inl refl, refl, tt); no_key = refl; flow_is = refl; keys_are = refl }) (grind (arith, append_assoc, append-nil, past_one, line_free, a.is_indented (ap is_empty e))))))
 
 -- A dash that begins an entry is read as in the row.
 pub dash_keeps : (text more : List ℕ) (t : ScannerState) → Arrives text t → t.rest ≡ 45 ∷ more → is_at_gap more ≡ true → IsDeep t.held → Holds (Onward text t.rest) (fetch_block_entry t)
@@ -145,15 +136,7 @@ question_outside text more t a e gap deep =
     read_outside text v _ a (63 ∷ []) more (white_of false more) Tok.key (begun_after p a.site.blocks) _ refl
     (question_reads v _ more _ e refl fills refl refl refl refl (ap (opened p.col) a.blocks_are ∙ sym r.columns_are) (sym (top_closed r.indents (r.is_top deep)).1)
     r.are_levels a.was_adjacent (refl, refl, refl))
-    (record { line_is = (inl refl, or_true (ends.has_break (white_of false more)), tt); no_key = refl; flow_is = refl; keys_are = refl }) (record {
-      is_piece = inl (refl, begins);
-      stands = rw (a.is_indented (ap is_empty e), apart) refl;
-      after_is = ap (λ l. line_past (is_in_column p.col bs) p bs gives_question false l) (line_free t.held.key_allowed t.rest a.line_here allowed a.line_is);
-      begun = refl;
-      begins_none = refl;
-      tokens_are = ap (λ cs. (if is_deeper p.col cs then placed None (token p Tok.block_mapping_start) t.held.tokens else t.held.tokens) ++ put p Tok.key ∷ []) (sym a.blocks_are) ∙
-          started_tokens (is_deeper p.col bs) t.held.tokens a.tokens (ends_at p a.site.blocks bs) p Tok.block_mapping_start (put p Tok.key) a.tokens_are;
-    }))))))
+    (record { line_is = (inl refl, or_true (ends.has_break (white_of false more)), tt); no_key = refl; flow_is = refl; keys_are = refl }) (grind (arith, append_assoc, append-nil, line_free, a.is_indented (ap is_empty e))))))))
   where
     p : Position
     p = t.held.position

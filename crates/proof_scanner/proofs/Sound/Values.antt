@@ -50,16 +50,7 @@ keyless_outside text more t a e apart ind deep =
     (read_outside text t _ a (58 ∷ []) more (colon_gap more) Tok.value (begun_after p a.site.blocks) _ refl
     (colon_reads t more l.indents l.indent (with_start Tok.block_mapping_start t) true [] (None ∷ []) _ e refl refl
     (ap (opened p.col) a.blocks_are ∙ sym (l.columns_are ∙ m.columns_are)) (sym l.awaits) l.are_levels a.was_adjacent)
-    (record { line_is = (inl refl, refl, tt); no_key = refl; flow_is = refl; keys_are = refl }) (record {
-      is_piece = (refl, ind);
-      stands = rw (a.is_indented (ap is_empty e), apart) refl;
-      after_is = ap (λ y. line_past (is_in_column p.col bs) p bs gives_colon false y) (is_free allowed);
-      begun = refl;
-      begins_none = refl;
-      tokens_are = ap (λ cs. (if is_deeper p.col cs then placed None (token p Tok.block_mapping_start) t.held.tokens else t.held.tokens) ++ put p Tok.value ∷ []) (sym a.blocks_are) ∙
-          (started_tokens (is_deeper p.col bs) t.held.tokens a.tokens (ends_at p a.site.blocks bs) p Tok.block_mapping_start (put p Tok.value) a.tokens_are ∙
-          ap (λ y. a.tokens ++ ((ends_at p a.site.blocks bs ++ begun_outside (is_deeper p.col bs) p p gives_colon false (Some y)) ++ (put p Tok.value ∷ []))) (sym (is_free allowed)));
-    })))
+    (record { line_is = (inl refl, refl, tt); no_key = refl; flow_is = refl; keys_are = refl }) (grind (arith, append_assoc, append-nil, is_free, a.is_indented (ap is_empty e)))))
   where
     p : Position
     p = t.held.position
@@ -103,20 +94,7 @@ keyless_inside text more t f fs ks e es a cut apart ind deep =
     went (subst (λ z. Onward text t.rest (on_held (push t.held.position Tok.value) z)) (sym d)
     (goes_inside text t _ f (pair_level InPair f) fs None ks e (valued_entry e) es a (58 ∷ []) more Tok.value (colon_gap more)
     (colon_reads t more t.held.indents t.held.indent ts false (pair_level InPair f ∷ fs) (None ∷ ks) _ cut refl refl a.blocks_are a.awaits_is a.are_levels a.was_adjacent)
-    (record {
-      flow_is = refl;
-      keys_are = refl;
-      entry_is = grind arith;
-      has_had = (inr refl, refl);
-      in_line = refl;
-      begun = refl;
-      is_piece = (refl, ind);
-      stands = rw (a.is_indented (ap is_empty cut), low_enough text t f fs (None ∷ ks) (e ∷ es) a deep, apart) refl;
-      entry_past = λ xs. (grind arith);
-      colons = λ n p ws last. refl;
-      tokens_are = (grind (arith, append_assoc)) ∙ (ap (λ q. a.tokens ++ (start_if (opens_pair (f ∷ fs)) (pair_position q more) Tok.flow_mapping_start ++ (put t.held.position Tok.value ∷ []))) (sym (past_one t.held.position 58 more refl)) ∙
-          (ap (λ b. a.tokens ++ (start_if b (pair_position (position_after t.held.position (58 ∷ []) more) more) Tok.flow_mapping_start ++ (put t.held.position Tok.value ∷ []))) (sym (single_is f fs None e a.are_entries.0)) ∙ ap (λ x. a.tokens ++ (x ++ (put t.held.position Tok.value ∷ []))) (sym (grind arith))));
-    }))))
+    (grind (arith, append_assoc, past_one, single_is, tokens_before, a.is_indented (ap is_empty cut), low_enough text t f fs (None ∷ ks) (e ∷ es) a deep)))))
   where
     -- the tokens with the start of a single pair, if one begins
     ts : List Token
