@@ -1,5 +1,5 @@
 -- Document markers and directives: what holds where they begin holds between two fetches after them.
-use Rattle.proof_scanner.proofs.Common.{[], act_of, and_false, and_parts, ap, append-nil, append_assoc, AreLevels, arith, Arrives, awaits_past, before_by, begin_line, begins_free_line, begins_line, begins_with, begun_by, begun_inside, blanks_and_comment, Bool, check_document_end, columns, Directive, directive_of, directives_end, either, entries_past, Entry, eqb-true, false, fetch_directive, fetch_document_end, fetch_document_marker, first_break, FlowLevel, further_lines_stand, gives_marker, has_break, has_no_break, has_no_nul, has_open_level, HasNoTabs, Held, Holds, in_flow, inr, is_at_gap, is_break, is_breakz, is_closed, is_empty, is_in_column, is_indented_by_spaces, is_renewed, is_required, is_separation, IsDirectiveRead, IsLeading, IsPiece, IsReadOn, Key, least_for, length, Levels, line_is_done, List, may_precede, no_nul_after, None, on_held, Option, or_true, other, pair_position, past, past_blanks_and_comment, past_line_rest, peek, Position, position_after, position_append, previous_by, push, put, read, read_as, refl, refused, remove_implicit_key, replicate-append-replicate, ScannerState, seen, settled, shown_position, Site, site_in, skip_indicator, Some, subst, sym, taken, takes_pair, Tok, Token, token_of, top_key, true, unroll_indent, went, whole_directive, with_top, ℕ, ◌++◌, ◌∙◌, ◌∷◌, ◌≡◌, ◌≤◌}
+use Rattle.proof_scanner.proofs.Common.{[], act_of, and_false, and_parts, ap, append-nil, append_assoc, AreLevels, arith, Arrives, awaits_past, before_by, begin_line, begins_free_line, begins_line, begins_with, begun_by, begun_inside, blanks_and_comment, Bool, check_document_end, columns, Directive, directive_of, directives_end, either, entries_past, Entry, eqb-true, false, fetch_directive, fetch_document_end, fetch_document_marker, first_break, FlowLevel, further_lines_stand, gives_marker, has_break, has_no_break, has_no_nul, has_open_level, HasNoTabs, Held, Holds, in_flow, inr, is_at_gap, is_break, is_breakz, is_closed, is_empty, is_in_column, is_indented_by_spaces, is_renewed, is_required, is_separation, IsDirectiveRead, IsLeading, IsPiece, IsReadOn, Key, least_for, length, Levels, line_is_done, List, may_precede, no_nul_after, None, on_held, Option, or_true, other, pair_position, past, past_blanks_and_comment, past_line_rest, peek, Position, position_after, position_append, previous_by, push, put, read, read_as, refl, refused, remove_implicit_key, replicate-append-replicate, ScannerState, seen, settled, shown_position, Site, site_in, skip_indicator, Some, subst, sym, taken, takes_pair, Tok, Token, token_of, top_key, true, unroll_indent, went, whole_directive, with_top, ℕ, ◌++◌, ◌∙◌, ◌∷◌, ◌≡◌, ◌≤◌, token}
 use Rattle.proof_scanner.proofs.Sound.Steps.{exactly, held_exactly, Onward, adjacent_kept, all_levels, by_sides, ArrivesBy, at_end_of, begins_key, ends_of, goes_inside, is_done, key_gone, line_rest_cut, line_rest_fills, line_rest_in_line, none_indents, read_outside, Reads, rest_skipped, same_in_line, shorter, some_rest, three_past, tokens_before, tokens_then, unrolled_in_flow, with_entries, same_has_break}
 use Rattle.defs_token.specs.Account.{Account as PieceAccount}
 use Rattle.defs_token.specs.Key.{line_past as line_of_piece}
@@ -100,21 +100,8 @@ line_goes : (text : List ℕ) (t : ScannerState) (d : Read) (f : FlowLevel) (fs 
     Onward text t.rest (line_past t (begun_from t.held) d)
 line_goes text t d f fs k ks e es a r flow keys =
     goes_inside text t (line_past t (begun_from t.held) d) f f fs k ks e (record { kind = e.kind; pair = e.pair; had = settled }) es a d.piece (next_of d) d.tok d.gap
-    (line_reads t d (begun_from t.held) _ r refl refl a.blocks_are (r.token.awaits_inside a.site.blocks a.site.awaits (next_of d) ∙ a.awaits_is) a.are_levels a.was_adjacent (refl, refl, refl)) (record {
-      flow_is = flow;
-      keys_are = keys;
-      entry_is = record { kind_is = a.are_entries.0.kind_is; pair_is = a.are_entries.0.pair_is; key_is = tt };
-      has_had = (inr refl, sym r.not_renewed);
-      in_line = r.in_line;
-      begun = r.token.begun;
-      is_piece = rw (r.token.shown x d.piece (next_of d)) (r.is_piece (seen (with_entries a.site a.line (e ∷ es)) x a.separation) r.at_margin refl);
-      stands = rw (a.is_indented (some_rest t.rest d.piece (next_of d) r.cut r.is_solid), r.token.act, r.token.lines (least_for d.tok x) d.piece, r.precedes true x.blocks) refl;
-      entry_past = λ xs. ap (λ y. entries_past x.position (is_renewed a.site.before a.separation) y [] false e xs) r.token.act ∙
-          (grind arith);
-      colons = λ n p ws last. (rw (r.token.act, r.token.begun) refl);
-      tokens_are = let pair : Position = pair_position (position_after x.position d.piece (next_of d)) (next_of d) in ap (λ ts. ts ++ ((put t.held.position d.tok) ∷ [])) (tokens_before text t f fs k ks e es a) ∙
-          (ap (λ b. a.tokens ++ (b ++ ((put t.held.position d.tok) ∷ []))) (sym (ap (λ y. begun_inside (takes_pair e.kind e.pair) e.pair x.position pair pair y false e.had) r.token.act)) ∙ ap (λ p. a.tokens ++ (begun_inside (takes_pair e.kind e.pair) e.pair x.position pair pair (act_of d.tok) false e.had ++ (put p d.tok ∷ []))) (sym (r.token.shown x d.piece (next_of d))));
-    })
+    (line_reads t d (begun_from t.held) _ r refl refl a.blocks_are (r.token.awaits_inside a.site.blocks a.site.awaits (next_of d) ∙ a.awaits_is) a.are_levels a.was_adjacent (refl, refl, refl)) (grind (arith, append-nil, r, r.token, tokens_before, r.is_piece (seen (with_entries a.site a.line (e ∷ es)) x a.separation) r.at_margin refl,
+    a.is_indented (some_rest t.rest d.piece (next_of d) r.cut r.is_solid)))
   where
     x : Site
     x = site_in true gives_marker t.held.position a.site

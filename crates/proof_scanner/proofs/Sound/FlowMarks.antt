@@ -1,7 +1,7 @@
 -- Commas and closing brackets: what holds where they begin holds between two fetches after them. Outside flow they close nothing.
 use Rattle.proof_scanner.proofs.Common.{[], Act, act_of, adjacent_in_flow, another, ap, append_assoc, AreLevels, arith, Arrives, before_by, before_past, begin_flow, begins_free_line, begins_with, begun_outside, blanks_and_comment, Bool, Collection, columns, end_entry, end_flow, ends_at, ends_spaces, entries_by, Entry, eqb-true, false, fetch_flow_collection_end, fetch_flow_collection_start, fetch_flow_entry, first_entry, flow_collection, flow_end, flow_level, flow_start, FlowLevel, free, gives_closing, gives_comma, gives_node, has_no_nul, has_open_level, Held, Holds, if◌then◌else◌, in_block, in_flow, increase_flow_level, Indent, is_blank, is_deeper, is_empty, is_in_column, is_required, IsAdjacent, IsLine, IsPairOf, Key, least_for, length, level_of, Line, line_past, List, map, Mapping, nat_le, nat_lt, no_nul_after, no_pair, None, not, on_held, Option, other, pair_end, past, past_blanks_and_comment, past_line_rest, Position, position_after, position_in_line, Previous, previous_by, push, put, refl, refused, remove_implicit_key, roll_one_col_indent, ScannerState, seen, Site, site_here, site_in, Some, Step, subst, suc, sym, taken, Tok, Token, top_key, true, went, with_keys, with_top, Yes, ℕ, ◌&&◌, ◌++◌, ◌∙◌, ◌∷◌, ◌≡◌, ◌⊎◌, kind_of, length-map, inl, inr, is_break, append-nil}
 use Rattle.proof_scanner.proofs.Cut.FlowEnds.{adjacent_collection, closed_tokens, ended_is, ended_now, ends_by_comma, ends_mapping, ends_sequence, entry_is, entry_now, IsEndOf}
-use Rattle.proof_scanner.proofs.Sound.Steps.{exactly, held_exactly, Onward, adjacent_kept, ArrivesBy, begins_key, by_sides, deep_for, indicator_end, indicator_passed, is_clear, IsDeep, IsRead, IsToken, key_gone, keyless, keyless_tokens, keys_along, line_rest_cut, line_rest_fills, line_rest_in_line, low_enough, many_around, next_of, node_read, numbered_then, past_it, past_rest_is_clear, past_step, quiet_before, Read, read_outside, reads_before_none, reads_in_line, same_has_break, saved_is, saved_keys, site_of, site_then, started_tokens, state_after, steps_in_flow, tokens_before, with_entries, goes_inside, line_taken}
+use Rattle.proof_scanner.proofs.Sound.Steps.{exactly, held_exactly, Onward, adjacent_kept, ArrivesBy, begins_key, by_sides, deep_for, indicator_end, indicator_passed, is_clear, IsDeep, IsRead, IsToken, key_gone, keyless, keyless_tokens, keys_along, line_rest_cut, line_rest_fills, line_rest_in_line, low_enough, many_around, next_of, node_read, numbered_then, past_it, past_rest_is_clear, past_step, quiet_before, Read, read_outside, reads_before_none, reads_in_line, same_has_break, saved_is, saved_keys, site_of, site_then, started_tokens, state_after, steps_in_flow, tokens_before, with_entries, goes_inside, line_taken, Reads}
 use Rattle.model_scanner.specs.State.{after}
 use Rattle.model_scanner.specs.declared.level.FlowLevel.TheVariants.{Entry as InEntry}
 use Rattle.proof_scanner.proofs.Cut.Flows.{IsOpeningOf, opening_mapping, opening_sequence}
@@ -242,23 +242,14 @@ opener_is_read text more lv tok c o t u r e deep hash few fs ks es flow a =
     let x : Site = site_of t fs a.site in
     let cut : more ≡ next_of d = line_rest_cut more in
     let stays = ap (λ q. q.line) (sym (position_in_line (past t.held.position) (blanks_and_comment more) [] (line_rest_in_line more))) in
-    record {
-      reads = reads_before_none t (state_after t (Some lv) d) (site_then t fs a.site d) (c ∷ []) (next_of d) d.gap refl (e ∙ ap (λ l. c ∷ l) cut) refl (line_rest_fills more) (line_rest_in_line more) refl
+    let reads : Reads t (state_after t (Some lv) d) (site_then t fs a.site d) (c ∷ []) (next_of d) d.gap =
+    reads_before_none t (state_after t (Some lv) d) (site_then t fs a.site d) (c ∷ []) (next_of d) d.gap refl (e ∙ ap (λ l. c ∷ l) cut) refl (line_rest_fills more) (line_rest_in_line more) refl
           (indicator_end t.held.position c more o.is_opening.in_line ∙ ap (λ l. position_after (position_after t.held.position (c ∷ []) l) d.gap d.rest) cut) refl o.previous (a.blocks_are ∙ sym r.columns_are)
           ((grind arith) ∙ (ap (λ b. if fl then b else not (is_empty x.blocks)) a.awaits_is ∙ (ap (λ bs. if fl then has_open_level t.held.indents else not (is_empty bs)) a.blocks_are ∙
-          (ap (λ f. if not (is_empty f) then has_open_level t.held.indents else not (is_empty (columns t.held.indent t.held.indents))) (sym flow) ∙ sym r.awaits)))) r.are_levels a.was_adjacent (refl, refl, refl);
-      act = o.act;
-      begun = o.begun;
-      is_begun = (o.no_pair_yet, omega (arith, stays));
-      shown = λ y. o.shown y (c ∷ []) (next_of d);
-      is_piece = o.is_opening.piece (seen (with_entries a.site a.line es) x a.separation) (next_of d) None
-          (less (length fs) (length (map level_of es)) ((grind (arith, many_around, eqb-true)) ∙ sym (length-map es level_of)) (ap (λ f. nat_le 255 (length f)) (sym flow) ∙ few));
-      is_deep = deep_for fl tok x (o.least x) (rw (a.blocks_are, a.awaits_is) (grind arith));
-      lines_stand = o.lines (least_for tok x) (c ∷ []);
-      precedes = o.precedes fl x.blocks (c ∷ []) (next_of d) ∙ ap (λ l. not (begins_with 35 l)) (sym cut) ∙ ap not hash;
-      allowed_is = refl;
-      one_line = λ _ _. (ap (λ b. not (not b && true)) o.is_opening.in_line, ap (λ b. begins_free_line b d.gap) o.previous ∙ ap not (line_rest_in_line more));
-    }
+          (ap (λ f. if not (is_empty f) then has_open_level t.held.indents else not (is_empty (columns t.held.indent t.held.indents))) (sym flow) ∙ sym r.awaits)))) r.are_levels a.was_adjacent (refl, refl, refl) in
+    grind (arith, reads, o, o.is_opening, stays, deep_for, line_rest_in_line, hash,
+    o.is_opening.piece (seen (with_entries a.site a.line es) x a.separation) (next_of d) None
+          (less (length fs) (length (map level_of es)) ((grind (arith, many_around, eqb-true)) ∙ sym (length-map es level_of)) (ap (λ f. nat_le 255 (length f)) (sym flow) ∙ few)))
 
 -- ---- the function of the model that reads an opening bracket keeps what holds where it begins
 

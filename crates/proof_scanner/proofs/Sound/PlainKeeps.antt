@@ -134,10 +134,7 @@ module _ (text : List ℕ) (t : ScannerState) (a : Arrives text t) (deep : IsDee
       pub is_read : IsRead t None fs r.site r.line es r.separation d
       is_read =
           let far = adjacent_kept t (state_after t None d) other q.piece (next_of d) q.gap (whole_solid ctx.flow (collection_of ctx.indent) q.piece (q.gap ++ x.rest) q.whole) q.end_is a.was_adjacent refl refl in
-          let filled = gap_is_separation q.gap x.rest q.white in
-          let awaits_then : awaits_past fl tok at.blocks at.awaits (next_of d) ≡ has_open_level gone.indents = none_awaits fl at.blocks at.awaits (next_of d) ∙ sym closed.none_open in
-          let further : plain_lines_fit (least_column at.blocks true) q.piece ≡ true = ap (λ n. plain_lines_fit n q.piece) least_here ∙ q.fits.lines in
-          assumption (q, closed, (whole_solid ctx.flow (collection_of ctx.indent) q.piece (q.gap ++ x.rest) q.whole), far, filled, (r.blocks_are ∙ closed.same_columns), awaits_then, no_tabs, piece_is, deep_by fl (sym (ap (λ f. not (is_empty f)) flow)), further, (ap not (ap (λ y. y && has_dash_before_flow q.piece (next_of d)) (sym (ap (λ f. not (is_empty f)) flow)) ∙ q.fits.dash)), allowed_by fl, one_line_of)
+          grind (arith, q, closed, far, gap_is_separation, whole_solid, none_awaits, no_tabs, piece_is, deep_by, least_here, allowed_by, one_line_of)
 
     pub stands : Onward text t.rest (record (state_after t None d) { held = record (state_after t None d).held { tokens = gone.tokens ++ put t.held.position tok ∷ [] } })
     stands =

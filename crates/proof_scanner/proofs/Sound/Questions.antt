@@ -64,12 +64,6 @@ dash_outside text more t a e gap allowed deep =
     v : ScannerState
     v = record { rest = more; held = record h { indents = r.indents; indent = r.indent; tokens = with_start Tok.block_sequence_start t } }
 
-    bs : List ℕ
-    bs = not_ended p.col a.site.blocks
-
-    own : Position → Token
-    own q = put (past_line_rest q more) Tok.block_entry
-
     last : dash_may_precede more ≡ true → Holds (Onward text t.rest) (entry_then (past_rest v))
     last apart =
         let n : Entered (past_rest v) (roll_entry (past_rest v)) = entered (past_rest v) refl r.are_levels (r.is_top deep) in
@@ -147,9 +141,6 @@ question_outside text more t a e gap deep =
     r : RollsTo p.col None (token p Tok.block_mapping_start) v.held (roll_indent p.col None Tok.block_mapping_start p v.held)
     r = rolls_to p.col None Tok.block_mapping_start p v.held refl a.are_levels (first_not_right p.col t.held.indent t.held.indents a.are_levels deep)
 
-    bs : List ℕ
-    bs = not_ended p.col a.site.blocks
-
 -- the flow level after a piece that begins a pair, by the level of such a pair in a sequence
 abbrev pub pair_level : (pair : FlowLevel) → FlowLevel → FlowLevel
 pair_level p InEntry = p
@@ -164,19 +155,8 @@ question_inside text more t f fs k ks e es a cut gap deep =
     let z : ScannerState = with_sides t (keyed (f ∷ fs)) (k ∷ ks) in
     exactly _ (held_exactly z (key_removed z.held)) (λ _. question_read more _ t.held.position _ (ap after cut) gap (λ begins apart fills.
     goes_inside text (with_sides t (f ∷ fs) (k ∷ ks)) _ f (pair_level Keyed f) fs k ks e (record { kind = e.kind; pair = pair_past (takes_pair e.kind e.pair) gives_question e.pair; had = settled }) es a (63 ∷ []) more Tok.key (white_of false more)
-    (question_reads (with_sides t (f ∷ fs) (k ∷ ks)) _ more _ cut refl fills refl refl refl refl a.blocks_are a.awaits_is a.are_levels a.was_adjacent (refl, refl, refl)) (record {
-      flow_is = levels;
-      keys_are = refl;
-      entry_is = grind arith;
-      has_had = (inr refl, ap (λ ls. (not (not (is_empty ls)) && ends.has_break (white_of false more)) || not (not (is_empty ls))) levels);
-      in_line = refl;
-      begun = refl;
-      is_piece = inl (refl, begins);
-      stands = rw (a.is_indented (ap is_empty cut), low_enough text (with_sides t (f ∷ fs) (k ∷ ks)) f fs (k ∷ ks) (e ∷ es) a deep, apart) refl;
-      entry_past = λ xs. (grind arith);
-      colons = λ n p ws last. refl;
-      tokens_are = ap (λ ts. ts ++ token t.held.position Tok.key ∷ []) (tokens_before text (with_sides t (f ∷ fs) (k ∷ ks)) f fs k ks e es a);
-    })))
+    (question_reads (with_sides t (f ∷ fs) (k ∷ ks)) _ more _ cut refl fills refl refl refl refl a.blocks_are a.awaits_is a.are_levels a.was_adjacent (refl, refl, refl)) (grind (arith, append-nil, levels, tokens_before, a.is_indented (ap is_empty cut),
+    low_enough text (with_sides t (f ∷ fs) (k ∷ ks)) f fs (k ∷ ks) (e ∷ es) a deep))))
   where
     levels : keyed (f ∷ fs) ≡ pair_level Keyed f ∷ fs
     levels = grind arith
