@@ -171,11 +171,7 @@ module _ (text : List ℕ) (t : ScannerState) (k : Option Key) (a : ArrivesBy te
 
   scalar_reads : Reads t after_it site_then r.piece r.next gap
   scalar_reads =
-      let far = adjacent_kept t after_it (before_by (previous_by tok)) r.piece r.next gap is_solid place a.was_adjacent refl (ap before_by n.before) in
-      let no_tabs : HasNoTabs site_then gap rest =
-      inr (rw n.before (ap not (ap (λ l. has_tab_within (least_column here.blocks ((awaits_past false tok here.blocks here.awaits r.next) || false)) l)
-      (last_whole (spaces_of r.next) (spaces_in_line r.next)) ∙ no_tab_in (least_column here.blocks ((awaits_past false tok here.blocks here.awaits r.next) || false)) r.next))) in
-      assumption (is_solid, r, spaces_cut r.next, spaces_fill r.next rest, place, (a.blocks_are ∙ closed.same_columns), n.awaits here.blocks here.awaits r.next ∙ sym closed.none_open, no_tabs, sym (ap (λ z. begins_line z gap) n.before), read_on (previous_by tok) n.before, far)
+      grind (arith, n, r, is_solid, place, closed, spaces_cut, spaces_fill, no_tab_in, last_whole, spaces_in_line, read_on, adjacent_kept t after_it (before_by (previous_by tok)) r.piece r.next gap is_solid place)
 
   pub scalar_stands : KnowsKey text (a.separation ++ t.rest) t.held.position k → Onward text t.rest after_it
   scalar_stands known = stands_so text t after_it r.piece r.next gap [] (key_now ∷ []) (with_entries site_then free []) a.is_clean a.started a.going scalar_reads (record {

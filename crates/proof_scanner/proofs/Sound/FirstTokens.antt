@@ -81,10 +81,5 @@ run_is_where text t nul run = by (reached fetch_keeps text nul (start text) t ru
     by (begins e) = grind (arith, over)
     by (goes s) =
         let c : IsCutUpTo text (s.separation ++ t.rest) s.base t.held.tokens = stands_cut text t s in
-        record {
-          going = λ _. cut_position text s.separation t.rest s.base t.held.tokens t.held.position (whole_text text nul) s.position_is c;
-          over = λ f. absurd (cc (f, s.going));
-          none = λ f. absurd (cc (f, s.started));
-          some = λ _. (ap is_empty c.are_tokens);
-        }
+        grind (arith, s, c, cut_position text s.separation t.rest s.base t.held.tokens t.held.position (whole_text text nul) s.position_is c)
     by (over f r n) = grind (arith, rows_are_cuts)

@@ -109,12 +109,7 @@ checks p piece t u in_line none is s no_hash follows =
     let cut : t.rest ≡ g ++ u.rest = s.is_rest ∙ sym (append_assoc s.blanks s.comment u.rest) in
     let here : u.held.position ≡ position_after (position_after p piece (g ++ u.rest)) g u.rest = ap (λ h. h.position) s.is_held ∙ ap (λ q. position_after q g u.rest) (is ∙ ap (λ r. position_after p piece r) cut) in
     let same_flow : in_flow u.held ≡ in_flow t.held = ap in_flow s.is_held in
-    record {
-      spaces = s;
-      may_end = rw cut
-          (may_end_by (in_flow t.held) p piece g u.rest u.held.position in_line (no_nul_after g u.rest (rw (sym cut) none)) s.is_filled s.no_break (rw (sym cut) no_hash)
-          here (rw (sym same_flow) follows));
-    }
+    record { spaces = s; may_end = grind (arith, cut, here, same_flow, no_nul_after g u.rest, may_end_by (in_flow t.held) p piece g u.rest u.held.position in_line) }
 
 pub quoted_checked : (p : Position) (piece : List ℕ) (t : ScannerState) → ends_in_line piece ≡ true → has_no_nul t.rest ≡ true → t.held.position ≡ position_after p piece t.rest → Holds (Checked piece t) (check_after_quoted p.line t)
 unfolding check_after_quoted

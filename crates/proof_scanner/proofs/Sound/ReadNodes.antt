@@ -122,17 +122,10 @@ module _ (text : List ℕ) (t : ScannerState) (level : Option FlowLevel) (k : Op
   after_by c = record { line = line_by c key_then taken; blocks = x.blocks }
 
   goes : (strict c : Bool) → MayChoose strict c key_then d.end d.rest → Goes text a.site a.separation d.piece (next_of d) d.tok x same_site strict (bit_of t.held.key_allowed c) (line_of c a.line) (line_of c a.line_here) (after_by c)
-  goes strict c may = record {
-    is_filled = rw (sym r.reads.cut) a.is_filled;
-    is_solid = r.reads.is_solid;
-    is_piece = rw (r.shown x) r.is_piece;
-    stands = stands_here text t level [] (k ∷ []) [] a d r;
-    line_is = unbroken_node text t k a within deep some d.end d.rest later strict c may;
-    after_is = ap (λ y. line_past (strict && is_in_column x.position.col x.blocks) x.position x.blocks y (bit_of t.held.key_allowed c) (line_of c a.line_here)) r.act ∙
-        line_after_node strict (is_in_column x.position.col x.blocks) t.held.key_allowed c k (new_key t) a.line_here t.held.position d.end x.blocks d.rest (line_node text t k a within deep some d.end d.rest later) refl (must_be_here text t k a within deep) may;
-    in_line = one_node text t k a within deep some d.end d.rest later d.piece (λ x y. (r.one_line x y).0) strict c may;
-    idle = λ s. (grind arith);
-  }
+  goes strict c may =
+      grind (arith, r, r.reads, a, stands_here text t level [] (k ∷ []) [] a d r, unbroken_node text t k a within deep some d.end d.rest later strict c may,
+      line_after_node strict (is_in_column x.position.col x.blocks) t.held.key_allowed c k (new_key t) a.line_here t.held.position d.end x.blocks d.rest (line_node text t k a within deep some d.end d.rest later) refl (must_be_here text t k a within deep) may,
+      one_node text t k a within deep some d.end d.rest later d.piece (λ x y. (r.one_line x y).0) strict c may)
 
   rows : (strict c : Bool) (cs : List Bool) → MayChoose strict c key_then d.end d.rest → SoFar strict text (next_of d) (chosen c cs keys_then base_then) (tokens_up_to (chosen c cs keys_then base_then) keys_then (t.held.tokens ++ (own ∷ [])))
   rows strict c cs may =
@@ -212,16 +205,8 @@ module _ (text : List ℕ) (t : ScannerState) (level : Option FlowLevel) (f : Fl
   node_inside keys =
       let n : Entry = entry_past_node t.held.key_allowed e in
       let place = here_is text t level (f ∷ fs) (k ∷ ks) (e ∷ es) a d r in
-      steps_in_flow text t (state_after t level d) f fs k ks e es a d.piece (next_of d) d.tok (with_no_key level (key_past ∷ ks)) (with_begun level (n ∷ es)) (levels_by level (f ∷ fs)) d.gap r.reads (record {
-        flow_is = ap (levels_by level) within;
-        keys_are = ap (with_no_key level) (keys_saved t k ks keys);
-        one_each = grind arith;
-        same_key = grind arith;
-        are_entries = entries_then level r.is_begun r.allowed_is;
-        line_is = grind (arith, line_taken text t f fs k ks e es a);
-        are_numbered = begun_numbered level (length (t.held.tokens ++ (shown_token ∷ []))) (key_past ∷ ks) (numbered_inside t a.tokens k ks shown_token (tokens_before text t f fs k ks e es a) a.are_numbered t.held.key_allowed);
-        in_line = λ x y. (r.one_line x y).0;
-      }) (record {
+      steps_in_flow text t (state_after t level d) f fs k ks e es a d.piece (next_of d) d.tok (with_no_key level (key_past ∷ ks)) (with_begun level (n ∷ es)) (levels_by level (f ∷ fs)) d.gap r.reads (grind (arith, keys_saved t k ks keys, within, entries_then level r.is_begun r.allowed_is, line_taken text t f fs k ks e es a, r.one_line,
+      begun_numbered level (length (t.held.tokens ++ (shown_token ∷ []))) (key_past ∷ ks) (numbered_inside t a.tokens k ks shown_token (tokens_before text t f fs k ks e es a) a.are_numbered t.held.key_allowed))) (record {
         is_piece = rw (r.shown (site_of t (f ∷ fs) a.site)) r.is_piece;
         stands = stands_here text t level (f ∷ fs) (k ∷ ks) (e ∷ es) a d r;
         choice = λ cs. choice_before t.held.key_allowed (first_choice (choices_around level cs));

@@ -81,12 +81,7 @@ white_exactly t = weakened exactly (both_hold (white_passed t) (white_read false
         let p = q.0 in
         let k = q.1 in
         let same : p.separation ≡ white_of false t.rest = append_cancel_right p.separation (white_of false t.rest) u.rest (sym p.cut ∙ (white_cut false t.rest ∙ ap (λ r. white_of false t.rest ++ r) (sym k.0))) in
-        let leads : p.is_leading ≡ (t.held.leading || has_break (white_of false t.rest)) = sym (ap (λ (v : ScannerState). v.held.leading) p.is_state) ∙ k.1 in (
-          p.is_state ∙ (ap (λ b. after_separation t.held b p.separation u.rest) leads ∙
-              (ap (λ f. after_separation t.held (t.held.leading || has_break (white_of false t.rest)) f u.rest) same ∙
-              ap (λ r. after_separation t.held (t.held.leading || has_break (white_of false t.rest)) (white_of false t.rest) r) k.0)),
-          ap (λ f. is_separation false f (past_white false t.rest)) (sym same) ∙ (ap (λ r. is_separation false p.separation r) (sym k.0) ∙ p.is_filled),
-        )
+        grind (arith, p, k, same)
 
 -- no TAB is among them but in comments
 pub no_tab_in : (in_comment : Bool) (a : List ℕ) → has_tab_before_piece in_comment (white_of in_comment a) ≡ false
