@@ -1,7 +1,7 @@
 -- Commas and closing brackets: what holds where they begin holds between two fetches after them. Outside flow they close nothing.
-use Rattle.proof_scanner.proofs.Common.{[], Act, act_of, adjacent_in_flow, another, ap, append_assoc, AreLevels, arith, Arrives, before_by, before_past, begin_flow, begins_free_line, begins_with, begun_outside, blanks_and_comment, Bool, Collection, columns, end_entry, end_flow, ends_at, ends_spaces, entries_by, Entry, eqb-true, false, fetch_flow_collection_end, fetch_flow_collection_start, fetch_flow_entry, first_entry, flow_collection, flow_end, flow_level, flow_start, FlowLevel, free, gives_closing, gives_comma, gives_node, has_no_nul, has_open_level, Held, Holds, if◌then◌else◌, in_block, in_flow, increase_flow_level, Indent, is_blank, is_deeper, is_empty, is_in_column, is_required, IsAdjacent, IsLine, IsPairOf, Key, least_for, length, level_of, Line, line_past, List, map, Mapping, nat_le, nat_lt, no_nul_after, no_pair, None, not, on_held, Option, other, pair_end, past, past_blanks_and_comment, past_line_rest, Position, position_after, position_in_line, Previous, previous_by, push, put, refl, refused, remove_implicit_key, roll_one_col_indent, ScannerState, seen, Site, site_here, site_in, Some, Step, subst, suc, sym, taken, Tok, Token, top_key, true, went, with_keys, with_top, Yes, ℕ, ◌&&◌, ◌++◌, ◌∙◌, ◌∷◌, ◌≡◌, ◌⊎◌, kind_of, length-map, inl, inr, is_break, append-nil}
+use Rattle.proof_scanner.proofs.Common.{[], Act, adjacent_in_flow, another, ap, append_assoc, AreLevels, arith, Arrives, before_by, before_past, begin_flow, begins_free_line, begins_with, blanks_and_comment, Bool, Collection, columns, end_entry, end_flow, ends_spaces, entries_by, Entry, eqb-true, false, fetch_flow_collection_end, fetch_flow_collection_start, fetch_flow_entry, first_entry, flow_collection, flow_end, flow_level, flow_start, FlowLevel, free, gives_closing, gives_comma, gives_node, has_no_nul, has_open_level, Held, Holds, if◌then◌else◌, in_block, in_flow, increase_flow_level, Indent, is_blank, is_empty, is_required, IsAdjacent, IsLine, IsPairOf, Key, least_for, length, level_of, Line, List, map, Mapping, nat_le, nat_lt, no_nul_after, no_pair, None, not, on_held, Option, other, pair_end, past, past_blanks_and_comment, past_line_rest, Position, position_after, position_in_line, Previous, previous_by, push, put, refl, refused, remove_implicit_key, roll_one_col_indent, ScannerState, seen, Site, site_here, site_in, Some, Step, subst, suc, sym, taken, Tok, Token, top_key, true, went, with_keys, with_top, Yes, ℕ, ◌++◌, ◌∙◌, ◌∷◌, ◌≡◌, ◌⊎◌, kind_of, length-map, inr, is_break, append-nil}
 use Rattle.proof_scanner.proofs.Cut.FlowEnds.{adjacent_collection, closed_tokens, ended_is, ended_now, ends_by_comma, ends_mapping, ends_sequence, entry_is, entry_now, IsEndOf}
-use Rattle.proof_scanner.proofs.Sound.Steps.{exactly, held_exactly, Onward, adjacent_kept, ArrivesBy, begins_key, by_sides, deep_for, indicator_end, indicator_passed, is_clear, IsDeep, IsRead, IsToken, key_gone, keyless, keyless_tokens, keys_along, line_rest_cut, line_rest_fills, line_rest_in_line, low_enough, many_around, next_of, node_read, numbered_then, past_it, past_rest_is_clear, past_step, quiet_before, Read, read_outside, reads_before_none, reads_in_line, same_has_break, saved_is, saved_keys, site_of, site_then, started_tokens, state_after, steps_in_flow, tokens_before, with_entries, goes_inside, line_taken, Reads}
+use Rattle.proof_scanner.proofs.Sound.Steps.{exactly, held_exactly, Onward, adjacent_kept, ArrivesBy, by_sides, deep_for, indicator_end, indicator_passed, is_clear, IsDeep, IsRead, IsToken, key_gone, keyless, keyless_tokens, keys_along, line_rest_cut, line_rest_fills, line_rest_in_line, low_enough, many_around, node_read, numbered_then, past_it, past_rest_is_clear, past_step, quiet_before, read_outside, reads_before_none, reads_in_line, same_has_break, saved_is, saved_keys, site_of, site_then, steps_in_flow, tokens_before, with_entries, goes_inside, line_taken, Reads}
 use Rattle.model_scanner.specs.State.{after}
 use Rattle.model_scanner.specs.declared.level.FlowLevel.TheVariants.{Entry as InEntry}
 use Rattle.proof_scanner.proofs.Cut.Flows.{IsOpeningOf, opening_mapping, opening_sequence}
@@ -212,21 +212,6 @@ opens_level s l = grind arith
 
 -- ---- the step
 
--- what was read
-abbrev pub opener_read : ScannerState → Tok → (c : ℕ) → (more : List ℕ) → List Indent → (indent : ℕ) → Read
-opener_read t tok c more ds i = record {
-  tok = tok;
-  piece = c ∷ [];
-  gap = blanks_and_comment more;
-  rest = past_blanks_and_comment more;
-  end = past_line_rest (past t.held.position) more;
-  indents = ds;
-  indent = i;
-  leading = false;
-  allowed = true;
-  adjacent = t.held.adjacent_value_at;
-}
-
 less : (m n : ℕ) → m ≡ n → nat_le 255 m ≡ false → nat_lt n 255 ≡ true
 less m n same h = grind arith
 
@@ -234,28 +219,34 @@ less m n same h = grind arith
 abbrev pub with_key : Held → Held
 with_key s = record s { keys = saved_keys s }
 
-pub opener_is_read : (text more : List ℕ) (lv : FlowLevel) (tok : Tok) (c : ℕ) → IsOpener lv tok c → (t : ScannerState) (u : Held) (r : OpensLevel (with_key t.held) u) → t.rest ≡ c ∷ more → IsDeep t.held → begins_with 35 more ≡ false → nat_le 255 (length t.held.flow) ≡ false →
-    (fs : List FlowLevel) (ks : List (Option Key)) (es : List Entry) → t.held.flow ≡ fs → (a : ArrivesBy text t fs ks es) → IsRead t (Some lv) fs a.site a.line es a.separation (opener_read t tok c more r.indents r.indent)
-opener_is_read text more lv tok c o t u r e deep hash few fs ks es flow a =
-    let d : Read = opener_read t tok c more r.indents r.indent in
-    let fl : Bool = not (is_empty fs) in
-    let x : Site = site_of t fs a.site in
-    let cut : more ≡ next_of d = line_rest_cut more in
-    let stays = ap (λ q. q.line) (sym (position_in_line (past t.held.position) (blanks_and_comment more) [] (line_rest_in_line more))) in
-    let reads : Reads t (state_after t (Some lv) d) (site_then t fs a.site d) (c ∷ []) (next_of d) d.gap =
-    reads_before_none t (state_after t (Some lv) d) (site_then t fs a.site d) (c ∷ []) (next_of d) d.gap refl (e ∙ ap (λ l. c ∷ l) cut) refl (line_rest_fills more) (line_rest_in_line more) refl
-          (indicator_end t.held.position c more o.is_opening.in_line ∙ ap (λ l. position_after (position_after t.held.position (c ∷ []) l) d.gap d.rest) cut) refl o.previous (a.blocks_are ∙ sym r.columns_are)
-          ((grind arith) ∙ (ap (λ b. if fl then b else not (is_empty x.blocks)) a.awaits_is ∙ (ap (λ bs. if fl then has_open_level t.held.indents else not (is_empty bs)) a.blocks_are ∙
-          (ap (λ f. if not (is_empty f) then has_open_level t.held.indents else not (is_empty (columns t.held.indent t.held.indents))) (sym flow) ∙ sym r.awaits)))) r.are_levels a.was_adjacent (refl, refl, refl) in
-    grind (arith, reads, o, o.is_opening, stays, deep_for, line_rest_in_line, hash,
-    o.is_opening.piece (seen (with_entries a.site a.line es) x a.separation) (next_of d) None
-          (less (length fs) (length (map level_of es)) ((grind (arith, many_around, eqb-true)) ∙ sym (length-map es level_of)) (ap (λ f. nat_le 255 (length f)) (sym flow) ∙ few)))
-
--- ---- the function of the model that reads an opening bracket keeps what holds where it begins
-
 -- in a flow level more, with these levels of indentation
 abbrev pub begun_now : FlowLevel → Held → List Indent → ℕ → Held
 begun_now lv s ds i = record s { keys = None ∷ saved_keys s; flow = lv ∷ s.flow; key_allowed = true; indents = ds; indent = i }
+
+-- the scanner after it
+abbrev pub past_opener : ScannerState → FlowLevel → Tok → (more : List ℕ) → List Indent → ℕ → ScannerState
+past_opener t lv tok more ds i = on_held (push t.held.position tok) (past_it (record t { held = begun_now lv t.held ds i }) more)
+
+pub opener_is_read : (text more : List ℕ) (lv : FlowLevel) (tok : Tok) (c : ℕ) → IsOpener lv tok c → (t : ScannerState) (h : Held) (r : OpensLevel (with_key t.held) h) → t.rest ≡ c ∷ more → IsDeep t.held → begins_with 35 more ≡ false → nat_le 255 (length t.held.flow) ≡ false →
+    (fs : List FlowLevel) (ks : List (Option Key)) (es : List Entry) → t.held.flow ≡ fs → (a : ArrivesBy text t fs ks es) →
+    IsRead t (past_opener t lv tok more r.indents r.indent) (Some lv) fs a.site a.line es a.separation tok (c ∷ []) (blanks_and_comment more)
+opener_is_read text more lv tok c o t h r e deep hash few fs ks es flow a =
+    let next : List ℕ = blanks_and_comment more ++ past_blanks_and_comment more in
+    let u : ScannerState = past_opener t lv tok more r.indents r.indent in
+    let fl : Bool = not (is_empty fs) in
+    let x : Site = site_of t fs a.site in
+    let cut : more ≡ next = line_rest_cut more in
+    let stays = ap (λ q. q.line) (sym (position_in_line (past t.held.position) (blanks_and_comment more) [] (line_rest_in_line more))) in
+    let reads : Reads t u (site_then t fs a.site (c ∷ []) tok next) (c ∷ []) next (blanks_and_comment more) =
+    reads_before_none t u (site_then t fs a.site (c ∷ []) tok next) (c ∷ []) next (blanks_and_comment more) refl (e ∙ ap (λ l. c ∷ l) cut) refl (line_rest_fills more) (line_rest_in_line more) refl
+    (indicator_end t.held.position c more o.is_opening.in_line ∙ ap (λ l. position_after (position_after t.held.position (c ∷ []) l) (blanks_and_comment more) u.rest) cut) refl o.previous (a.blocks_are ∙ sym r.columns_are)
+    ((grind arith) ∙ (ap (λ b. if fl then b else not (is_empty x.blocks)) a.awaits_is ∙ (ap (λ bs. if fl then has_open_level t.held.indents else not (is_empty bs)) a.blocks_are ∙
+    (ap (λ f. if not (is_empty f) then has_open_level t.held.indents else not (is_empty (columns t.held.indent t.held.indents))) (sym flow) ∙ sym r.awaits)))) r.are_levels a.was_adjacent (refl, refl, refl) in
+    grind (arith, reads, o, o.is_opening, stays, deep_for, line_rest_in_line, hash,
+    o.is_opening.piece (seen (with_entries a.site a.line es) x a.separation) next None
+    (less (length fs) (length (map level_of es)) ((grind (arith, many_around, eqb-true)) ∙ sym (length-map es level_of)) (ap (λ f. nat_le 255 (length f)) (sym flow) ∙ few)))
+
+-- ---- the function of the model that reads an opening bracket keeps what holds where it begins
 
 flow_begun : (kind : Collection) (s : Held) (ds : List Indent) (i : ℕ) → roll_one_col_indent (with_key s) ≡ record (with_key s) { indents = ds; indent = i } → Holds (λ u. (u ≡ begun_now (flow_level kind) s ds i) × (nat_le 255 (length s.flow) ≡ false)) (begin_flow kind s)
 unfolding begin_flow increase_flow_level
@@ -267,4 +258,4 @@ unfolding fetch_flow_collection_start
 opening_keeps text more kind c o t e deep a =
     let r : OpensLevel (with_key t.held) (roll_one_col_indent (with_key t.held)) = opens_level (with_key t.held) a.are_levels in
     exactly _ (held_exactly t (flow_begun kind t.held r.indents r.indent r.is_held)) (λ few. exactly _ (indicator_passed _ more (ap after e)) (λ hash. went
-    (node_read text t (Some (flow_level kind)) (opener_read t (flow_start kind) c more r.indents r.indent) deep a (opener_is_read text more (flow_level kind) (flow_start kind) c o t _ r e deep hash few))))
+    (node_read text t _ (Some (flow_level kind)) (flow_start kind) (c ∷ []) (blanks_and_comment more) deep a (opener_is_read text more (flow_level kind) (flow_start kind) c o t _ r e deep hash few))))

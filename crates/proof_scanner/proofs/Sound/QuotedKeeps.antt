@@ -5,7 +5,7 @@ use Rattle.model_scanner.specs.Machine as machine
 use Rattle.proof_lexers.specs.PlainEnds as plains
 use Rattle.proof_lexers.proofs.Quoted.ScanEnds.{scans_end}
 use Rattle.proof_scanner.proofs.Cut.Pieces.Quoted.{some_chars}
-use Rattle.proof_scanner.proofs.Sound.Steps.{ArrivesBy, Checked, Cleared, Exact, IsAt, IsDeep, IsRead, IsToken, Onward, Read, break_append, deep_for, ends_in_line, exact, least_is, next_of, node_read, not_before_after, on_one_line, quoted_checked, same_has_break, saved_is, saved_keys, separation_append, site_of, site_then, skip_clears, some_levels, unbroken}
+use Rattle.proof_scanner.proofs.Sound.Steps.{ArrivesBy, Checked, Cleared, Exact, IsAt, IsDeep, IsRead, IsToken, Onward, break_append, deep_for, ends_in_line, exact, least_is, node_read, not_before_after, on_one_line, quoted_checked, same_has_break, saved_is, saved_keys, separation_append, site_of, site_then, skip_clears, some_levels, unbroken}
 use Rattle.proof_scanner.proofs.Cut.Scalars.{adjacent_quoted}
 use Rattle.proof_lexers.proofs.Bridges.{or_false}
 use Rattle.proof_scanner.proofs.Sound.QuotedBreaks.{same_limit}
@@ -104,19 +104,9 @@ module _ (text : List ℕ) (quotes : Quotes) (t : ScannerState) (a : Arrives tex
       end_is : end ≡ position_after (position_after t.held.position piece (gap ++ w.rest)) gap w.rest
       end_is = ap (λ p. position_after p gap w.rest) (q.end_is ∙ ap (λ r. position_after t.held.position piece r) (c.spaces.is_rest ∙ (sym (append_assoc c.spaces.blanks c.spaces.comment v.rest) ∙ (ap (λ r. spaces ++ r) b.cut ∙ sym (append_assoc spaces b.separation w.rest)))))
 
-      abbrev d : Read
-      d = record {
-        tok = tok;
-        piece = piece;
-        gap = gap;
-        rest = w.rest;
-        end = end;
-        indents = t.held.indents;
-        indent = t.held.indent;
-        leading = b.is_leading;
-        allowed = allowed_then;
-        adjacent = end.index;
-      }
+      -- the scanner after it
+      abbrev u : ScannerState
+      u = record { rest = w.rest; held = push t.held.position tok (record closed.held { position = end; leading = b.is_leading; key_allowed = allowed_then; adjacent_value_at = end.index }) }
 
       leads : is_empty t.held.indents ≡ false → is_empty w.rest ≡ false → b.is_leading ≡ has_break gap
       leads i some = sym (ap (λ h. h.leading) held_is) ∙ (at_token some).leading_is (ap (λ h. is_empty h.indents) held_is ∙ i)
@@ -136,10 +126,10 @@ module _ (text : List ℕ) (quotes : Quotes) (t : ScannerState) (a : Arrives tex
         abbrev fl : Bool
         fl = not (is_empty fs)
 
-        no_tabs : HasNoTabs (site_then t fs r.site d) gap w.rest
-        no_tabs = grind (arith, k, or_false, (k.awaits fl at.blocks at.awaits (next_of d)), (ap (λ bs. least_column bs at.awaits) r.blocks_are ∙ ap (λ y. least_column (columns t.held.indent t.held.indents) y) r.awaits_is), at_token)
+        no_tabs : HasNoTabs (site_then t fs r.site piece tok (gap ++ w.rest)) gap w.rest
+        no_tabs = grind (arith, k, or_false, (k.awaits fl at.blocks at.awaits (gap ++ w.rest)), (ap (λ bs. least_column bs at.awaits) r.blocks_are ∙ ap (λ y. least_column (columns t.held.indent t.held.indents) y) r.awaits_is), at_token)
 
-        is_read : IsRead t None fs r.site r.line es r.separation d
+        is_read : IsRead t u None fs r.site r.line es r.separation tok piece gap
         is_read = grind (
           arith,
           nat_tests,
@@ -147,7 +137,7 @@ module _ (text : List ℕ) (quotes : Quotes) (t : ScannerState) (a : Arrives tex
           (c.spaces.is_rest ∙ (sym (append_assoc c.spaces.blanks c.spaces.comment v.rest) ∙ (ap (λ r. spaces ++ r) b.cut ∙ sym (append_assoc spaces b.separation w.rest)))),
           (separation_append false spaces b.separation w.rest (rw (sym b.cut) c.spaces.is_filled) b.is_filled),
           end_is,
-          (k.awaits fl at.blocks at.awaits (next_of d)),
+          (k.awaits fl at.blocks at.awaits (gap ++ w.rest)),
           no_tabs,
           k,
           leads,
@@ -163,8 +153,7 @@ module _ (text : List ℕ) (quotes : Quotes) (t : ScannerState) (a : Arrives tex
         )
 
       node : Onward text t.rest (on_held (λ s. push t.held.position tok (adjacent_here s)) w)
-      node = rw held_is
-          (node_read text t None d deep a is_read)
+      node = rw held_is (node_read text t u None tok piece gap deep a is_read)
 
 -- `'` or `"`
 pub quoted_keeps : (text : List ℕ) (quotes : Quotes) (t : ScannerState) (more : List ℕ) → t.rest ≡ quote_of (are_single quotes) ∷ more → IsDeep t.held → Arrives text t → Holds (Onward text t.rest) (fetch_flow_scalar quotes t)

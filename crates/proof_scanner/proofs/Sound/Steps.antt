@@ -3,7 +3,7 @@ pub use Rattle.proof_scanner.proofs.Sound.Common.{IsToken, after_piece, all_go_o
 pub use Rattle.proof_scanner.proofs.Sound.Reads.{adjacent_kept, exactly, held_exactly, Onward, quiet_before, Reads, reads_before_none, reads_in_line, stands_so}
 pub use Rattle.proof_scanner.proofs.Sound.OutsidePieces.{begun_after, ends_outside, key_gone, line_free, read_outside, started_tokens, with_start}
 pub use Rattle.proof_scanner.proofs.Sound.InFlow.{goes_inside, keyless_tokens, low_enough, numbered_then, steps_in_flow}
-pub use Rattle.proof_scanner.proofs.Sound.ReadNodes.{allowed_past, IsRead, next_of, node_read, Read, site_of, site_then, state_after}
+pub use Rattle.proof_scanner.proofs.Sound.ReadNodes.{allowed_past, IsRead, node_read, site_of, site_then}
 pub use Rattle.proof_scanner.proofs.Sound.Rolled.{opens_none, opens_one, OpensOne, rolls_to, RollsTo, some_levels, top_closed}
 pub use Rattle.proof_scanner.proofs.Known.Steps.{begins_key, is_of_node, keyless, knows_saved, known_at_start, known_past}
 pub use Rattle.proof_scanner.proofs.Sound.Passed.{Exact, exact, least_is, same_has_break, free_line_append, goes_on, live_before_it, may_before, read_on_append, renewed_alike, skip_stays}
