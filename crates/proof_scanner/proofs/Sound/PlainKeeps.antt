@@ -105,15 +105,7 @@ module _ (text : List ℕ) (t : ScannerState) (a : Arrives text t) (deep : IsDee
       least_here = ap (λ bs. least_column bs true) (r.blocks_are ∙ closed.same_columns) ∙ closed.is_least.1
 
       piece_is : IsPiece own q.piece (q.gap ++ x.rest) None t.held.position tok
-      piece_is = (
-        (
-          (ap (begins_plain (is_in_flow own) (is_adjacent own.before) own.position.col) (sym q.cut) ∙ (ap (λ f. begins_plain f (is_adjacent own.before) own.position.col t.rest) own_flow ∙ begins_as_read ctx (is_adjacent own.before) t.rest t.held.position x (grind arith) scanned)),
-          ap
-              (λ f. is_whole_plain f (collection_column own) q.piece (q.gap ++ x.rest)) own_flow ∙ (ap (λ c. is_whole_plain (in_flow t.held) c q.piece (q.gap ++ x.rest)) (same_innermost at.blocks ∙ (ap innermost (r.blocks_are ∙ closed.same_columns) ∙ sym closed.is_least.0)) ∙ q.whole),
-          q.value_is,
-        ),
-        refl,
-      )
+      piece_is = grind (arith, own_flow, q, same_innermost at.blocks, closed, begins_as_read ctx (is_adjacent own.before) t.rest t.held.position x, scanned)
 
       deep_by : (f : Bool) → f ≡ in_flow t.held → is_deep_enough f tok at ≡ true
       deep_by a h = grind (arith, nat_tests, eqb-true, q, least_here)

@@ -101,8 +101,11 @@ module _ (text : List ℕ) (quotes : Quotes) (t : ScannerState) (a : Arrives tex
       at_token : is_empty w.rest ≡ false → IsAt quoted_scalar least gap w.held
       at_token some = rw (sym (append_cancel_right z.passed b.separation w.rest (sym z.cut ∙ b.cut))) (z.clear some)
 
+      next_is : x.rest ≡ gap ++ w.rest
+      next_is = c.spaces.is_rest ∙ (sym (append_assoc c.spaces.blanks c.spaces.comment v.rest) ∙ (ap (λ r. spaces ++ r) b.cut ∙ sym (append_assoc spaces b.separation w.rest)))
+
       end_is : end ≡ position_after (position_after t.held.position piece (gap ++ w.rest)) gap w.rest
-      end_is = ap (λ p. position_after p gap w.rest) (q.end_is ∙ ap (λ r. position_after t.held.position piece r) (c.spaces.is_rest ∙ (sym (append_assoc c.spaces.blanks c.spaces.comment v.rest) ∙ (ap (λ r. spaces ++ r) b.cut ∙ sym (append_assoc spaces b.separation w.rest)))))
+      end_is = ap (λ p. position_after p gap w.rest) (q.end_is ∙ ap (λ r. position_after t.held.position piece r) next_is)
 
       -- the scanner after it
       abbrev u : ScannerState
@@ -126,31 +129,16 @@ module _ (text : List ℕ) (quotes : Quotes) (t : ScannerState) (a : Arrives tex
         abbrev fl : Bool
         fl = not (is_empty fs)
 
+        least_here : least_column at.blocks at.awaits ≡ least
+        least_here = ap (λ bs. least_column bs at.awaits) r.blocks_are ∙ ap (λ y. least_column (columns t.held.indent t.held.indents) y) r.awaits_is
+
         no_tabs : HasNoTabs (site_then t fs r.site piece tok (gap ++ w.rest)) gap w.rest
-        no_tabs = grind (arith, k, or_false, (k.awaits fl at.blocks at.awaits (gap ++ w.rest)), (ap (λ bs. least_column bs at.awaits) r.blocks_are ∙ ap (λ y. least_column (columns t.held.indent t.held.indents) y) r.awaits_is), at_token)
+        no_tabs = grind (arith, k, or_false, k.awaits fl at.blocks at.awaits (gap ++ w.rest), least_here, at_token)
 
         is_read : IsRead t u None fs r.site r.line es r.separation tok piece gap
-        is_read = grind (
-          arith,
-          nat_tests,
-          eqb-true,
-          (c.spaces.is_rest ∙ (sym (append_assoc c.spaces.blanks c.spaces.comment v.rest) ∙ (ap (λ r. spaces ++ r) b.cut ∙ sym (append_assoc spaces b.separation w.rest)))),
-          (separation_append false spaces b.separation w.rest (rw (sym b.cut) c.spaces.is_filled) b.is_filled),
-          end_is,
-          (k.awaits fl at.blocks at.awaits (gap ++ w.rest)),
-          no_tabs,
-          k,
-          leads,
-          some_levels,
-          adjacent_quoted,
-          piece_is,
-          deep_for,
-          (ap (λ bs. least_column bs at.awaits) r.blocks_are ∙ ap (λ y. least_column (columns t.held.indent t.held.indents) y) r.awaits_is),
-          (ap (λ f. not (is_empty f)) flow),
-          or_false,
-          (break_append spaces b.separation ∙ (ap (λ y. y || has_break b.separation) no_break ∙ sym (same_has_break b.separation))),
-          one_line_of,
-        )
+        is_read = grind (arith, nat_tests, eqb-true, next_is, end_is, k.awaits fl at.blocks at.awaits (gap ++ w.rest), no_tabs, k, leads, some_levels, adjacent_quoted, piece_is,
+            deep_for, least_here, ap (λ f. not (is_empty f)) flow, or_false, one_line_of, separation_append false spaces b.separation w.rest (rw (sym b.cut) c.spaces.is_filled) b.is_filled,
+            break_append spaces b.separation ∙ (ap (λ y. y || has_break b.separation) no_break ∙ sym (same_has_break b.separation)))
 
       node : Onward text t.rest (on_held (λ s. push t.held.position tok (adjacent_here s)) w)
       node = rw held_is (node_read text t u None tok piece gap deep a is_read)
