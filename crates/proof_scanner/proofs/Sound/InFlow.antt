@@ -117,18 +117,7 @@ module _ (text : List ℕ) (t : ScannerState) (f : FlowLevel) (fs : List FlowLev
       with_keys 1 a.site.position (w ∷ ws) last a.site.blocks l xs ks (a.tokens ++ tokens_inside (site_here true t.held.position a.site) piece tok next e))
   keyless_tokens l xs ws last h =
       let w : Step = keyless a.separation piece tok in
-      let x : Site = at_text (spelled ws last) in
-      let single : Bool = takes_pair e.kind e.pair in
-      let own : List Token = tokens_inside (site_here true t.held.position a.site) piece tok next e in
-      let there : Position = pair_position (position_after x.position piece (spelled ws last)) (spelled ws last) in
-      let first : with_had (colon_of 0 a.site.position (w ∷ ws) last) single (had_by false k e.had) k a.tokens ≡ a.tokens = rw (had_as_it_was k e.had) (grind arith) in
-      let second : tokens_at a.site x w ws last l (entry_by false k e ∷ xs) ≡ own =
-      ap (λ y. y ++ (put (shown_position x piece tok (spelled ws last)) tok ∷ []))
-      ((grind arith) ∙ ap (λ y. begun_inside single e.pair x.position there there (act_of tok) false y) (had_as_it_was k e.had)) ∙
-      (ap (λ y. tokens_inside (at_text y) piece tok y e) h ∙ ap (λ q. tokens_inside (site_here true q a.site) piece tok next e) (sym (a.position_is ∙ ap (λ y. position_after a.site.position a.separation y) cut))) in
-      keys_own 0 a.site.position (w ∷ ws) last a.site.blocks l (entry_by false k e) xs k ks a.tokens (tokens_at a.site x w ws last l (entry_by false k e ∷ xs))
-      (among (length a.tokens) (k ∷ ks) a.are_numbered) ∙
-      ap (λ ts. with_keys 1 a.site.position (w ∷ ws) last a.site.blocks l xs ks ts) (cc (first, second))
+      grind (arith, had_as_it_was, keys_own 0 a.site.position (w ∷ ws) last a.site.blocks l (entry_by false k e) xs k ks a.tokens, among (length a.tokens) (k ∷ ks) a.are_numbered, a.position_is, cut)
 
 module _ (text : List ℕ) (t u : ScannerState) (f g : FlowLevel) (fs : List FlowLevel) (k : Option Key) (ks : List (Option Key)) (e e2 : Entry) (es : List Entry) (a : ArrivesBy text t (f ∷ fs) (k ∷ ks) (e ∷ es)) (piece next : List ℕ) (tok : Tok) where
   abbrev at_piece : Site

@@ -256,15 +256,7 @@ starts_deep ctx a p h f = grind (arith, at)
 of_passed : (ctx : Context) (p : Position) (text piece gap rest : List ℕ) → text ≡ piece ++ (gap ++ rest) → (ctx.flow ≡ true → ctx.indent ≤ p.col) → Passed ctx.indent ctx.flow in_text false text rest → PlainFits ctx p piece gap rest
 of_passed ctx p text piece gap rest cut deep w =
     let same : w.passed ≡ piece ++ gap = append_cancel_right w.passed (piece ++ gap) rest (sym w.cut ∙ (cut ∙ sym (append_assoc piece gap rest))) in
-    let tabs : tabs_fit ctx.indent in_text (piece ++ gap) rest ≡ true = rw (sym same) w.tabs_are in
-    let dashes : dashes_fit ctx.flow false (piece ++ gap) rest ≡ true = rw (sym same) w.dashes_are in
-    let after : (y : Spot) × (tabs_fit ctx.indent y gap rest ≡ true) = gap_spot ctx.indent in_text piece gap rest tabs in
-    record {
-      deep = deep;
-      lines = lines_fit ctx.indent in_text piece gap rest tabs;
-      dash = no_last_dash ctx.flow false piece gap rest dashes;
-      clear = λ white breaks. broken_gap ctx.indent after.0 gap rest white breaks after.1;
-    }
+    grind (arith, deep, w, gap_spot ctx.indent in_text piece gap rest, lines_fit ctx.indent in_text piece gap rest, no_last_dash ctx.flow false piece gap rest, broken_gap ctx.indent)
 
 pub plain_fits : (ctx : Context) (p : Position) (text piece gap : List ℕ) (r : Read Plain) → begins_solid text ≡ true → text ≡ piece ++ (gap ++ r.rest) → plain ctx text p ≡ Ok r → PlainFits ctx p piece gap r.rest
 unfolding plain
