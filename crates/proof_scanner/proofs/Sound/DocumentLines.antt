@@ -73,7 +73,7 @@ all_ended s = record s { indent = 0; indents = []; tokens = s.tokens ++ ends_of 
 
 pub unrolled_outside : (s : Held) → in_flow s ≡ false → AreLevels s.indent s.indents → unroll_indent 0 s ≡ all_ended s
 unfolding unroll_indent
-unrolled_outside s e a = rw e (ap (λ (u : Levels). record s { indent = u.indent; indents = u.indents; tokens = u.tokens }) (all_levels s.position s.indent s.indents s.tokens a))
+unrolled_outside s e a = grind (arith, all_levels)
 
 -- ---- outside flow
 

@@ -8,14 +8,12 @@ use Rattle.std.proofs.Math.Seq.{take-append_seam, take-nil}
 
 -- the first of a row spell the text before that of the others
 spelled_first : (n : ℕ) (ws : List Written) (f : List ℕ) → spelled (take n ws) (spelled (drop n ws) f) ≡ spelled ws f
-spelled_first zero ws f = refl
-spelled_first (suc n) [] f = refl
 spelled_first (suc n) (w ∷ ws) f = ap (λ l. w.separation ++ (w.piece ++ l)) (spelled_first n ws f)
+spelled_first n ws f = grind arith
 
 tokens_first : (n : ℕ) (ws : List Written) → take n (tokens_of ws) ≡ tokens_of (take n ws)
-tokens_first zero ws = refl
-tokens_first (suc n) [] = refl
 tokens_first (suc n) (w ∷ ws) = ap (λ ts. w.token ∷ ts) (tokens_first n ws)
+tokens_first n ws = grind arith
 
 -- a row up to one of its tokens
 row_first : (n : ℕ) (a : Account) (ws : List Written) (f : List ℕ) (last : Option Tok) → IsRow a ws f last →

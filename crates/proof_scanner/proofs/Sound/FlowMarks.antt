@@ -122,7 +122,7 @@ module _ (text more : List ℕ) (tok : Tok) (c : ℕ) (i : IsCloser true tok c) 
 
   -- where a colon may stand next
   adjacent_after : is_empty fs ≡ false → IsAdjacent (before_past (before_by (previous_by tok)) gap) end past_closer.held.adjacent_value_at left
-  adjacent_after some = rw (i.previous, some) (adjacent_collection end gap left (line_rest_fills more) (same_has_break gap ∙ ap not (line_rest_in_line more)) (clear_ends left (past_rest_is_clear more)) clean)
+  adjacent_after some = grind (arith, i, adjacent_collection end gap left (line_rest_fills more), same_has_break, line_rest_in_line, clear_ends left (past_rest_is_clear more), clean)
 
   -- What holds between two fetches holds after it.
   pub closer_stands : Onward text t.rest past_closer

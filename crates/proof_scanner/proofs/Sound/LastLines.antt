@@ -69,13 +69,11 @@ no_comment_in_last g rest h ends = (both g).0 h
 
 -- a character other than a TAB, or one after these columns, adds none
 pub tab_within_more : (n : ℕ) (l : List ℕ) (c : ℕ) → ((9 == c) ≡ false) ⊎ (n ≤ length l) → has_tab_within n l ≡ false → has_tab_within n (l ++ c ∷ []) ≡ false
-tab_within_more n l c (inr deep) h = ap (λ x. is_one_of x 9) (take-append-le n l (c ∷ []) deep) ∙ h
-tab_within_more n l c (inl other) h = go n l h
+tab_within_more n l c a h = grind (arith, take-append-le, take-nil, go n l h)
   where
-    go : (n : ℕ) (l : List ℕ) → is_one_of (take n l) 9 ≡ false → is_one_of (take n (l ++ c ∷ [])) 9 ≡ false
-    go zero l h = refl
-    go (suc n) [] h = rw (other, take-nil n) refl
-    go (suc n) (x ∷ l) h = grind (arith, go n l)
+    go : (n : ℕ) (l : List ℕ) → is_one_of (take n l) 9 ≡ false → (9 == c) ≡ false → is_one_of (take n (l ++ c ∷ [])) 9 ≡ false
+    go (suc n) (x ∷ l) h e = grind (arith, go n l)
+    go n l h e = grind (arith, take-nil)
 
 -- ---- tABs among the blanks of a line, left of a column
 

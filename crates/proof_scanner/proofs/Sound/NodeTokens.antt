@@ -71,9 +71,7 @@ longer [] (suc n) t = refl
 longer (x ∷ ts) (suc n) t = ap suc (longer ts n t)
 
 key_first : (b : Bool) (start : Token) (n : ℕ) (here : Position) (ts us : List Token) → n ≤ length ts → put_key b start n here (ts ++ us) ≡ put_key b start n here ts ++ us
-key_first b start n here ts us h =
-    let l = longer ts n (put here key) in
-    ap (λ x. put_if b n start x) (insert-append_left ts us n (put here key) h) ∙ (grind (arith, insert-append_left))
+key_first b start n here ts us h = grind (arith, longer, insert-append_left)
 
 if_longer : (b : Bool) (ts : List Token) (n : ℕ) (t : Token) → length ts ≤ length (put_if b n t ts)
 if_longer a ts n t = grind (arith, longer)

@@ -103,11 +103,11 @@ module _ (ctx : Context) (start : Position) (c : ℕ) (a : List ℕ) where
   -- the dash that is looked for before a scalar goes on
   pub dash_is : (ctx.flow && true && (c == 45) && begins_flow a) ≡ at_dash ctx.flow (c ∷ a)
   unfolding at_dash model_classes.is_flow
-  dash_is = ap (λ b. b && (c == 45) && begins_flow a) (grind arith) ∙ ap (λ b. ctx.flow && (c == 45) && b) (sym (same_flow_start a))
+  dash_is = grind (arith, same_flow_start)
 
   pub turn_goes : (m : Mode) (s : PlainState) → IsCalm m s.folded.leading → Goes m s (turn_in ctx start m s c a)
   unfolding is_break is_blank goes_on
-  turn_goes a s l = grind (arith, eqb-true, on, stop, char_inside, stays, char_between, dash_is, tabs, fail, feed_breaks, between, break_leads, goes, fails)
+  turn_goes a s l = grind (arith, eqb-true, on, stop, stays, dash_is, tabs, fail, feed_breaks, between, break_leads, goes, fails, no_spot)
 
 -- ---- a run
 
@@ -191,10 +191,10 @@ module _ (column : ℕ) (c : ℕ) (r : List ℕ) where
     split_is = rw no_break refl
 
     pub first_is : first_line (c ∷ r) ≡ c ∷ first_line r
-    first_is = ap (λ s. first_of s.complete s.last) split_is ∙ (grind arith)
+    first_is = grind (arith, split_is)
 
     pub others_are : plain_lines_fit column (c ∷ r) ≡ plain_lines_fit column r
-    others_are = ap (λ s. lines_have_no_tab column (after_first s.complete s.last)) split_is ∙ ap (λ ls. lines_have_no_tab column ls) (put_first_others c (split r).complete (split r).last)
+    others_are = grind (arith, split_is, put_first_others)
 
     -- a blank more, which is no TAB left of the column
     blank_line : (k : ℕ) → classes.is_blank c ≡ true → ((c == 9) && nat_lt k column) ≡ false → (l : List ℕ) → line_is (suc k) column l ≡ true → line_is k column (c ∷ l) ≡ true

@@ -38,11 +38,7 @@ blanks_and_comment (c ∷ s) next f h = grind (arith, blanks_and_comment s next)
 -- before what does not end the line it is blanks alone
 pub blanks_alone : (in_comment : Bool) (s next : List ℕ) → is_separation in_comment s next ≡ true → plains.has_break s ≡ false → is_at_line_end next ≡ false → (in_comment ≡ false) × (is_blanks s ≡ true)
 blanks_alone a [] next f h e = grind arith
-blanks_alone true (c ∷ s) next f h e = grind (arith, blanks_alone true s next)
-blanks_alone false (c ∷ s) next f h e = (refl, by (is_blank c) (is_break c) (c == 35) f h (λ n g i. blanks_alone n s next g i e))
-  where
-    by : (b k n : Bool) → ((b || k || n) && is_separation n s next) ≡ true → (k || plains.has_break s) ≡ false → ((n : Bool) → is_separation n s next ≡ true → plains.has_break s ≡ false → (n ≡ false) × (is_blanks s ≡ true)) → (b && is_blanks s) ≡ true
-    by b a n f h d = grind arith
+blanks_alone a (c ∷ s) next f h e = grind (arith, blanks_alone true s next, blanks_alone false s next)
 
 -- up to the line's end
 pub leading_line : (s next : List ℕ) → plains.has_break s ≡ false → is_at_line_end next ≡ true → has_no_nul next ≡ true → leading is_on_line (s ++ next) ≡ s

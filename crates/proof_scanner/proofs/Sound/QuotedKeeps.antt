@@ -36,11 +36,11 @@ quoted_as quotes ctx p more x none e =
 -- a quote is no break
 pub in_line : (single : Bool) (body : List ℕ) → ends_in_line (piece_of single body) ≡ true
 unfolding is_break
-in_line single body = last (quote_of single) (quote_of single) body (grind arith)
+in_line single body = last (quote_of single) body
   where
-    last : (c q : ℕ) (r : List ℕ) → not (is_break q) ≡ true → ends_in_line (c ∷ (r ++ q ∷ [])) ≡ true
-    last c q [] h = h
-    last c q (d ∷ r) h = last d q r h
+    last : (c : ℕ) (r : List ℕ) → ends_in_line (c ∷ (r ++ quote_of single ∷ [])) ≡ true
+    last c [] = grind arith
+    last c (d ∷ r) = last d r
 
 -- ---- its token
 

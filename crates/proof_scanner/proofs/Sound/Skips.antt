@@ -60,7 +60,7 @@ module _ (before : Previous) (least : ℕ) where
   -- ---- each character
 
   pub no_end : (c : ℕ) (a : List ℕ) → is_break c ≡ false → (c == 35) ≡ false → is_at_comment_or_end (c ∷ a) ≡ false
-  no_end c a e f = rw (same_break c, e, f) refl
+  no_end c a e f = grind (arith, same_break)
 
   -- How something is told of the way to the next token, with what was passed before: it goes on over each character, and holds where the way ends; and what is known of a line that a TAB indents.
   pub record SkipsBy (Q : (g a : List ℕ) → Held → Result ScannerState Fault → Type 0) (Tabbed : List ℕ → Type 0) : Type 0 where

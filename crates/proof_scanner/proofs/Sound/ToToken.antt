@@ -18,7 +18,7 @@ is_in text t s begins = grind (arith, no_comment_in_last, column_after, last_who
 
 among : (f p : List ℕ) (c : ℕ) → (c == 35) ≡ true → is_one_of (f ++ c ∷ p) 35 ≡ true
 among [] p c h = grind arith
-among (d ∷ f) p c h = rw (among f p c h) (or-true (35 == d))
+among (d ∷ f) p c h = grind (arith, among f p c)
 
 -- where a separation was passed, it is none that follows a plain scalar without a comment
 no_plain : (b : Previous) (q : Position) (f g rest rest2 : List ℕ) → rest ≡ g ++ rest2 → IsReadOn b q f rest → begins_separation rest ≡ true → begins_separation rest2 ≡ false → is_separation false g rest2 ≡ true → follows_plain b (f ++ g) ≡ false

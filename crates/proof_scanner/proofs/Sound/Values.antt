@@ -113,7 +113,7 @@ module _ (text more : List ℕ) (t : ScannerState) (k : Key) (a : ArrivesBy text
   x = site_here false t.held.position a.site
 
   same_site : site_at false a.site a.separation (58 ∷ []) Tok.value more ≡ x
-  same_site = ap (λ q. site_here false q a.site) (sym (a.position_is ∙ ap (λ y. position_after a.site.position a.separation y) e))
+  same_site = grind (arith, a.position_is, e)
 
   live : IsLive k t.held.position t.rest
   live = ((a.is_near refl).0, (ap is_empty e))
