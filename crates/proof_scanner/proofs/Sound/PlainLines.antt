@@ -90,14 +90,6 @@ module _ (ctx : Context) (start : Position) (c : ℕ) (a : List ℕ) where
       unfolding is_blank
       no_spot a h = grind (arith, breaks, solid)
 
-      -- one more character of a line
-      char_inside : (s : PlainState) → s.folded.leading ≡ false → Goes inside s (on (at_char c s.position s.folded))
-      char_inside s l = goes _ l refl (inl (sym (no_spot in_text refl))) (grind arith) (rw (breaks, solid) refl)
-
-      -- the first one after a gap
-      char_between : (s : PlainState) → (ctx.flow && true && (c == 45) && begins_flow a) ≡ false → Goes between s (on (at_char c s.position (joined s.folded)))
-      char_between s d = goes _ refl (grind arith) (inl (sym (no_spot (spot_of between s.folded.leading s.position.col) (grind arith)))) d (rw (breaks, solid) refl)
-
   -- ---- a turn
 
   -- the dash that is looked for before a scalar goes on
