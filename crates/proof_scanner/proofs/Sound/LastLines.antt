@@ -1,12 +1,8 @@
 -- The last line of a text as the text grows, and the column after it.
 use Rattle.std.proofs.Math.Seq.{take-nil}
-use Rattle.proof_scanner.proofs.Common.{[], and_parts, ap, arith, Bool, eqb-true, false, has_break, has_no_break, has_tab_within, if◌then◌else◌, inl, inr, is_at_line_end, is_before_line_feed, is_break, is_empty, is_one_of, is_separation, last_line, length, List, nat_lt, nat_tests, not, not-true, or-true, Position, position_after, position_past, put_first, refl, split, split_by, suc, take, take-append-le, true, zero, ℕ, ◌&&◌, ◌++◌, ◌+◌, ◌-◌, ◌==◌, ◌||◌, ◌∙◌, ◌∷◌, ◌≡◌, ◌≤◌, ◌⊎◌}
+use Rattle.proof_scanner.proofs.Common.{[], and_parts, ap, arith, Bool, eqb-true, false, has_break, has_no_break, has_tab_within, if◌then◌else◌, is_at_line_end, is_break, is_empty, is_one_of, is_separation, last_line, length, List, nat_lt, nat_tests, not, not-true, or-true, Position, position_after, position_past, put_first, refl, split, suc, take, take-append-le, true, ℕ, ◌&&◌, ◌++◌, ◌+◌, ◌-◌, ◌==◌, ◌||◌, ◌∙◌, ◌∷◌, ◌≡◌, ◌≤◌, ◌⊎◌}
 
 -- ---- breaks in a text and one character more
-
-feed_breaks : (c : ℕ) (r : List ℕ) → is_before_line_feed c r ≡ true → has_break r ≡ true
-unfolding is_break
-feed_breaks c a h = grind (arith, eqb-true)
 
 -- a break anywhere is one of either part
 pub break_append : (a b : List ℕ) → has_break (a ++ b) ≡ (has_break a || has_break b)
@@ -16,8 +12,9 @@ break_append (c ∷ a) b = grind (arith, break_append a b)
 -- ---- the last line
 
 complete_is : (r : List ℕ) → is_empty (split r).complete ≡ has_no_break r
+unfolding is_break
 complete_is [] = refl
-complete_is (c ∷ r) = grind (arith, not-true, feed_breaks, kept, complete_is r)
+complete_is (c ∷ r) = grind (arith, not-true, kept, complete_is r)
   where
     kept : (complete : List (List ℕ)) (last : List ℕ) → is_empty (put_first c complete last).complete ≡ is_empty complete
     kept a last = grind arith

@@ -1,6 +1,6 @@
 -- The scan of a plain scalar refuses TABs that indent its further lines, and in flow a dash before a flow indicator.
 use Rattle.std.proofs.Math.Seq.{take-nil}
-use Rattle.proof_scanner.proofs.Common.{Bool, Context, Err, Fault, List, Ok, Plain, PlainState, Position, Read, Result, Stop, Turn, [], after_first, and_false, and_parts, and_then, ap, append_assoc, append_cancel_right, arith, at_char, at_dash, begins_flow, begins_solid, ended, eqb-true, fail, false, first, has_break, has_dash_before_flow, has_tab_within, if◌then◌else◌, inl, inr, is_at_comment_or_end, is_before_line_feed, is_blanks, is_cr_lf, is_gap, joined, last_line, leading, lines_have_no_tab, nat_lt, nat_tests, not, not-true, nothing, on, or_true, plain_from, plain_lines_fit, put_first, refl, run, same_blank, same_break, split, starts, stop, suc, sym, tabs, true, turn, turn_in, turned, ℕ, ◌&&◌, ◌++◌, ◌-◌, ◌==◌, ◌||◌, ◌∙◌, ◌∷◌, ◌≡◌, ◌≤◌, ◌⊎◌, break_leads}
+use Rattle.proof_scanner.proofs.Common.{Bool, Context, Err, Fault, List, Ok, Plain, PlainState, Position, Read, Result, Stop, Turn, [], after_first, and_false, and_parts, and_then, ap, append_assoc, append_cancel_right, arith, at_char, at_dash, begins_flow, begins_solid, ended, eqb-true, fail, false, first, has_break, has_dash_before_flow, has_tab_within, if◌then◌else◌, inl, inr, is_at_comment_or_end, is_before_line_feed, is_blanks, is_gap, joined, last_line, leading, lines_have_no_tab, nat_lt, nat_tests, not, not-true, nothing, on, or_true, plain_from, plain_lines_fit, put_first, refl, run, same_blank, same_break, split, starts, stop, suc, sym, tabs, true, turn, turn_in, turned, ℕ, ◌&&◌, ◌++◌, ◌-◌, ◌==◌, ◌||◌, ◌∙◌, ◌∷◌, ◌≡◌, ◌≤◌, ◌⊎◌, break_leads}
 use Rattle.defs_text.specs.Classes as classes
 use Rattle.yaml_chars.specs.Class.{is_break, is_blank}
 use Rattle.yaml_chars.specs.Class as model_classes
@@ -72,10 +72,6 @@ IsCalm tabs l = Unit {0}
 abbrev pub IsAt : PlainState → Spot → (rest : List ℕ) → Type 0
 IsAt t x a = (spot_of t.mode t.folded.leading t.position.col ≡ x) ⊎ ((x ≡ at 0) × (begins_break a ≡ true))
 
-feed_breaks : (c : ℕ) (a : List ℕ) → is_cr_lf c a ≡ true → begins_break a ≡ true
-unfolding is_break
-feed_breaks c b h = grind arith
-
 module _ (ctx : Context) (start : Position) (c : ℕ) (a : List ℕ) where
   -- What a turn does at a character: it stays before it; fails, because of a TAB or a dash; or is after it.
   pub data Goes (m : Mode) (s : PlainState) : Turn PlainState Fault → Type 0 where
@@ -92,14 +88,9 @@ module _ (ctx : Context) (start : Position) (c : ℕ) (a : List ℕ) where
 
   -- ---- a turn
 
-  -- the dash that is looked for before a scalar goes on
-  pub dash_is : (ctx.flow && true && (c == 45) && begins_flow a) ≡ at_dash ctx.flow (c ∷ a)
-  unfolding at_dash model_classes.is_flow
-  dash_is = grind (arith, same_flow_start)
-
   pub turn_goes : (m : Mode) (s : PlainState) → IsCalm m s.folded.leading → Goes m s (turn_in ctx start m s c a)
-  unfolding is_break is_blank goes_on
-  turn_goes a s l = grind (arith, eqb-true, on, stop, stays, dash_is, tabs, fail, feed_breaks, between, break_leads, goes, fails, no_spot)
+  unfolding is_break is_blank goes_on at_dash model_classes.is_flow
+  turn_goes a s l = grind (arith, eqb-true, on, stop, stays, tabs, fail, same_flow_start, between, break_leads, goes, fails, no_spot)
 
 -- ---- a run
 
