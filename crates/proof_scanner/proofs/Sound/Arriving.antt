@@ -98,9 +98,7 @@ arrives_now text v s solid near = by (is_empty v.held.flow) refl
     by : (out : Bool) → is_empty v.held.flow ≡ out → Arrives text (on_held (λ s. unroll_indent (s.position.col + 1) s) v)
     by false e =
         rw (unrolled_in_flow (p.col + 1) v.held e)
-        (arrives_with text v s solid near (record { indent = v.held.indent; indents = v.held.indents; tokens = v.held.tokens })
-        (ap (λ b. (site_here (not b) p s.base.site).blocks) e ∙ s.blocks_are) (ap (λ b. (site_here (not b) p s.base.site).awaits) e ∙ s.awaits_is) s.are_levels
-        (sym (append-nil v.held.tokens) ∙ ap (λ b. v.held.tokens ++ ends_here (not b) p s.base.site.blocks) (sym e)))
+        (arrives_with text v s solid near (record { indent = v.held.indent; indents = v.held.indents; tokens = v.held.tokens }) (grind arith) (grind arith) s.are_levels (grind (arith, append-nil)))
     by true e =
         let u : Levels = unrolled (p.col + 1) p v.held.indent v.held.indents v.held.tokens in
         let z : Ended p s.base.site.blocks s.base.site.awaits v.held.tokens u = rw (s.blocks_are, s.awaits_is) (levels_end p v.held.indent v.held.indents v.held.tokens s.are_levels) in

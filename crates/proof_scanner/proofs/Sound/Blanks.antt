@@ -1,10 +1,9 @@
 -- Blanks and a comment after a piece, within its line: what the model reads there is all of them, and it stands where they end.
 use Rattle.std.proofs.lemmas.List.{append-nil}
-use Rattle.proof_scanner.proofs.Common.{[], after, after_spaces, ap, append_assoc, arith, At, begins_line, begins_with, blanks_and_comment, Bool, comment_after, comment_of, eqb-true, Err, false, Fault, follows_plain, has_no_break, has_tab_within, Holds, if◌then◌else◌, in_line_position, is_blank, is_break, is_indented_by_spaces, is_line, is_on_line, is_one_of, is_separation, last_line, leading, least_column, lexed, List, No, not, Ok, or_false, or_true, pass_indicator, past, past_blanks_and_comment, past_comment, past_line_rest, Position, position_after, position_append, position_in_line, Previous, Read, refl, refused, Result, same_break, ScannerState, skip_indicator, skip_spaces, skip_while, space, space_step, span_cut, sym, true, walk, went, Whitespace, with_found, Yes, ℕ, ◌&&◌, ◌++◌, ◌==◌, ◌||◌, ◌∙◌, ◌∷◌, ◌≡◌}
+use Rattle.proof_scanner.proofs.Common.{CommentNotSeparated, [], after, after_spaces, ap, append_assoc, arith, At, begins_line, begins_with, blanks_and_comment, Bool, comment_after, comment_of, eqb-true, Err, false, Fault, follows_plain, has_no_break, has_tab_within, Holds, if◌then◌else◌, in_line_position, is_blank, is_break, is_indented_by_spaces, is_line, is_on_line, is_one_of, is_separation, last_line, leading, least_column, lexed, List, No, not, Ok, or_false, or_true, pass_indicator, past, past_blanks_and_comment, past_comment, past_line_rest, Position, position_after, position_append, position_in_line, Previous, Read, refl, refused, Result, same_break, ScannerState, skip_indicator, skip_spaces, skip_while, space, space_step, span_cut, sym, true, walk, went, Whitespace, with_found, Yes, ℕ, ◌&&◌, ◌++◌, ◌==◌, ◌||◌, ◌∙◌, ◌∷◌, ◌≡◌}
 use Rattle.proof_scanner.proofs.Cut.Pieces.Separations.{no_break_append}
 use Rattle.model_scanner.specs.State.{after as after_first}
 use Rattle.proof_scanner.proofs.Cut.Documents.{past_indicator}
-use Rattle.yaml_tokens.specs.declared.problem.Problem.TheVariants as problem
 
 -- ---- positions
 
@@ -130,10 +129,10 @@ spaced_exactly a p = rw (blanks_walked a p (record { found_tabs = false; has_val
         by false f = parted (clear_first a (ap (begins_with 35) e ∙ f)) (grind (arith, q, append-nil, l))
         by true f = found (is_one_of l 9 || is_one_of l 32) refl
           where
-            found : (x : Bool) → (is_one_of l 9 || is_one_of l 32) ≡ x → IsSpaced a p (if x then Ok (with_found (found_in l) (skip_while is_line (c ∷ b) q)) else Err (At problem.CommentNotSeparated q))
+            found : (x : Bool) → (is_one_of l 9 || is_one_of l 32) ≡ x → IsSpaced a p (if x then Ok (with_found (found_in l) (skip_while is_line (c ∷ b) q)) else Err (At CommentNotSeparated q))
             found true g = parted (blank_first a g) (ap (λ r. Ok (with_found (found_in l) r)) (comment_passed (c ∷ b) q) ∙ (ap (λ x. at (after is_on_line (c ∷ b)) x)
                 (ap (λ x. position_after x (leading is_on_line (c ∷ b)) []) (same_in_line p l [] ((leading is_on_line (c ∷ b)) ++ []) (no_break_in_blanks a)) ∙ (sym (position_append p l (leading is_on_line (c ∷ b)) []) ∙ ap (λ x. position_after p (l ++ x) []) (sym (ap comment_of e ∙ rw f refl)))) ∙ ap (λ r. at r (past_line_rest p a)) (sym (ap past_comment e ∙ rw f refl))))
-            found false g = glued (At problem.CommentNotSeparated q) (ap (begins_with 35) (sym (no_blank_first a g) ∙ e) ∙ f) refl
+            found false g = glued (At CommentNotSeparated q) (ap (begins_with 35) (sym (no_blank_first a g) ∙ e) ∙ f) refl
 
 -- where no comment stands directly, they are read
 pub spaced_parted : (a : List ℕ) (p : Position) → begins_with 35 a ≡ false → space Yes a p ≡ Ok (record { rest = past_blanks_and_comment a; position = past_line_rest p a; value = found_in (leading is_blank a) })

@@ -55,12 +55,9 @@ column_after p (c ∷ g) a h = grind (arith, nat_tests, eqb-true, last_first, fe
 pub no_comment_in_last : (g rest : List ℕ) → is_separation false g rest ≡ true → is_at_line_end rest ≡ false → is_one_of (last_line g) 35 ≡ false
 no_comment_in_last g rest h ends = (both g).0 h
   where
-    Both : List ℕ → Type 0
-    Both g = (is_separation false g rest ≡ true → is_one_of (last_line g) 35 ≡ false) × (is_separation true g rest ≡ true → (has_break g ≡ true) × (is_one_of (last_line g) 35 ≡ false))
-
-    both : (g : List ℕ) → Both g
+    both : (g : List ℕ) → (is_separation false g rest ≡ true → is_one_of (last_line g) 35 ≡ false) × (is_separation true g rest ≡ true → (has_break g ≡ true) × (is_one_of (last_line g) 35 ≡ false))
     both [] = grind arith
-    both (c ∷ g) = grind (arith, nat_tests, Both, last_first, or-true, eqb-true, both g)
+    both (c ∷ g) = grind (arith, nat_tests, last_first, or-true, eqb-true, both g)
 
 -- ---- TABs in its first columns
 

@@ -166,15 +166,15 @@ key_inside bit single at c = (if bit then key_tokens single (pair_position c.pas
 -- ---- a part of a node in flow, be it an opening bracket or no collection: its tokens, and where a key that begins with it goes in
 
 -- The tokens after it are those before, and its own.
-pub node_tokens : (level : Option FlowLevel) (s : Site) (separation piece : List ℕ) (tok : Tok) (allowed c : Bool) (k : Option Key) (new : Key) (e : Entry) (es : List Entry) (ks : List (Option Key)) (ts : List Token) (l : Line) (ws : List Step) (last : List ℕ) →
-    act_of tok ≡ gives_node → begun_by tok ≡ with_begun level [] → is_keyed e.had ≡ false →
-    new.number ≡ length ts → AreAmong (length ts) (k ∷ ks) →
+pub node_tokens : (level : Option FlowLevel) (s : Site) (separation piece next : List ℕ) (tok : Tok) (allowed c : Bool) (k : Option Key) (new : Key) (e : Entry) (es : List Entry) (ks : List (Option Key)) (here : Position) (ts us : List Token) (l : Line) (ws : List Step) (last : List ℕ) →
+    act_of tok ≡ gives_node → begun_by tok ≡ with_begun level [] → is_keyed e.had ≡ false → new.number ≡ length ts → AreAmong (length ts) (k ∷ ks) → spelled ws last ≡ next → here ≡ position_after s.position separation (piece ++ next) →
+    shown_position (site_here true here s) piece tok next ≡ here → new.position ≡ here → us ≡ ts ++ (put here tok ∷ []) →
     (let w : Step = record { separation = separation; piece = piece; shown = tok; key = bit_of allowed c } in
     let at : Site = site_here true (position_after s.position separation (piece ++ spelled ws last)) s in
     let x : Entry = entry_by (choice_before allowed c) k e in
-    new.position ≡ at.position → tokens_up_to (with_entries s l (x ∷ es)) (k ∷ ks) ts (w ∷ ws) last ++ tokens_at s at w ws last l (x ∷ es) ≡
-    with_keys 0 (past_step s.position w ws last) ws last s.blocks l (with_begun level (entry_by c (saved allowed new k) (entry_past_node allowed e) ∷ es)) (with_no_key level (saved allowed new k ∷ ks)) (ts ++ (put (shown_position at piece tok (spelled ws last)) tok ∷ [])))
-node_tokens level s separation piece tok allowed c k new e es ks ts l ws last act begins idle number are_among place =
+    tokens_up_to (with_entries s l (x ∷ es)) (k ∷ ks) ts (w ∷ ws) last ++ tokens_at s at w ws last l (x ∷ es) ≡
+    with_keys 0 (past_step s.position w ws last) ws last s.blocks l (with_begun level (entry_by c (saved allowed new k) (entry_past_node allowed e) ∷ es)) (with_no_key level (saved allowed new k ∷ ks)) us)
+node_tokens level s separation piece next tok allowed c k new e es ks here ts us l ws last act begins idle number are_among h is_here shown place u =
     let w : Step = record { separation = separation; piece = piece; shown = tok; key = bit_of allowed c } in
     let at : Site = site_here true (position_after s.position separation (piece ++ spelled ws last)) s in
     let x : Entry = entry_by (choice_before allowed c) k e in
@@ -182,14 +182,11 @@ node_tokens level s separation piece tok allowed c k new e es ks ts l ws last ac
     let depth : ℕ = depth_begun level 0 in
     let colon : Colon = colon_of depth p ws last in
     let single : Bool = takes_pair e.kind e.pair in
-    let own : Token = put (shown_position at piece tok (spelled ws last)) tok in
-    let inner : List Token = with_had colon single x.had k ts in
-    let step : tokens_at s at w ws last l (x ∷ es) ≡ key_inside w.key single at colon ++ (own ∷ []) = grind arith in
+    let step : tokens_at s at w ws last l (x ∷ es) ≡ key_inside w.key single (site_here true here s) colon ++ (put here tok ∷ []) = grind arith in
     ap (λ y. y ++ tokens_at s at w ws last l (x ∷ es)) (keys_past level 0 s.position w ws last act begins s.blocks l (x ∷ es) (k ∷ ks) ts) ∙
     (keys_own depth p ws last s.blocks l x es k ks ts (tokens_at s at w ws last l (x ∷ es)) are_among ∙
-    (ap (λ y. with_keys (suc depth) p ws last s.blocks l es ks (inner ++ y)) step ∙
-    (ap (λ y. with_keys (suc depth) p ws last s.blocks l es ks y) (grind (arith, key_between, had_first, had_as_it_was)) ∙
-    sym (keys_around_begun level p ws last s.blocks l (entry_by c (saved allowed new k) (entry_past_node allowed e) ∷ es) (saved allowed new k ∷ ks) (ts ++ (own ∷ []))))))
+    (ap (λ y. with_keys (suc depth) p ws last s.blocks l es ks y) (grind (arith, step, key_between, had_first, had_as_it_was)) ∙
+    sym (keys_around_begun level p ws last s.blocks l (entry_by c (saved allowed new k) (entry_past_node allowed e) ∷ es) (saved allowed new k ∷ ks) us)))
 
 -- ---- a part of a node outside flow, be it an opening bracket or no collection: what may begin after it, and its tokens, where a key that begins with it goes in
 

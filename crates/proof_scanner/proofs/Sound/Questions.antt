@@ -1,12 +1,11 @@
 -- The function of the model that reads a dash: what holds where it begins holds between two fetches after it.
-use Rattle.proof_scanner.proofs.Common.{before_by, [], if◌then◌else◌, weakened, allow_key, another, ap, AreLevels, arith, Arrives, At, begin_key, begins_with_space_or_break, blanks_and_comment, both_hold, check_block_entry, check_dash, check_key_space, checked, columns, dash_may_precede, ends_at, Entry, eqb-true, false, Fault, fetch_block_entry, fetch_key, FlowLevel, gap, gives_dash, gives_question, has_break, has_open_level, has_tab_before_piece, Held, Holds, in_flow, Indent, inl, inr, is_at_break_or_flow, is_at_gap, is_blank, is_break, is_deeper, is_empty, is_in_column, is_one_of, is_separation, Key, Keyed, keyed, leading, lexed, line_past, List, No, None, not, not-false, not_ended, Ok, on_held, opened, Option, or_parts, or_true, pair_past, past, past_blanks_and_comment, past_line_rest, peek, placed, Position, position_after, push, put, refl, remove_implicit_key, Result, roll_entry, roll_indent, same_break, ScannerState, settled, Site, skip_indicator, skip_spaces, skip_yaml_whitespace, Some, space, start_if, subst, suc, sym, take, takes_pair, Tok, Token, token, top_needs_block_end, true, try_held, went, Yes, ℕ, ◌&&◌, ◌++◌, ◌==◌, ◌>>=◌, ◌||◌, ◌∙◌, ◌∷◌, ◌≡◌, ◌≤◌, refused, append_assoc, append_assoc, append-nil, append-nil}
+use Rattle.proof_scanner.proofs.Common.{BlockEntryInFlow, BlockEntryNotAllowed, TabAfterKey, before_by, [], if◌then◌else◌, weakened, allow_key, another, ap, AreLevels, arith, Arrives, At, begin_key, begins_with_space_or_break, blanks_and_comment, both_hold, check_block_entry, check_dash, check_key_space, checked, columns, dash_may_precede, Entry, eqb-true, false, Fault, fetch_block_entry, fetch_key, FlowLevel, gap, gives_question, has_break, has_open_level, has_tab_before_piece, Held, Holds, in_flow, Indent, inl, is_at_break_or_flow, is_at_gap, is_blank, is_break, is_empty, is_one_of, is_separation, Key, Keyed, keyed, leading, lexed, List, No, None, not, not-false, Ok, on_held, opened, Option, or_parts, or_true, pair_past, past, past_blanks_and_comment, peek, Position, position_after, push, refl, remove_implicit_key, Result, roll_entry, roll_indent, same_break, ScannerState, settled, Site, skip_indicator, skip_spaces, skip_yaml_whitespace, Some, space, subst, suc, sym, take, takes_pair, Tok, token, top_needs_block_end, true, try_held, went, Yes, ℕ, ◌==◌, ◌>>=◌, ◌∙◌, ◌∷◌, ◌≡◌, ◌≤◌, refused, append_assoc, append_assoc, append-nil, append-nil}
 use Rattle.yaml_chars.specs.Class.{is_break as is_break_here, is_flow as is_flow_here}
 use Rattle.model_scanner.specs.State.{after, after as after_first}
 use Rattle.proof_lexers.proofs.Bridges.{same_flow}
-use Rattle.proof_scanner.proofs.Sound.Steps.{exactly, held_exactly, ArrivesBy, IsDeep, Onward, Reads, RollsTo, adjacent_kept, begins_here, begun_after, by_sides, entry_from, first_not_right, found_in, gap_here, goes_inside, indicator_end, key_removed, line_free, line_rest_cut, line_rest_fills, line_rest_in_line, low_enough, none_skipped, opens_one, past_one, past_rest, past_rest_is_clear, read_outside, reads_before_none, rest_read, rolls_to, started_tokens, tokens_before, top_closed, with_sides, with_start}
+use Rattle.proof_scanner.proofs.Sound.Steps.{exactly, held_exactly, ArrivesBy, IsDeep, Onward, Reads, RollsTo, adjacent_kept, begins_here, begun_after, by_sides, entry_from, first_not_right, found_in, gap_here, goes_inside, indicator_end, key_removed, line_free, line_rest_cut, line_rest_fills, line_rest_in_line, low_enough, none_skipped, opens_one, past_one, past_rest, past_rest_is_clear, read_outside, reads_before_none, rest_read, rolls_to, tokens_before, top_closed, with_sides, with_start}
 use Rattle.model_scanner.specs.declared.level.FlowLevel.TheVariants.{Entry as InEntry}
 use Rattle.proof_scanner.proofs.Sound.WhiteSpaces.{no_tab_before, no_tab_in_last, past_white, past_white_space, white_cut, white_exactly, white_first, white_of}
-use Rattle.yaml_tokens.specs.declared.problem.Problem.TheVariants as problem
 use Rattle.proof_lexers.specs.PlainEnds as ends
 
 -- ---- what the model checks
@@ -14,7 +13,7 @@ use Rattle.proof_lexers.specs.PlainEnds as ends
 -- an entry stands outside flow, where a key may begin
 pub entry_checked : (s : Held) → Holds (λ u. (u ≡ s) × ((in_flow s ≡ false) × (s.key_allowed ≡ true))) (check_block_entry s)
 unfolding check_block_entry
-entry_checked s = checked (in_flow s) (At problem.BlockEntryInFlow s.position) (λ e. checked (not s.key_allowed) (At problem.BlockEntryNotAllowed s.position) (λ f. went (refl, (e, not-false s.key_allowed f))))
+entry_checked s = checked (in_flow s) (At BlockEntryInFlow s.position) (λ e. checked (not s.key_allowed) (At BlockEntryNotAllowed s.position) (λ f. went (refl, (e, not-false s.key_allowed f))))
 
 -- no dash stands after a TAB
 dash_checked : (more : List ℕ) (t : ScannerState) → t.rest ≡ past_blanks_and_comment more → Holds (λ u. (u ≡ t) × (dash_may_precede more ≡ true)) (check_dash (found_in (leading is_blank more)) t)
@@ -96,7 +95,7 @@ no_tab_taken n l h = grind arith
 -- no TAB stands there
 space_checked : (more : List ℕ) (t : ScannerState) → t.rest ≡ past_white false more → Holds (λ u. (u ≡ t) × (has_tab_before_piece false more ≡ false)) (check_key_space t)
 unfolding check_key_space
-space_checked more t e = checked (peek t.rest == 9) (At problem.TabAfterKey t.held.position) (λ h. went (refl, no_tab_before false more (sym (begins_here 9 (past_white false more) refl) ∙ (ap (λ r. peek r == 9) (sym e) ∙ h))))
+space_checked more t e = checked (peek t.rest == 9) (At TabAfterKey t.held.position) (λ h. went (refl, no_tab_before false more (sym (begins_here 9 (past_white false more) refl) ∙ (ap (λ r. peek r == 9) (sym e) ∙ h))))
 
 -- what was read with it
 question_reads : (t u : ScannerState) (more : List ℕ) (y : Site) → t.rest ≡ 63 ∷ more → u.rest ≡ past_white false more → is_separation false (white_of false more) (past_white false more) ≡ true →

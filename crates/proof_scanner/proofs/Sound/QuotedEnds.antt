@@ -1,5 +1,5 @@
 -- What the scanner checks after a quoted scalar: the line holds no more, or goes on as it may.
-use Rattle.proof_scanner.proofs.Common.{Bool, Err, Fault, Holds, List, Ok, Position, Result, ScannerState, SkipTabs, Yes, [], after, and_parts, ap, append_assoc, arith, begins_with, both_hold, chained, check_after_quoted, either, eqb-true, false, goes_on_quoted, has_break, has_no_nul, in_flow, is_at_line_end, is_blank, is_blanks, is_blanks_and_comment, is_break, is_breakz, is_nul, is_on_line, is_separation, leading, line_is_done, may_follow_quoted, no_nul_after, not, or_right, peek, position_after, position_past, quoted_may_end, refl, refused, skip_spaces, space, sym, true, went, ℕ, ◌&&◌, ◌++◌, ◌<◌, ◌==◌, ◌||◌, ◌∙◌, ◌∷◌, ◌≡◌, ◌≤◌, nat_tests}
+use Rattle.proof_scanner.proofs.Common.{Bool, Err, Fault, Holds, List, Ok, Position, Result, ScannerState, SkipTabs, Yes, [], after, and_parts, ap, append_assoc, arith, begins_with, both_hold, chained, check_after_quoted, either, eqb-true, false, goes_on_quoted, has_break, has_no_nul, in_flow, is_at_line_end, is_blank, is_blanks, is_blanks_and_comment, is_break, is_breakz, is_nul, is_on_line, is_separation, leading, line_is_done, may_follow_quoted, no_nul_after, not, or_right, peek, position_after, position_past, quoted_may_end, refl, refused, skip_spaces, space, sym, true, went, ℕ, ◌++◌, ◌<◌, ◌==◌, ◌∙◌, ◌∷◌, ◌≡◌, ◌≤◌, nat_tests}
 use Rattle.yaml_chars.specs.Class as model_classes
 use Rattle.proof_lexers.specs.PlainEnds as plains
 use Rattle.proof_scanner.proofs.Cut.Passes.{Spaced, spaces_skipped}
@@ -86,12 +86,9 @@ may_end_by : (flow : Bool) (p : Position) (piece s rest : List ℕ) (here : Posi
 unfolding model_classes.is_break
 may_end_by flow p piece s rest here in_line none f h no_hash is follows = grind (arith, nat_tests, eqb-true, is_done, at_end_of, blanks_alone, not_at_end, or_right, after_blanks, some)
   where
-    same : (p.line == here.line) ≡ true → has_break piece ≡ false
-    same e = grind (arith, same_line, eqb-true, on_one_line)
-
     some : (r : List ℕ) → is_breakz (peek r) ≡ false → may_follow_quoted flow (p.line == here.line) (peek r) ≡ true → goes_on_quoted flow piece (after is_blank r) ≡ true
     some [] e k = absurd (cc e)
-    some (c ∷ r) e k = let q = comes_by flow piece p.line here.line c r same k e in rw q.1 q.0
+    some (c ∷ r) e k = let q = comes_by flow piece p.line here.line c r (grind (arith, same_line, eqb-true, on_one_line)) k e in rw q.1 q.0
 
 -- blanks and a comment were skipped after a piece, and what stands there may follow a quoted scalar
 pub record Checked (piece : List ℕ) (t u : ScannerState) : Type 0 where

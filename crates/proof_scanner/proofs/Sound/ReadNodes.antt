@@ -1,5 +1,5 @@
 -- A part of a node was read where a piece begins, be it an opening bracket or no collection: what holds between two fetches holds after it.
-use Rattle.proof_scanner.proofs.Common.{[], Account, AreEntries, Arrives, Bool, Entry, FlowLevel, IsCarriedOn, IsLine, IsNear, IsOpenOutside, IsPairOf, IsPiece, Key, KnowsKey, Line, List, MayChoose, None, NotBefore, Option, Outside, Previous, ScannerState, Site, SoFar, Some, Step, Tok, Token, act_of, ap, arith, begins_free_line, begun_by, chosen, entries_by, entry_by, false, first_choice, first_entry, further_lines_stand, gives_node, has_break, inl, is_deep_enough, is_empty, is_in_column, is_renewed, least_for, length, line_by, may_precede, may_stand, no_pair, not, outside_key, pop, position_after, previous_by, put, refl, seen, shown_position, site_at, site_here, site_in, site_past, spelled, subst, sym, taken, tokens_up_to, true, with_keys, ℕ, ◌++◌, ◌∙◌, ◌∷◌, ◌≡◌, ◌≤◌, must_be_key, kind_of}
+use Rattle.proof_scanner.proofs.Common.{[], Account, AreEntries, Arrives, Bool, Entry, FlowLevel, IsCarriedOn, IsLine, IsNear, IsOpenOutside, IsPairOf, IsPiece, Key, KnowsKey, Line, List, MayChoose, None, NotBefore, Option, Outside, Previous, ScannerState, Site, SoFar, Some, Tok, Token, act_of, ap, arith, begins_free_line, begun_by, chosen, entries_by, false, first_choice, first_entry, further_lines_stand, gives_node, has_break, inl, is_deep_enough, is_empty, is_in_column, is_renewed, least_for, length, line_by, may_precede, may_stand, no_pair, not, outside_key, pop, position_after, previous_by, put, refl, seen, shown_position, site_at, site_here, site_in, site_past, subst, sym, taken, tokens_up_to, true, with_keys, ℕ, ◌++◌, ◌∙◌, ◌∷◌, ◌≡◌, ◌≤◌, must_be_key, kind_of}
 use Rattle.proof_scanner.proofs.Sound.Common.{after_piece, among, by_sides, ArrivesBy, begun_numbered, bit_of, choice_before, choices_around, completes_at, entry_past_node, Goes, IsDeep, levels_by, line_after_node, line_taken, node_in_entry, node_outer_tokens, node_tokens, not_before_after, not_before_then, Outer, outer_completes, past_step, saved, saved_keys, some_rest, tokens_before, with_begun, with_entries, with_no_key}
 use Rattle.proof_scanner.proofs.Known.Steps.{knows_saved, is_of_node}
 use Rattle.proof_scanner.proofs.Sound.Outsides.{new_key, keys_saved, numbered_inside, must_be_here, numbered_past, unbroken_node, one_node, taken_node, may_node, line_node, same_node, open_node}
@@ -187,14 +187,10 @@ module _ (text : List ℕ) (t u : ScannerState) (level : Option FlowLevel) (f : 
         tokens_are = λ cs l ws last h.
             let c : Bool = first_choice (choices_around level cs) in
             let xs : List Entry = entries_by (pop (choices_around level cs)) ks es in
-            let at : List ℕ → Site = λ y. site_here true (position_after a.site.position a.separation (piece ++ y)) a.site in
-            let w : Step = record { separation = a.separation; piece = piece; shown = tok; key = bit_of t.held.key_allowed c } in
-            let own : a.tokens ++ (put (shown_position (at (spelled ws last)) piece tok (spelled ws last)) tok ∷ []) ≡ u.held.tokens =
-            ap (λ y. a.tokens ++ (put (shown_position (at y) piece tok y) tok ∷ [])) h ∙ (ap (λ p. a.tokens ++ (put p tok ∷ [])) (r.shown (at (gap ++ u.rest)) ∙ sym place) ∙ ap (λ ts. ts ++ (shown_token ∷ [])) (sym (tokens_before text t f fs k ks e es a)) ∙ sym r.tokens_are) in
-            node_tokens level a.site a.separation piece tok t.held.key_allowed c k (new_key t) e xs ks a.tokens l ws last r.act r.begun (grind arith)
-            (ap length (tokens_before text t f fs k ks e es a)) (among (length a.tokens) (k ∷ ks) a.are_numbered) (place ∙ ap (λ y. position_after a.site.position a.separation (piece ++ y)) (sym h)) ∙
-            (ap (λ ts. with_keys 0 (past_step a.site.position w ws last) ws last a.site.blocks l (with_begun level (entry_by c key_past n ∷ xs)) (with_no_key level (key_past ∷ ks)) ts) own ∙
-            ap (λ ys. with_keys 0 (past_step a.site.position w ws last) ws last a.site.blocks l ys (with_no_key level (key_past ∷ ks)) u.held.tokens) (grind arith));
+            node_tokens level a.site a.separation piece (gap ++ u.rest) tok t.held.key_allowed c k (new_key t) e xs ks t.held.position a.tokens u.held.tokens l ws last r.act r.begun (grind arith)
+            (ap length (tokens_before text t f fs k ks e es a)) (among (length a.tokens) (k ∷ ks) a.are_numbered) h place (r.shown (site_of t (f ∷ fs) a.site)) refl
+            (r.tokens_are ∙ ap (λ ts. ts ++ (shown_token ∷ [])) (tokens_before text t f fs k ks e es a)) ∙
+            ap (λ ys. with_keys 0 (past_step a.site.position (record { separation = a.separation; piece = piece; shown = tok; key = bit_of t.held.key_allowed c }) ws last) ws last a.site.blocks l ys (with_no_key level (key_past ∷ ks)) u.held.tokens) (grind arith);
       })
 
 -- ---- both

@@ -1,8 +1,7 @@
 -- What the model skips between tokens leaves no TAB in the indentation of the next one.
 use Rattle.std.proofs.lemmas.List.{length-append}
-use Rattle.proof_scanner.proofs.Common.{At, Bool, Err, Fault, Gap, Held, Holds, List, Ok, Previous, Result, ScannerState, [], and_parts, ap, append-nil, append_assoc, arith, begins_line, between, comment, eqb-true, false, has_tab_within, if◌then◌else◌, inl, inr, is_at_comment_or_end, is_before_indent, is_cr_lf, is_empty, last_line, length, moved, no_hash, or-false, or-true, past_line, refl, refused, same_break, skip, subst, suc, tab_line, true, weakened, went, ℕ, ◌&&◌, ◌++◌, ◌==◌, ◌||◌, ◌∙◌, ◌∷◌, ◌≡◌, ◌⊎◌}
+use Rattle.proof_scanner.proofs.Common.{TabInBlockIndentation, At, Bool, Err, Fault, Gap, Held, Holds, List, Ok, Previous, Result, ScannerState, [], and_parts, ap, append-nil, append_assoc, arith, begins_line, between, comment, eqb-true, false, has_tab_within, if◌then◌else◌, inl, inr, is_at_comment_or_end, is_before_indent, is_cr_lf, is_empty, last_line, length, moved, no_hash, or-false, or-true, past_line, refl, refused, same_break, skip, subst, suc, tab_line, true, weakened, went, ℕ, ◌&&◌, ◌++◌, ◌==◌, ◌||◌, ◌∙◌, ◌∷◌, ◌≡◌, ◌⊎◌}
 use Rattle.yaml_chars.specs.Class.{is_break, is_blank}
-use Rattle.yaml_tokens.specs.declared.problem.Problem.TheVariants as problem
 use Rattle.defs_text.specs.Classes as classes
 use Rattle.proof_scanner.proofs.Sound.LastLines.{break_append, last_more, tab_within_more}
 
@@ -69,7 +68,7 @@ module _ (before : Previous) (least : ℕ) where
     pub arrives : (g a : List ℕ) (c : ℕ) (s : Held) → IsAt g s → Q g (c ∷ a) s (Ok (record { rest = c ∷ a; held = s }))
     pub tab : (g : List ℕ) (c : ℕ) (s : Held) → is_break c ≡ false → ((c == 9) && is_before_indent s) ≡ true → IsLeast s → IsAt g s → Tabbed (g ++ c ∷ [])
     pub blank : (g : List ℕ) (c : ℕ) → is_break c ≡ false → Tabbed g → Tabbed (g ++ c ∷ [])
-    pub fails : (g a : List ℕ) (c : ℕ) (s : Held) → Tabbed g → Q g (c ∷ a) s (Err (At problem.TabInBlockIndentation s.position))
+    pub fails : (g a : List ℕ) (c : ℕ) (s : Held) → Tabbed g → Q g (c ∷ a) s (Err (At TabInBlockIndentation s.position))
 
   module _ (Q : (g a : List ℕ) → Held → Result ScannerState Fault → Type 0) (Tabbed : List ℕ → Type 0) (w : SkipsBy Q Tabbed) where
     abbrev Tells : List ℕ → Type 0
@@ -111,7 +110,7 @@ module _ (before : Previous) (least : ℕ) where
     unfolding skip
     tab_by g a c s e l h ih = rw e (by (is_blank c) (c == 35))
       where
-        by : (b x : Bool) → Q g (c ∷ a) s (if b then skip tab_line a (moved s) else (if x then skip comment a (moved s) else Err (At problem.TabInBlockIndentation s.position)))
+        by : (b x : Bool) → Q g (c ∷ a) s (if b then skip tab_line a (moved s) else (if x then skip comment a (moved s) else Err (At TabInBlockIndentation s.position)))
         by true x = w.further g a c s (moved s) _ (omega arith) (ih tab_line (g ++ c ∷ []) (moved s) l (w.blank g c e h))
         by false true = w.further g a c s (moved s) _ (omega arith) (ih comment (g ++ c ∷ []) (moved s) l tt)
         by false false = w.fails g a c s h

@@ -1,8 +1,7 @@
 -- Where a text ends: no open key is one, and the stream's end and those of the block collections stand where the row has them.
 use Rattle.proof_scanner.proofs.Sound.Rolled.{all_close}
-use Rattle.yaml_tokens.specs.declared.problem.Problem.TheVariants as problem
 use Rattle.std.proofs.lemmas.List.{append-nil}
-use Rattle.proof_scanner.proofs.Common.{if◌then◌else◌, [], Account, AreAround, AreCollections, AreEntries, AreLevels, Arrives, At, Bool, Completes, Entry, FlowLevel, Had, HasHad, Held, Holds, Indent, IsRead, Key, Levels, Line, List, MayChoose, Option, Position, ScannerState, Site, Step, Token, ap, append_assoc, arith, block_end, blocks, checked, chosen, cleared, columns, ended_at, ends_at, ends_here, ends_with_stream, entries_by, false, fetch_stream_end, has_required, have_no_key, in_flow, is_empty, is_keyed, is_renewed, is_waiting, length, may_end, nat_lt, next_line, not, not-true, not_ended, outside_key, pop, position_after, put, refl, replicate, site_here, stream_position, subst, suc, sym, tokens_at_end, tokens_up_to, tried, true, unroll_indent, unrolled, went, with_keys, ℕ, ◌++◌, ◌∙◌, ◌∷◌, ◌≡◌, ◌≤◌, IsNotRight, innermost, end_level}
+use Rattle.proof_scanner.proofs.Common.{KeyExpected, if◌then◌else◌, [], Account, AreAround, AreCollections, AreEntries, AreLevels, Arrives, At, Bool, Completes, Entry, FlowLevel, Had, HasHad, Held, Holds, Indent, IsRead, Key, Levels, Line, List, MayChoose, Option, Position, ScannerState, Site, Step, Token, ap, append_assoc, arith, block_end, blocks, checked, chosen, cleared, columns, ended_at, ends_at, ends_here, ends_with_stream, entries_by, false, fetch_stream_end, has_required, have_no_key, in_flow, is_empty, is_keyed, is_renewed, is_waiting, length, may_end, nat_lt, next_line, not, not-true, not_ended, outside_key, pop, position_after, put, refl, replicate, site_here, stream_position, subst, suc, sym, tokens_at_end, tokens_up_to, tried, true, unroll_indent, unrolled, went, with_keys, ℕ, ◌++◌, ◌∙◌, ◌∷◌, ◌≡◌, ◌≤◌, IsNotRight, innermost, end_level}
 use Rattle.proof_scanner.proofs.Cut.Documents.{unroll_keeps}
 use Rattle.proof_scanner.proofs.Sound.Completed.{completed_at_end}
 use Rattle.proof_scanner.proofs.Cut.Unrolls.{unrolled_in_flow}
@@ -152,7 +151,7 @@ pub stream_ended : (text : List ℕ) (t : ScannerState) → Arrives text t → t
 unfolding fetch_stream_end
 stream_ended text t a e =
     let same : ((unroll_indent 0 (at_stream_end t.held)).position ≡ next_line t.held.position) × ((unroll_indent 0 (at_stream_end t.held)).started ≡ t.held.started) = unroll_keeps 0 (at_stream_end t.held) in
-    tried t _ (checked (has_required t.held.keys) (At problem.KeyExpected (next_line t.held.position)) (λ none. went (
+    tried t _ (checked (has_required t.held.keys) (At KeyExpected (next_line t.held.position)) (λ none. went (
       refl,
       rw (last_tokens t.held a.tokens a.base.site a.base.entries (same_flow t.held.key_allowed (is_renewed a.base.site.before a.separation) t.held.flow t.held.keys a.base.entries a.are_entries) a.are_levels a.tokens_are a.blocks_are)
           (at_end text t a e none),

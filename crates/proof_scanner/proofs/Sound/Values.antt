@@ -1,12 +1,11 @@
 -- A colon that ends no key: what holds where it begins holds between two fetches after it.
-use Rattle.proof_scanner.proofs.Common.{[], if◌then◌else◌, Account, allow_key, another, ap, append-nil, append_assoc, AreLevels, arith, Arrives, At, before_by, before_past, begin_keyless_mapping, begin_keyless_value, begin_pair, begins_free_line, begun_outside, Bool, chained, check_value_space, checked, chosen, colon_may_precede, columns, ends_at, entries_by, Entry, entry_by, false, Fault, fetch_value, first_account, FlowLevel, gives_colon, has_open_level, Held, Holds, in_flow, Indent, inl, innermost, inr, insert, insert_key, inside, is_adjacent, is_break, is_deeper, is_empty, is_in_column, is_near, is_value, is_value_indicator, IsEntryOf, IsLive, IsNotRight, Key, length, length-append, Line, line_past, List, MayChoose, None, not, not-false, not_ended, Ok, on_held, opened, opens_pair, Option, Outside, outside_key, pair_past, pair_position, paired, past, placed, pop, Position, position_after, push, put, put_key, refl, Result, roll_indent, roll_one_col_indent, ScannerState, settled, Site, site_at, site_here, Some, spelled, start_if, Step, subst, suc, sym, taken, takes_pair, Tok, Token, token, tokens_at, tokens_of_step, tokens_up_to, top_key, tried, true, try_held, waits, went, with_held, with_keys, with_top, ℕ, ◌++◌, ◌==◌, ◌>>=◌, ◌||◌, ◌∙◌, ◌∷◌, ◌≡◌, ◌≤◌, KeysBefore, keys_before, line_grows, free, AreNumbered}
+use Rattle.proof_scanner.proofs.Common.{ValueNotAllowed, [], if◌then◌else◌, Account, allow_key, another, ap, append-nil, append_assoc, AreLevels, arith, Arrives, At, before_by, before_past, begin_keyless_mapping, begin_keyless_value, begin_pair, begins_free_line, Bool, chained, check_value_space, checked, chosen, colon_may_precede, columns, ends_at, entries_by, Entry, entry_by, false, Fault, fetch_value, first_account, FlowLevel, gives_colon, has_open_level, Held, Holds, in_flow, Indent, inl, innermost, inr, insert, insert_key, inside, is_adjacent, is_break, is_deeper, is_empty, is_near, is_value, is_value_indicator, IsEntryOf, IsLive, IsNotRight, Key, length, length-append, Line, List, MayChoose, None, not, not-false, not_ended, Ok, on_held, opened, opens_pair, Option, Outside, outside_key, pair_past, pair_position, paired, past, placed, pop, Position, position_after, push, put, put_key, refl, Result, roll_indent, roll_one_col_indent, ScannerState, settled, Site, site_at, site_here, Some, spelled, Step, subst, suc, sym, taken, takes_pair, Tok, Token, token, tokens_at, tokens_of_step, tokens_up_to, top_key, tried, true, try_held, waits, went, with_held, with_keys, with_top, ℕ, ◌++◌, ◌==◌, ◌>>=◌, ◌||◌, ◌∙◌, ◌∷◌, ◌≡◌, ◌≤◌, KeysBefore, keys_before, line_grows, free, AreNumbered}
 use Rattle.model_scanner.specs.declared.level.FlowLevel.TheVariants.{Pair as InPair}
 use Rattle.model_scanner.specs.Block.{value_of}
-use Rattle.proof_scanner.proofs.Sound.Steps.{exactly, held_exactly, Onward, all_go_on, among, by_sides, with_sides, ArrivesBy, begun_after, ends_outside, first_not_right, goes_inside, goes_of, is_written, IsDeep, key_longer, keyless, keys_along, line_free, line_taken, low_enough, no_waiting, not_before_after, not_before_then, numbered_around, numbered_more, opens_none, opens_one, OpensOne, Outer, outer_completes, outer_then, past_one, past_step, read_outside, Reads, reads_before_none, rolls_to, RollsTo, some_levels, started_tokens, steps_in_flow, tokens_before, value_is, weaker, with_entries, with_start, line_rest_in_line, same_in_line}
+use Rattle.proof_scanner.proofs.Sound.Steps.{exactly, held_exactly, Onward, all_go_on, among, by_sides, with_sides, ArrivesBy, begun_after, ends_outside, first_not_right, goes_inside, goes_of, is_written, IsDeep, key_longer, keyless, keys_along, line_free, line_taken, low_enough, no_waiting, not_before_after, not_before_then, numbered_around, numbered_more, opens_none, opens_one, OpensOne, Outer, outer_completes, outer_then, past_one, past_step, read_outside, Reads, reads_before_none, rolls_to, RollsTo, some_levels, steps_in_flow, tokens_before, value_is, weaker, with_entries, with_start, line_rest_in_line, same_in_line}
 use Rattle.proof_scanner.proofs.Sound.ColonSpaces.{colon_gap, colon_spaced, gap_is, past_colon, past_gap}
 use Rattle.proof_scanner.proofs.Sound.Questions.{pair_level}
 use Rattle.model_scanner.specs.State.{after}
-use Rattle.yaml_tokens.specs.declared.problem.Problem.TheVariants as problem
 use Rattle.proof_scanner.proofs.Sound.Common.{keys_own}
 
 -- ---- where a colon is an indicator
@@ -46,7 +45,7 @@ pub keyless_outside : (text more : List ℕ) (t : ScannerState) (a : ArrivesBy t
 unfolding begin_keyless_value begin_keyless_mapping
 keyless_outside text more t a e apart ind deep =
     exactly _ (held_exactly (record { rest = past_gap more; held = h })
-    (exactly _ (checked (not t.held.key_allowed) (At problem.ValueNotAllowed p) (λ f. went (m.is_held, not-false t.held.key_allowed f))) (λ allowed. went (ap (λ v. allow_key (not (in_flow v)) v) l.is_held, allowed)))) (λ allowed. went
+    (exactly _ (checked (not t.held.key_allowed) (At ValueNotAllowed p) (λ f. went (m.is_held, not-false t.held.key_allowed f))) (λ allowed. went (ap (λ v. allow_key (not (in_flow v)) v) l.is_held, allowed)))) (λ allowed. went
     (read_outside text t _ a (58 ∷ []) more (colon_gap more) Tok.value (begun_after p a.site.blocks) _ refl
     (colon_reads t more l.indents l.indent (with_start Tok.block_mapping_start t) true [] (None ∷ []) _ e refl refl
     (ap (opened p.col) a.blocks_are ∙ sym (l.columns_are ∙ m.columns_are)) (sym l.awaits) l.are_levels a.was_adjacent)
@@ -200,9 +199,7 @@ module _ (text more : List ℕ) (t : ScannerState) (f : FlowLevel) (fs : List Fl
   inner_alike : key_in (takes_pair x.kind x.pair) (position_after (position_after a.site.position a.separation (58 ∷ more)) (58 ∷ []) more) more a.tokens ++ (put (position_after a.site.position a.separation (58 ∷ more)) Tok.value ∷ []) ≡ inner_after.held.tokens
   unfolding is_break
   inner_alike =
-      ap (λ q. key_in (takes_pair x.kind x.pair) (position_after q (58 ∷ []) more) more a.tokens ++ (put q Tok.value ∷ [])) (sym (a.position_is ∙ ap (λ y. position_after a.site.position a.separation y) e)) ∙
-      (ap (λ b. key_in b (position_after t.held.position (58 ∷ []) more) more a.tokens ++ own) (single_is f fs (Some k) x a.are_entries.0) ∙ ap (λ q. key_in (opens_pair (f ∷ fs)) q more a.tokens ++ own) (past_one t.held.position 58 more refl) ∙
-      ap (λ ts. key_in (opens_pair (f ∷ fs)) (past t.held.position) more ts ++ own) (sym (tokens_before text t f fs (Some k) ks x es a)))
+      grind (arith, a.position_is, e, single_is f fs (Some k) x a.are_entries.0, past_one t.held.position 58 more refl, tokens_before text t f fs (Some k) ks x es a)
 
   inner_tokens : (cs : List Bool) (l : Line) (ws : List Step) (last : List ℕ) → spelled ws last ≡ more →
       (let w : Step = keyless a.separation (58 ∷ []) Tok.value in let ys : List Entry = entry_by true (Some k) x ∷ entries_by (pop cs) ks es in
