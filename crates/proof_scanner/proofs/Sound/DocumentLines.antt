@@ -1,5 +1,5 @@
 -- Document markers and directives: what holds where they begin holds between two fetches after them.
-use Rattle.proof_scanner.proofs.Common.{[], act_of, and_false, and_parts, ap, append-nil, append_assoc, AreLevels, arith, Arrives, awaits_past, before_by, begin_line, begins_free_line, begins_line, begins_with, begun_by, blanks_and_comment, Bool, check_document_end, columns, Directive, directive_of, directives_end, either, Entry, eqb-true, false, fetch_directive, fetch_document_end, fetch_document_marker, first_break, FlowLevel, further_lines_stand, gives_marker, has_break, has_no_break, has_no_nul, has_open_level, Held, Holds, in_flow, inr, is_at_gap, is_break, is_breakz, is_closed, is_empty, is_indented_by_spaces, is_renewed, is_required, is_separation, IsDirectiveRead, IsPiece, IsReadOn, Key, length, line_is_done, List, may_precede, no_nul_after, None, on_held, Option, or_true, other, past, past_blanks_and_comment, past_line_rest, peek, Position, position_after, position_append, previous_by, push, put, read, read_as, refl, refused, remove_implicit_key, replicate-append-replicate, ScannerState, seen, settled, shown_position, Site, site_in, skip_indicator, Some, subst, sym, taken, Tok, token_of, top_key, true, unroll_indent, went, whole_directive, with_top, ℕ, ◌++◌, ◌∙◌, ◌∷◌, ◌≡◌, ◌≤◌}
+use Rattle.proof_scanner.proofs.Common.{[], act_of, and_false, and_parts, ap, append-nil, append_assoc, AreLevels, arith, Arrives, awaits_past, before_by, begin_line, begins_free_line, begins_line, begins_with, begun_by, blanks_and_comment, Bool, check_document_end, columns, Directive, directive_of, directives_end, either, Entry, eqb-true, false, fetch_directive, fetch_document_end, fetch_document_marker, first_break, FlowLevel, further_lines_stand, gives_marker, has_break, has_no_break, has_no_nul, has_open_level, Held, Holds, in_flow, inr, is_at_gap, is_break, is_breakz, is_closed, is_empty, is_indented_by_spaces, is_renewed, is_required, is_separation, IsDirectiveRead, IsPiece, IsReadOn, Key, length, List, may_precede, no_nul_after, None, on_held, Option, or_true, other, past, past_blanks_and_comment, past_line_rest, peek, Position, position_after, position_append, previous_by, push, put, read, read_as, refl, refused, remove_implicit_key, replicate-append-replicate, ScannerState, seen, settled, shown_position, Site, site_in, skip_indicator, Some, subst, sym, taken, Tok, token_of, top_key, true, unroll_indent, went, whole_directive, with_top, ℕ, ◌++◌, ◌∙◌, ◌∷◌, ◌≡◌, ◌≤◌}
 use Rattle.proof_scanner.proofs.Sound.Steps.{exactly, held_exactly, Onward, adjacent_kept, all_levels, by_sides, ArrivesBy, at_end_of, ends_of, goes_inside, is_done, key_gone, line_rest_cut, line_rest_fills, line_rest_in_line, none_indents, read_outside, Reads, rest_skipped, same_in_line, shorter, some_rest, three_past, tokens_before, unrolled_in_flow, with_entries, same_has_break}
 use Rattle.defs_token.specs.Account.{Account as PieceAccount}
 use Rattle.model_scanner.specs.Directive.{directive}
@@ -137,23 +137,19 @@ document_start_keeps text more t a e gap col =
 abbrev pub end_read : (more : List ℕ) → Position → Read
 end_read more p = record { tok = Tok.document_end; piece = 46 ∷ 46 ∷ 46 ∷ []; gap = blanks_and_comment more; rest = past_blanks_and_comment more; end = past_line_rest (past (past (past p))) more; leading = false }
 
-pub end_is_read : (t : ScannerState) (more : List ℕ) (p : Position) → p ≡ t.held.position → t.rest ≡ 46 ∷ 46 ∷ 46 ∷ more → is_at_gap more ≡ true → t.held.position.col ≡ 0 → line_is_done (blanks_and_comment more ++ past_blanks_and_comment more) ≡ true → IsRead t (end_read more p)
-unfolding is_break
-end_is_read t more p same e a col done = grind (arith, line_rest_in_line, three_past, same_in_line, none_indents, and_false, line_rest_cut, line_rest_fills)
-
 -- the state after the marker
 abbrev pub marked : ScannerState → Held → (rest : List ℕ) → ScannerState
 marked t h r = on_held (push t.held.position Tok.document_end) (skip_indicator (skip_indicator (skip_indicator (record { rest = r; held = begun_from h }))))
 
 -- `...`, after which the line holds no more
 pub document_end_keeps : (text more : List ℕ) (t : ScannerState) → Arrives text t → t.rest ≡ 46 ∷ 46 ∷ 46 ∷ more → is_at_gap more ≡ true → t.held.position.col ≡ 0 → Holds (Onward text t.rest) (fetch_document_end t)
-unfolding fetch_document_end fetch_document_marker check_document_end
+unfolding fetch_document_end fetch_document_marker check_document_end is_break
 document_end_keeps text more t a e gap col =
     let b : Begins text t = begins text t (ap is_empty e) a in
     let clean : has_no_nul more ≡ true = no_nul_after (46 ∷ 46 ∷ 46 ∷ []) more (subst (λ l. has_no_nul l ≡ true) e a.is_clean) in
     exactly {x = marked t b.held (46 ∷ 46 ∷ 46 ∷ more)} _ (exactly _ (held_exactly t (line_begun t.held b.held b.rolled)) (λ optional. went (ap (marked t b.held) e, optional))) (λ optional.
     exactly _ (rest_skipped _) (λ hash. either (is_breakz (peek (past_blanks_and_comment more))) (λ ends. went
-    (b.stands (end_read more b.held.position) (end_is_read t more b.held.position b.same_position e gap col (grind (arith, blanks_and_comment, is_done, line_rest_fills, same_has_break, line_rest_in_line, at_end_of, no_nul_after, line_rest_cut, begins_with, eqb-true))) optional)) (λ no. refused)))
+    (b.stands (end_read more b.held.position) (grind (arith, b.same_position, blanks_and_comment, is_done, same_has_break, at_end_of, no_nul_after, begins_with, eqb-true, line_rest_in_line, three_past, same_in_line, none_indents, and_false, line_rest_cut, line_rest_fills)) optional)) (λ no. refused)))
 
 -- ---- directives
 

@@ -1,6 +1,6 @@
 -- The key that may begin with a node, among the open keys.
-use Rattle.proof_scanner.proofs.Common.{[], After, after, ap, AreNumbered, arith, begins_free_line, Bool, eqb-true, false, has_break, is_empty, is_in_column, is_waiting, IsLineHere, IsLive, IsOpenHere, IsOpenOutside, IsTakenBy, Key, length, length-append, line_by, line_past_separation, List, MayChoose, must_be_key, nat_tests, not, NotBefore, Option, Position, ScannerState, Site, site_here, Some, subst, suc, sym, taken, Token, ℕ, ◌&&◌, ◌++◌, ◌∙◌, ◌∷◌, ◌≡◌, ◌≤◌}
-use Rattle.proof_scanner.proofs.Sound.Common.{after_then, all_go_on, AreSame, ArrivesBy, choice_before, first_not_right, IsDeep, must_be, no_waiting, not_before_after, not_before_same, not_before_then, numbered_around, numbered_more, saved, saved_keys, weaker}
+use Rattle.proof_scanner.proofs.Common.{[], After, after, ap, AreNumbered, arith, Bool, eqb-true, false, has_break, is_empty, is_in_column, is_waiting, IsLineHere, IsLive, IsOpenHere, IsOpenOutside, IsTakenBy, Key, length, length-append, line_by, List, MayChoose, must_be_key, nat_tests, not, NotBefore, Option, Position, ScannerState, Site, site_here, Some, subst, suc, sym, taken, Token, ℕ, ◌&&◌, ◌++◌, ◌∙◌, ◌∷◌, ◌≡◌, ◌≤◌}
+use Rattle.proof_scanner.proofs.Sound.Common.{after_then, all_go_on, AreSame, ArrivesBy, first_not_right, IsDeep, must_be, no_waiting, not_before_after, not_before_same, not_before_then, numbered_around, numbered_more, saved, saved_keys, weaker}
 
 -- the key that may begin here
 abbrev pub new_key : ScannerState → Key
@@ -43,10 +43,6 @@ module _ (text : List ℕ) (t : ScannerState) (k : Option Key) (a : ArrivesBy te
     live_now : (x : Key) → IsLive x end rest → IsLive x t.held.position t.rest
     live_now x l = (omega (arith, later.0, l.0), some)
 
-    pub unbroken_node : (strict c : Bool) → MayChoose strict c (saved t.held.key_allowed (new_key t) k) end rest →
-        line_past_separation false (begins_free_line a.site.before a.separation) (line_by (choice_before t.held.key_allowed c) k a.line) ≡ Some (line_by (choice_before t.held.key_allowed c) k a.line_here)
-    unbroken_node strict c may = grind arith
-
     pub one_node : (piece : List ℕ) → (is_empty rest ≡ false → end.line ≤ t.held.position.line → has_break piece ≡ false) → (strict c : Bool) → MayChoose strict c (saved t.held.key_allowed (new_key t) k) end rest →
         (has_break piece && is_waiting (line_by c (saved t.held.key_allowed (new_key t) k) taken)) ≡ false
     one_node piece one strict c may = grind (arith, not_before_same, open_before, no_waiting)
@@ -54,9 +50,6 @@ module _ (text : List ℕ) (t : ScannerState) (k : Option Key) (a : ArrivesBy te
     -- after it a live key has taken the line, if no key may begin there
     pub taken_node : (allowed : Bool) → (is_empty rest ≡ false → end.line ≤ t.held.position.line → allowed ≡ false) → IsTakenBy allowed end rest (saved t.held.key_allowed (new_key t) k) taken
     taken_node allowed none = grind (arith, not_before_same, open_before)
-
-    pub may_node : (strict c : Bool) → MayChoose strict c (saved t.held.key_allowed (new_key t) k) end rest → MayChoose strict (choice_before t.held.key_allowed c) k t.held.position t.rest
-    may_node strict c may = grind arith
 
     pub line_node : IsLineHere false t.held.key_allowed (0 ∷ []) k a.line_here
     line_node = grind arith

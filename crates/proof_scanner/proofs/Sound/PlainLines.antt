@@ -232,17 +232,13 @@ pub record PlainFits (ctx : Context) (p : Position) (piece gap rest : List ℕ) 
   pub dash : (ctx.flow && has_dash_before_flow piece (gap ++ rest)) ≡ false
   pub clear : is_gap gap ≡ true → has_break gap ≡ true → (is_at_comment_or_end rest ≡ true) ⊎ (has_tab_within ctx.indent (last_line gap) ≡ false)
 
-starts_deep : (ctx : Context) (a : List ℕ) (p : Position) → starts ctx a p ≡ Ok tt → ctx.flow ≡ true → ctx.indent ≤ p.col
-unfolding starts
-starts_deep ctx a p h f = grind (arith, at)
-
 of_passed : (ctx : Context) (p : Position) (text piece gap rest : List ℕ) → text ≡ piece ++ (gap ++ rest) → (ctx.flow ≡ true → ctx.indent ≤ p.col) → Passed ctx.indent ctx.flow in_text false text rest → PlainFits ctx p piece gap rest
 of_passed ctx p text piece gap rest cut deep w =
     let same : w.passed ≡ piece ++ gap = append_cancel_right w.passed (piece ++ gap) rest (sym w.cut ∙ (cut ∙ sym (append_assoc piece gap rest))) in
     grind (arith, deep, w, gap_spot ctx.indent in_text piece gap rest, lines_fit ctx.indent in_text piece gap rest, no_last_dash ctx.flow false piece gap rest, broken_gap ctx.indent)
 
 pub plain_fits : (ctx : Context) (p : Position) (text piece gap : List ℕ) (r : Read Plain) → begins_solid text ≡ true → text ≡ piece ++ (gap ++ r.rest) → plain ctx text p ≡ Ok r → PlainFits ctx p piece gap r.rest
-unfolding plain
+unfolding plain starts
 plain_fits ctx p [] piece gap r begins cut e = absurd (cc begins)
 plain_fits ctx p (c ∷ a) piece gap r begins cut e = by (starts ctx (c ∷ a) p) refl e
   where
@@ -256,5 +252,5 @@ plain_fits ctx p (c ∷ a) piece gap r begins cut e = by (starts ctx (c ∷ a) p
     ran (Err g) f h = absurd (cc h)
 
     by : (x : Result (Unit {0}) Fault) → starts ctx (c ∷ a) p ≡ x → and_then x (λ _. plain_from ctx p (c ∷ a) (record { mode = first; position = p; folded = nothing })) ≡ Ok r → PlainFits ctx p piece gap r.rest
-    by (Ok u) f h = of_passed ctx p (c ∷ a) piece gap r.rest cut (starts_deep ctx (c ∷ a) p f) (ran (run (turn ctx p) (c ∷ a) (record { mode = first; position = p; folded = nothing })) refl h)
+    by (Ok u) f h = of_passed ctx p (c ∷ a) piece gap r.rest cut (grind (arith, at)) (ran (run (turn ctx p) (c ∷ a) (record { mode = first; position = p; folded = nothing })) refl h)
     by (Err g) f h = absurd (cc h)

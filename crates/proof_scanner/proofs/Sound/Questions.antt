@@ -1,9 +1,9 @@
 -- The function of the model that reads a dash: what holds where it begins holds between two fetches after it.
-use Rattle.proof_scanner.proofs.Common.{BlockEntryInFlow, BlockEntryNotAllowed, TabAfterKey, before_by, [], if◌then◌else◌, weakened, allow_key, another, ap, AreLevels, arith, Arrives, At, begin_key, begins_with_space_or_break, blanks_and_comment, both_hold, check_block_entry, check_dash, check_key_space, checked, columns, dash_may_precede, Entry, eqb-true, false, Fault, fetch_block_entry, fetch_key, FlowLevel, gap, gives_question, has_break, has_open_level, has_tab_before_piece, Held, Holds, in_flow, Indent, inl, is_at_break_or_flow, is_at_gap, is_blank, is_break, is_empty, is_one_of, is_separation, Key, Keyed, keyed, leading, lexed, List, No, None, not, not-false, Ok, on_held, opened, Option, or_parts, or_true, pair_past, past, past_blanks_and_comment, peek, Position, position_after, push, refl, remove_implicit_key, Result, roll_entry, roll_indent, same_break, ScannerState, settled, Site, skip_indicator, skip_spaces, skip_yaml_whitespace, Some, space, subst, suc, sym, take, takes_pair, Tok, token, top_needs_block_end, true, try_held, went, Yes, ℕ, ◌==◌, ◌>>=◌, ◌∙◌, ◌∷◌, ◌≡◌, ◌≤◌, refused, append_assoc, append_assoc, append-nil, append-nil}
+use Rattle.proof_scanner.proofs.Common.{BlockEntryInFlow, BlockEntryNotAllowed, TabAfterKey, before_by, [], if◌then◌else◌, weakened, allow_key, another, ap, AreLevels, arith, Arrives, At, begin_key, begins_with_space_or_break, blanks_and_comment, both_hold, check_block_entry, check_dash, check_key_space, checked, columns, dash_may_precede, Entry, eqb-true, false, Fault, fetch_block_entry, fetch_key, FlowLevel, gap, gives_question, has_break, has_open_level, has_tab_before_piece, Held, Holds, in_flow, Indent, inl, is_at_break_or_flow, is_at_gap, is_break, is_empty, is_one_of, is_separation, Key, Keyed, keyed, lexed, List, No, None, not, not-false, Ok, on_held, opened, Option, or_parts, or_true, pair_past, past, peek, Position, position_after, push, refl, remove_implicit_key, Result, roll_entry, roll_indent, same_break, ScannerState, settled, Site, skip_indicator, skip_spaces, skip_yaml_whitespace, Some, space, subst, suc, sym, take, takes_pair, Tok, token, top_needs_block_end, true, try_held, went, Yes, ℕ, ◌==◌, ◌>>=◌, ◌∙◌, ◌∷◌, ◌≡◌, ◌≤◌, refused, append_assoc, append_assoc, append-nil, append-nil}
 use Rattle.yaml_chars.specs.Class.{is_break as is_break_here, is_flow as is_flow_here}
 use Rattle.model_scanner.specs.State.{after, after as after_first}
 use Rattle.proof_lexers.proofs.Bridges.{same_flow}
-use Rattle.proof_scanner.proofs.Sound.Steps.{exactly, held_exactly, ArrivesBy, IsDeep, Onward, Reads, RollsTo, adjacent_kept, begins_here, begun_after, by_sides, entry_from, first_not_right, found_in, gap_here, goes_inside, indicator_end, key_removed, line_free, line_rest_cut, line_rest_fills, line_rest_in_line, low_enough, none_skipped, opens_one, past_one, past_rest, past_rest_is_clear, read_outside, reads_before_none, rest_read, rolls_to, tokens_before, top_closed, with_sides, with_start}
+use Rattle.proof_scanner.proofs.Sound.Steps.{exactly, held_exactly, ArrivesBy, IsDeep, Onward, Reads, RollsTo, adjacent_kept, begins_here, begun_after, by_sides, entry_from, first_not_right, gap_here, goes_inside, indicator_end, key_removed, line_free, line_rest_cut, line_rest_fills, line_rest_in_line, low_enough, none_skipped, opens_one, past_one, past_rest, past_rest_is_clear, read_outside, reads_before_none, rest_read, rolls_to, tokens_before, top_closed, with_sides, with_start}
 use Rattle.model_scanner.specs.declared.level.FlowLevel.TheVariants.{Entry as InEntry}
 use Rattle.proof_scanner.proofs.Sound.WhiteSpaces.{no_tab_before, no_tab_in_last, past_white, past_white_space, white_cut, white_exactly, white_first, white_of}
 use Rattle.proof_lexers.specs.PlainEnds as ends
@@ -14,11 +14,6 @@ use Rattle.proof_lexers.specs.PlainEnds as ends
 pub entry_checked : (s : Held) → Holds (λ u. (u ≡ s) × ((in_flow s ≡ false) × (s.key_allowed ≡ true))) (check_block_entry s)
 unfolding check_block_entry
 entry_checked s = checked (in_flow s) (At BlockEntryInFlow s.position) (λ e. checked (not s.key_allowed) (At BlockEntryNotAllowed s.position) (λ f. went (refl, (e, not-false s.key_allowed f))))
-
--- no dash stands after a TAB
-dash_checked : (more : List ℕ) (t : ScannerState) → t.rest ≡ past_blanks_and_comment more → Holds (λ u. (u ≡ t) × (dash_may_precede more ≡ true)) (check_dash (found_in (leading is_blank more)) t)
-unfolding check_dash
-dash_checked more t e = grind (arith, checked, went, eqb-true, gap_here)
 
 -- ---- the levels of indentation after it
 
@@ -44,11 +39,11 @@ entry_then x = try_held remove_implicit_key (roll_entry x) >>= λ y. Ok (on_held
 dash_outside : (text more : List ℕ) (t : ScannerState) → ArrivesBy text (with_sides t [] (None ∷ [])) [] (None ∷ []) [] → t.rest ≡ 45 ∷ more →
     is_at_gap more ≡ true → t.held.key_allowed ≡ true → IsDeep t.held →
     Holds (Onward text t.rest) (entry_from (with_sides t [] (None ∷ [])) (with_sides t [] (None ∷ [])))
-unfolding is_break
+unfolding is_break check_dash
 dash_outside text more t a e gap allowed deep =
     subst (λ (w : ScannerState). Holds (Onward text t.rest) (lexed (space Yes w.rest w.held.position) w.held check_dash >>= λ x. skip_spaces No x >>= entry_then))
     (sym (ap (λ x. record { rest = after_first x; held = roll_indent p.col None Tok.block_sequence_start p h }) e ∙ ap (λ x. record { rest = more; held = x }) r.is_held))
-    (exactly _ (rest_read v check_dash _ (λ _. dash_checked more (past_rest v) refl)) (λ apart.
+    (exactly {C = dash_may_precede more ≡ true} _ (rest_read v check_dash _ (λ _. grind (arith, checked, went, eqb-true, gap_here))) (λ apart.
     subst (λ x. Holds (Onward text t.rest) (x >>= entry_then)) (sym (none_skipped (past_rest v) (past_rest_is_clear more))) (last apart)))
   where
     p : Position

@@ -45,14 +45,11 @@ pub record Onward (text before : List ℕ) (u : ScannerState) : Type 0 where
   pub stands : Stands text u
   pub less : length u.rest < length before
 
-filled : (piece : List ℕ) → is_empty piece ≡ false → 0 < length piece
-filled piece h = grind arith
-
 pub stands_so : (text : List ℕ) (t u : ScannerState) (piece next gap : List ℕ) (gs : List FlowLevel) (ls : List (Option Key)) (base : Account) → has_no_nul t.rest ≡ true → t.held.started ≡ true → t.held.ended ≡ false →
     Reads t u base.site piece next gap → StandsThen text u gs ls base gap → Onward text t.rest u
 stands_so text t u piece next gap gs ls base clean started going r g = record {
   stands = grind (arith, no_nul_after, stands_by);
-  less = let first = ap length r.cut in let second = ap length r.is_rest in let n = length-append piece next in let m = length-append gap u.rest in omega (arith, first, second, n, m, filled piece r.is_solid);
+  less = let first = ap length r.cut in let second = ap length r.is_rest in let n = length-append piece next in let m = length-append gap u.rest in omega (arith, first, second, n, m, not_none piece r.is_solid);
 }
 
 -- ---- what is the same for many pieces

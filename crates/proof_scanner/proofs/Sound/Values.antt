@@ -193,9 +193,6 @@ module _ (text more : List ℕ) (t : ScannerState) (f : FlowLevel) (fs : List Fl
   abbrev key_in : Bool → Position → (next : List ℕ) → List Token → List Token
   key_in single q next ts = put_key single (put (pair_position q next) Tok.flow_mapping_start) k.number k.position ts
 
-  abbrev own : List Token
-  own = put t.held.position Tok.value ∷ []
-
   inner_alike : key_in (takes_pair x.kind x.pair) (position_after (position_after a.site.position a.separation (58 ∷ more)) (58 ∷ []) more) more a.tokens ++ (put (position_after a.site.position a.separation (58 ∷ more)) Tok.value ∷ []) ≡ inner_after.held.tokens
   unfolding is_break
   inner_alike =
