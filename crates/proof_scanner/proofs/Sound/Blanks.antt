@@ -25,8 +25,7 @@ no_break_in_blanks (c ∷ a) = grind (arith, no_break_in_blanks a)
 blanks_walked : (a : List ℕ) (p : Position) (w : Whitespace) →
     walk (space_step Yes) a (record { position = p; found = w }) ≡ record { rest = after is_blank a; state = record { position = position_after p (leading is_blank a) []; found = with_blanks w (leading is_blank a) } }
 unfolding is_blank is_break
-blanks_walked [] p w = ap (λ (x : Position). record { rest = []; state = record { position = x; found = w } }) refl ∙ ap (λ (x : Whitespace). record { rest = []; state = record { position = p; found = x } })
-    (ap (λ b. record { found_tabs = b; has_valid_yaml_ws = w.has_valid_yaml_ws }) (sym (or_false w.found_tabs)) ∙ ap (λ b. record { found_tabs = (with_blanks w []).found_tabs; has_valid_yaml_ws = b }) (sym (or_false w.has_valid_yaml_ws)))
+blanks_walked [] p w = grind (arith, or_false)
 blanks_walked (c ∷ a) p w = grind (arith, blanks_walked a)
 
 -- ---- a comment

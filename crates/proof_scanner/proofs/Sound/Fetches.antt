@@ -44,8 +44,7 @@ here_kept text nul t a =
 -- This stays so after stale keys are dropped.
 stale_kept : (text before rest : List ℕ) (t : ScannerState) → length rest ≤ length before → Fetched text rest t → Holds (Fetched text before) (try_held stale t)
 stale_kept text before rest t m (inl s) = tried t (stale t.held) (stale_stands text t s.stands) (λ h d. inl (record { stands = d.stands; less = omega (arith, s.less, m) }))
-stale_kept text before rest t m (inr e) = tried t (stale t.held) (keys_only t.held) (λ h d.
-    inr (ap (λ y. y.ended) d ∙ e.0, rw d e.1, record { began = ap (λ y. y.started) d ∙ e.2.began; position = ap (λ y. y.position) d ∙ e.2.position }))
+stale_kept text before rest t m (inr e) = tried t (stale t.held) (keys_only t.held) (λ h d. inr (grind (arith, d, e)))
 
 pub fetched : (text : List ℕ) → has_no_nul text ≡ true → (t : ScannerState) → Stands text t → Holds (Fetched text t.rest) (fetch t)
 unfolding fetch fetch_next

@@ -118,7 +118,7 @@ module _ (text more : List ℕ) (tok : Tok) (c : ℕ) (i : IsCloser true tok c) 
   tokens_are = grind (arith, append_assoc, tokens_before)
 
   clean : has_no_nul left ≡ true
-  clean = no_nul_after gap left (subst (λ r. has_no_nul r ≡ true) (line_rest_cut more) (no_nul_after (c ∷ []) more (subst (λ r. has_no_nul r ≡ true) cut a.is_clean)))
+  clean = grind (arith, no_nul_after, line_rest_cut more, a.is_clean, cut)
 
   -- where a colon may stand next
   adjacent_after : is_empty fs ≡ false → IsAdjacent (before_past (before_by (previous_by tok)) gap) end past_closer.held.adjacent_value_at left

@@ -1,6 +1,6 @@
 -- What a part of a node begins: an opening bracket the first entry of a collection, other pieces nothing.
-use Rattle.proof_scanner.proofs.Common.{[], if◌then◌else◌, Account, act_of, ap, append_assoc, AreNumbered, arith, begun_by, Bool, Colon, colon_of, depth_past, ends_at, entries_by, entries_past, Entry, entry_by, false, filled, first_entry, flow_mapping_start, FlowLevel, gives_node, Had, had_by, HasHadHere, insert, is_keyed, is_waiting, IsLineHere, IsLive, Key, key, key_tokens, length, level_of, Line, line_by, line_past, List, map, MayChoose, None, Option, pair_position, pop, Position, position_after, put, put_if, put_key, refl, shown_position, Site, site_here, Some, spelled, Step, suc, sym, taken, takes_pair, Tok, Token, tokens_at, tokens_of_step, tokens_up_to, true, with_had, with_keys, with_line, zero, ℕ, ◌&&◌, ◌++◌, ◌∙◌, ◌∷◌, ◌≡◌, ◌≤◌, kind_of}
-use Rattle.std.proofs.lemmas.List.Edits.{insert-append_left}
+use Rattle.proof_scanner.proofs.Common.{[], if◌then◌else◌, Account, act_of, ap, append_assoc, AreNumbered, arith, begun_by, Bool, Colon, colon_of, depth_past, ends_at, entries_by, entries_past, Entry, entry_by, false, filled, first_entry, flow_mapping_start, FlowLevel, gives_node, Had, had_by, HasHadHere, insert, is_keyed, is_waiting, IsLineHere, IsLive, Key, key, key_tokens, length, level_of, Line, line_by, line_past, List, map, MayChoose, None, Option, pair_position, pop, Position, position_after, put, put_key, refl, shown_position, Site, site_here, Some, spelled, Step, suc, sym, taken, takes_pair, Tok, Token, tokens_at, tokens_of_step, tokens_up_to, true, with_had, with_keys, with_line, zero, ℕ, ◌&&◌, ◌++◌, ◌∙◌, ◌∷◌, ◌≡◌, ◌≤◌, kind_of}
+use Rattle.std.proofs.lemmas.List.Edits.{insert-append_left, insert_end}
 use Rattle.proof_scanner.proofs.Sound.Sides.{with_entries}
 use Rattle.proof_scanner.proofs.Sound.OutOfFlow.{Outer}
 
@@ -73,11 +73,8 @@ longer (x ∷ ts) (suc n) t = ap suc (longer ts n t)
 key_first : (b : Bool) (start : Token) (n : ℕ) (here : Position) (ts us : List Token) → n ≤ length ts → put_key b start n here (ts ++ us) ≡ put_key b start n here ts ++ us
 key_first b start n here ts us h = grind (arith, longer, insert-append_left)
 
-if_longer : (b : Bool) (ts : List Token) (n : ℕ) (t : Token) → length ts ≤ length (put_if b n t ts)
-if_longer a ts n t = grind (arith, longer)
-
 pub key_longer : (b : Bool) (start : Token) (n : ℕ) (here : Position) (ts : List Token) → length ts ≤ length (put_key b start n here ts)
-key_longer b start n here ts = let k = longer ts n (put here key) in let l = if_longer b (insert ts n (put here key)) n start in omega (arith, k, l)
+key_longer b start n here ts = grind (arith, longer)
 
 -- each open key's number is among so many
 abbrev pub AreAmong : (many : ℕ) → List (Option Key) → Type 0
@@ -87,8 +84,7 @@ AreAmong many (Some k ∷ ks) = (k.number ≤ many) × AreAmong many ks
 
 pub fewer : (m n : ℕ) (ks : List (Option Key)) → m ≤ n → AreAmong m ks → AreAmong n ks
 fewer m n [] h a = tt
-fewer m n (None ∷ ks) h a = fewer m n ks h a
-fewer m n (Some k ∷ ks) h a = (omega (arith, h, a.0), fewer m n ks h a.1)
+fewer m n (k ∷ ks) h a = grind (arith, fewer m n ks)
 
 pub among : (many : ℕ) (ks : List (Option Key)) → AreNumbered many ks → AreAmong many ks
 among many [] a = tt
@@ -149,13 +145,9 @@ keys_past kind d p w ws last e f bs l es ks ts = keys_along (λ n. n) (depth_beg
 
 -- ---- a key that begins with the last token
 
-insert_between : (ts us : List Token) (t : Token) → insert (ts ++ us) (length ts) t ≡ ts ++ (t ∷ us)
-insert_between [] us t = refl
-insert_between (x ∷ ts) us t = ap (λ l. x ∷ l) (insert_between ts us t)
-
 -- a key goes in before the tokens of its node
 pub key_between : (begins : Bool) (p : Position) (start : Tok) (here : Position) (ts us : List Token) → put_key begins (put p start) (length ts) here (ts ++ us) ≡ ts ++ (key_tokens begins p start here ++ us)
-key_between a p start here ts us = grind (arith, insert_between)
+key_between a p start here ts us = grind (arith, insert-append_left, insert_end, append_assoc)
 
 -- ---- the tokens of the step
 

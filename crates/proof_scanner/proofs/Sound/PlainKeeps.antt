@@ -1,5 +1,5 @@
 -- Plain scalars: what holds between two fetches holds after them.
-use Rattle.proof_scanner.proofs.Common.{Arrives, Bool, Context, Entry, FlowLevel, HasNoTabs, Holds, IsPiece, IsPlainRead, Key, Levels, List, None, Ok, Option, Plain, Position, ScannerState, Site, Some, Style, Tok, [], allow_key, and_parts, ap, arith, awaits_past, before_by, before_past, begins_plain, begins_separation, begins_solid, begins_white, collection_column, collection_of, comes_plain, ends_with_content, eqb-true, false, fetch_plain_scalar, has_break, has_no_nul, in_flow, innermost, innermost_column, is_adjacent, is_blank, is_break, is_deep_enough, is_empty, is_gap, is_indented, is_no_comment, is_one_of, is_renewed, is_white, is_whole_plain, leading, least_column, map, nat_tests, not, other, plain_scalar, plain_value, position_after, position_append, read, read_as, refl, scans_end, seen, sym, true, unroll_non_block_indents, went, whole_plain, without_open, ℕ, ◌++◌, ◌==◌, ◌∙◌, ◌∷◌, ◌≡◌, ◌≤◌, after_plain, go_on, on_held, push, with_levels}
+use Rattle.proof_scanner.proofs.Common.{Arrives, Bool, Context, Entry, FlowLevel, HasNoTabs, Holds, IsPiece, IsPlainRead, Key, Levels, List, None, Ok, Option, Plain, Position, ScannerState, Site, Some, Style, Tok, [], allow_key, and_parts, ap, arith, awaits_past, before_by, before_past, begins_separation, begins_solid, begins_white, collection_of, comes_plain, ends_with_content, eqb-true, false, fetch_plain_scalar, has_break, has_no_nul, in_flow, innermost, innermost_column, is_adjacent, is_break, is_deep_enough, is_empty, is_gap, is_indented, is_no_comment, is_one_of, is_renewed, is_white, is_whole_plain, leading, least_column, map, nat_tests, not, other, plain_scalar, plain_value, position_after, position_append, read, read_as, refl, scans_end, seen, sym, true, unroll_non_block_indents, went, whole_plain, without_open, ℕ, ◌++◌, ◌==◌, ◌∙◌, ◌∷◌, ◌≡◌, ◌≤◌, after_plain, go_on, on_held, push, with_levels}
 use Rattle.defs_token.specs.Account.{Account as PieceAccount, is_in_flow}
 use Rattle.model_scanner.specs.Machine as machine
 use Rattle.model_scanner.specs.Plain.{plain}
@@ -34,7 +34,7 @@ plain_as ctx p text x none begins indented e = by x (read_as e (scans_end ctx te
 -- ---- its piece and its gap
 
 content_last : (c : ℕ) (r : List ℕ) → ends_with_content c r ≡ true → ends_in_line (c ∷ r) ≡ true
-content_last c [] h = (and_parts (not (is_blank c)) (not (is_break c)) h).1
+content_last c [] h = grind (arith, and_parts)
 content_last c (d ∷ r) h = content_last d r h
 
 whole_solid : (fl : Bool) (collection : Option ℕ) (piece next : List ℕ) → is_whole_plain fl collection piece next ≡ true → is_empty piece ≡ false

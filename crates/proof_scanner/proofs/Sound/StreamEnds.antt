@@ -1,18 +1,15 @@
 -- Where a text ends: no open key is one, and the stream's end and those of the block collections stand where the row has them.
 use Rattle.proof_scanner.proofs.Sound.Rolled.{all_close}
 use Rattle.std.proofs.lemmas.List.{append-nil}
-use Rattle.proof_scanner.proofs.Common.{KeyExpected, if◌then◌else◌, [], Account, AreAround, AreCollections, AreEntries, AreLevels, Arrives, At, Bool, Completes, Entry, FlowLevel, Had, HasHad, Held, Holds, Indent, IsRead, Key, Levels, Line, List, MayChoose, Option, Position, ScannerState, Site, Step, Token, ap, append_assoc, arith, block_end, blocks, checked, chosen, cleared, columns, ended_at, ends_at, ends_here, ends_with_stream, entries_by, false, fetch_stream_end, has_required, have_no_key, in_flow, is_empty, is_keyed, is_renewed, is_waiting, length, may_end, nat_lt, next_line, not, not-true, not_ended, outside_key, pop, position_after, put, refl, replicate, site_here, stream_position, subst, suc, sym, tokens_at_end, tokens_up_to, tried, true, unroll_indent, unrolled, went, with_keys, ℕ, ◌++◌, ◌∙◌, ◌∷◌, ◌≡◌, ◌≤◌, IsNotRight, innermost, end_level}
+use Rattle.proof_scanner.proofs.Common.{KeyExpected, if◌then◌else◌, [], Account, AreAround, AreCollections, AreEntries, AreLevels, Arrives, At, Bool, Completes, Entry, FlowLevel, Held, Holds, Indent, IsRead, Key, Levels, Line, List, MayChoose, Option, Position, ScannerState, Site, Step, Token, ap, append_assoc, arith, block_end, blocks, checked, chosen, cleared, columns, ended_at, ends_at, ends_here, ends_with_stream, entries_by, false, fetch_stream_end, has_required, have_no_key, in_flow, is_empty, is_renewed, is_waiting, length, may_end, nat_lt, next_line, not, not-true, not_ended, outside_key, pop, position_after, put, refl, replicate, site_here, stream_position, suc, sym, tokens_at_end, tokens_up_to, tried, true, unroll_indent, unrolled, went, with_keys, ℕ, ◌++◌, ◌∙◌, ◌∷◌, ◌≡◌, ◌≤◌, IsNotRight, innermost, end_level}
 use Rattle.proof_scanner.proofs.Cut.Documents.{unroll_keeps}
 use Rattle.proof_scanner.proofs.Sound.Completed.{completed_at_end}
 use Rattle.proof_scanner.proofs.Cut.Unrolls.{unrolled_in_flow}
 
 -- ---- no key waits
 
-had_no_key : (k : Option Key) (h : Had) → HasHad k h → is_keyed h ≡ false
-had_no_key a h e = grind arith
-
 around_no_key : (fs : List FlowLevel) (ks : List (Option Key)) (es : List Entry) → AreAround fs ks es → have_no_key es ≡ true
-around_no_key (f ∷ fs) (k ∷ ks) (e ∷ es) a = rw (had_no_key k e.had a.1, around_no_key fs ks es a.2) refl
+around_no_key (f ∷ fs) (k ∷ ks) (e ∷ es) a = grind (arith, around_no_key fs ks es)
 around_no_key fs ks es a = grind arith
 
 pub entries_no_key : (allowed again : Bool) (fs : List FlowLevel) (ks : List (Option Key)) (es : List Entry) → AreEntries allowed again fs ks es → have_no_key es ≡ true
@@ -136,14 +133,10 @@ at_stream_end h = record h { position = next_line h.position; keys = cleared h.k
 pub same_flow : (allowed again : Bool) (fs : List FlowLevel) (ks : List (Option Key)) (es : List Entry) → AreEntries allowed again fs ks es → is_empty fs ≡ is_empty es
 same_flow allowed again a ks es b = grind arith
 
-in_flow_too : (h : Held) (ts : List Token) (bs : List ℕ) (e : Entry) (es : List Entry) → in_flow h ≡ true → h.tokens ≡ ts → (ended_at (unroll_indent 0 (at_stream_end h))).tokens ≡ ts ++ tokens_at_end h.position bs (e ∷ es)
-in_flow_too h ts bs e es within tokens = grind (arith, unrolled_in_flow, not-true, same_line_start)
-
 last_tokens : (h : Held) (ts : List Token) (x : Site) (es : List Entry) → is_empty h.flow ≡ is_empty es → AreLevels h.indent h.indents → h.tokens ≡ ts ++ ends_here (not (is_empty h.flow)) h.position x.blocks →
     (site_here (not (is_empty h.flow)) h.position x).blocks ≡ columns h.indent h.indents → (ended_at (unroll_indent 0 (at_stream_end h))).tokens ≡ ts ++ tokens_at_end h.position x.blocks es
 last_tokens h ts x [] e levels tokens blocks = grind (arith, unrolled_outside, same_line_start, append_assoc, ends_by_levels, ends_here, columns)
-last_tokens h ts x (y ∷ es) e levels tokens blocks =
-    in_flow_too h ts x.blocks y es (ap not e) (subst (λ b. h.tokens ≡ ts ++ ends_here (not b) h.position x.blocks) e tokens ∙ append-nil ts)
+last_tokens h ts x (y ∷ es) e levels tokens blocks = grind (arith, unrolled_in_flow, not-true, same_line_start, append-nil)
 
 -- At the text's end the stream ends, unless a key must still come to its colon, and the tokens are those of a row of the text.
 pub stream_ended : (text : List ℕ) (t : ScannerState) → Arrives text t → t.rest ≡ [] →
