@@ -1,5 +1,5 @@
 -- A colon that ends no key: what holds where it begins holds between two fetches after it.
-use Rattle.proof_scanner.proofs.Common.{ValueNotAllowed, [], if◌then◌else◌, Account, allow_key, another, ap, append-nil, append_assoc, AreLevels, arith, Arrives, At, before_by, before_past, begin_keyless_mapping, begin_keyless_value, begin_pair, begins_free_line, Bool, chained, check_value_space, checked, chosen, colon_may_precede, columns, ends_at, entries_by, Entry, entry_by, false, Fault, fetch_value, first_account, FlowLevel, gives_colon, has_open_level, Held, Holds, in_flow, Indent, inl, innermost, inr, insert, insert_key, is_adjacent, is_break, is_deeper, is_empty, is_near, is_value, is_value_indicator, IsEntryOf, IsLive, IsNotRight, Key, length, length-append, Line, List, MayChoose, None, not, not-false, not_ended, Ok, on_held, opened, opens_pair, Option, Outside, outside_key, pair_past, pair_position, paired, past, placed, pop, Position, position_after, push, put, put_key, refl, Result, roll_indent, roll_one_col_indent, ScannerState, settled, Site, site_at, site_here, Some, spelled, Step, subst, suc, sym, taken, takes_pair, Tok, Token, token, tokens_at, tokens_of_step, tokens_up_to, top_key, tried, true, try_held, waits, went, with_held, with_keys, ℕ, ◌++◌, ◌==◌, ◌>>=◌, ◌||◌, ◌∙◌, ◌∷◌, ◌≡◌, ◌≤◌, KeysBefore, keys_before, line_grows, free, AreNumbered}
+use Rattle.proof_scanner.proofs.Common.{ValueNotAllowed, [], if◌then◌else◌, Account, allow_key, another, ap, append-nil, append_assoc, AreLevels, arith, Arrives, At, before_by, before_past, begin_keyless_mapping, begin_keyless_value, begin_pair, begins_free_line, Bool, chained, check_value_space, checked, chosen, colon_may_precede, columns, ends_at, entries_by, Entry, entry_by, false, Fault, fetch_value, first_account, FlowLevel, gives_colon, has_open_level, Held, Holds, in_flow, Indent, inl, innermost, inr, insert, insert_key, is_adjacent, is_break, is_deeper, is_empty, is_near, is_value, is_value_indicator, IsEntryOf, IsLive, IsNotRight, Key, length, length-append, Line, List, None, not, not-false, not_ended, Ok, on_held, opened, opens_pair, Option, Outside, outside_key, pair_past, pair_position, paired, past, placed, pop, Position, position_after, push, put, put_key, refl, Result, roll_indent, roll_one_col_indent, ScannerState, settled, Site, site_at, site_here, Some, spelled, Step, subst, suc, sym, taken, takes_pair, Tok, Token, token, tokens_at, tokens_of_step, tokens_up_to, top_key, tried, true, try_held, waits, went, with_held, with_keys, ℕ, ◌++◌, ◌==◌, ◌>>=◌, ◌||◌, ◌∙◌, ◌∷◌, ◌≡◌, ◌≤◌, KeysBefore, keys_before, line_grows, free, AreNumbered, is_required}
 use Rattle.model_scanner.specs.declared.level.FlowLevel.TheVariants.{Pair as InPair}
 use Rattle.model_scanner.specs.Block.{value_of}
 use Rattle.proof_scanner.proofs.Sound.Steps.{exactly, held_exactly, Onward, all_go_on, among, by_sides, with_sides, ArrivesBy, begun_after, ends_outside, first_not_right, goes_inside, goes_of, is_written, IsDeep, key_longer, keyless, keys_along, line_free, line_taken, low_enough, no_waiting, not_before_after, not_before_then, numbered_around, numbered_more, opens_none, opens_one, OpensOne, Outer, outer_completes, outer_then, past_one, past_step, read_outside, Reads, reads_before_none, rolls_to, RollsTo, some_levels, steps_in_flow, tokens_before, value_is, weaker, with_entries, with_start, line_rest_in_line, same_in_line}
@@ -152,19 +152,17 @@ module _ (text more : List ℕ) (t : ScannerState) (k : Key) (a : ArrivesBy text
       (let w : Step = keyless a.separation (58 ∷ []) Tok.value in tokens_up_to (Outer a.site (waits k.position)) (Some k ∷ []) a.tokens (w ∷ ws) last ++ tokens_of_step (Outer a.site (waits k.position)) w ws last ≡ keyed_end.held.tokens)
   keyed_tokens ws last h = grind (arith, quiet, (a.position_is ∙ ap (λ y. position_after a.site.position a.separation y) e), (sym same_blocks ∙ a.blocks_are), (a.tokens_are ∙ (ap (λ bs. a.tokens ++ ends_at t.held.position a.site.blocks bs) same_blocks ∙ (ap (λ x. a.tokens ++ x) (grind arith) ∙ append-nil a.tokens))), same_blocks)
 
-  pub keyed_stands : Onward text t.rest keyed_end
-  keyed_stands =
-      ends_outside text t keyed_end (Some k) a (58 ∷ []) more (colon_gap more) Tok.value outside_after x refl
+  pub keyed_outside : Holds (Onward text t.rest) (value_by more t [] (Some k ∷ []))
+  unfolding insert_key begin_pair
+  keyed_outside =
+      subst (λ r. Holds (Onward text t.rest) r) (sym (grind arith)) (went {x = keyed_end}
+      (ends_outside text t keyed_end (Some k) a (58 ∷ []) more (colon_gap more) Tok.value outside_after x refl
       (colon_reads t more awaiting.indents awaiting.indent now false [] (None ∷ []) _ e refl refl (ap (opened k.position.col) a.blocks_are ∙ sym (awaiting.columns_are ∙ rolled.columns_are)) (sym awaiting.awaits) awaiting.are_levels a.was_adjacent)
       (record { line_is = (inr refl, sym (ap not (gap_is more).2), tt); no_key = refl; flow_is = refl; keys_are = refl })
       (is_written text a.site a.separation (58 ∷ []) more Tok.value x same_site true false (waits k.position) (waits k.position) outside_after (grind (arith, (ap is_empty e), quiet, no_waiting))) refl
       (λ strict. goes_of strict text more (outer_then text a.site a.separation (58 ∷ []) more Tok.value x same_site outside_after) keyed_end.held.tokens refl refl
       (outer_completes text a.site a.separation (58 ∷ []) more Tok.value x same_site true false (waits k.position) (waits k.position) outside_after (tokens_up_to (Outer a.site (waits k.position)) (Some k ∷ []) a.tokens) (λ ws last. keyed_end.held.tokens) (grind (arith, (ap is_empty e), quiet, no_waiting)) keyed_tokens
-      (rw (sym e) (a.completes true true [] live))))
-
-  pub keyed_outside : Holds (Onward text t.rest) (value_by more t [] (Some k ∷ []))
-  unfolding insert_key begin_pair
-  keyed_outside = subst (λ r. Holds (Onward text t.rest) r) (sym (grind arith)) (went keyed_stands)
+      (rw (sym e) (a.completes true true [] live))))))
 
 -- ---- in flow
 
@@ -186,27 +184,19 @@ module _ (text more : List ℕ) (t : ScannerState) (f : FlowLevel) (fs : List Fl
   abbrev pub inner_after : ScannerState
   inner_after = colon_end t more t.held.indents t.held.indent (in_pair (opens_pair (f ∷ fs))) false (pair_level InPair f ∷ fs) (None ∷ ks)
 
-  -- the tokens of the row, at a colon's end
-  abbrev key_in : Bool → Position → (next : List ℕ) → List Token → List Token
-  key_in single q next ts = put_key single (put (pair_position q next) Tok.flow_mapping_start) k.number k.position ts
-
-  inner_alike : key_in (takes_pair x.kind x.pair) (position_after (position_after a.site.position a.separation (58 ∷ more)) (58 ∷ []) more) more a.tokens ++ (put (position_after a.site.position a.separation (58 ∷ more)) Tok.value ∷ []) ≡ inner_after.held.tokens
-  unfolding is_break
-  inner_alike =
-      grind (arith, a.position_is, e, single_is f fs (Some k) x a.are_entries.0, past_one t.held.position 58 more refl, tokens_before text t f fs (Some k) ks x es a)
-
   inner_tokens : (cs : List Bool) (l : Line) (ws : List Step) (last : List ℕ) → spelled ws last ≡ more →
       (let w : Step = keyless a.separation (58 ∷ []) Tok.value in let ys : List Entry = entry_by true (Some k) x ∷ entries_by (pop cs) ks es in
       tokens_up_to (with_entries a.site l ys) (Some k ∷ ks) a.tokens (w ∷ ws) last ++ tokens_at a.site (site_here true (position_after a.site.position a.separation (58 ∷ spelled ws last)) a.site) w ws last l ys ≡
       with_keys 1 (past_step a.site.position w ws last) ws last a.site.blocks l (entries_by (pop cs) ks es) ks inner_after.held.tokens)
+  unfolding is_break
   inner_tokens cs l ws last h =
       let w : Step = keyless a.separation (58 ∷ []) Tok.value in
       let ys : List Entry = entries_by (pop cs) ks es in
-      let first : List ℕ → List Token = λ r. key_in (takes_pair x.kind x.pair) (position_after (position_after a.site.position a.separation (58 ∷ r)) (58 ∷ []) r) r a.tokens in
       let shown : List Token = put (position_after a.site.position a.separation (58 ∷ spelled ws last)) Tok.value ∷ [] in
       keys_own 0 a.site.position (w ∷ ws) last a.site.blocks l (entry_by true (Some k) x) ys (Some k) ks a.tokens shown (among (length a.tokens) (Some k ∷ ks) a.are_numbered) ∙
-      (keys_along (λ m. suc m) (λ m. suc m) (λ m. refl) (λ m. refl) 0 a.site.position (past_step a.site.position w ws last) w ws last (λ m. refl) a.site.blocks l ys ks (first (spelled ws last) ++ shown) ∙
-      ap (λ ts. with_keys 1 (past_step a.site.position w ws last) ws last a.site.blocks l ys ks ts) (ap (λ r. first r ++ (put (position_after a.site.position a.separation (58 ∷ r)) Tok.value ∷ [])) h ∙ inner_alike))
+      (keys_along (λ m. suc m) (λ m. suc m) (λ m. refl) (λ m. refl) 0 a.site.position (past_step a.site.position w ws last) w ws last (λ m. refl) a.site.blocks l ys ks _ ∙
+      ap (λ ts. with_keys 1 (past_step a.site.position w ws last) ws last a.site.blocks l ys ks ts)
+      (grind (arith, a.position_is, e, single_is f fs (Some k) x a.are_entries.0, past_one t.held.position 58 more refl, tokens_before text t f fs (Some k) ks x es a)))
 
   pub inner_stands : (not (opens_pair (f ∷ fs)) || (k.position.line == t.held.position.line)) ≡ true → Onward text t.rest inner_after
   unfolding is_break
@@ -231,7 +221,7 @@ module _ (text more : List ℕ) (t : ScannerState) (f : FlowLevel) (fs : List Fl
 
 pub key_before : (text : List ℕ) (t : ScannerState) (f : FlowLevel) (fs : List FlowLevel) (k : Key) (ks : List (Option Key)) (x : Entry) (es : List Entry) → ArrivesBy text t (f ∷ fs) (Some k ∷ ks) (x ∷ es) → is_empty t.rest ≡ false →
     k.position.line ≤ t.held.position.line
-key_before text t f fs k ks x es a some = by (outside_key es ks) refl
+key_before text t f fs k ks x es a some = by (outside_key es ks) (is_required (outside_key es ks)) refl refl
   where
     b : Account
     b = chosen false (true ∷ []) (Some k ∷ ks) (with_entries a.site a.line (x ∷ es))
@@ -239,21 +229,15 @@ key_before text t f fs k ks x es a some = by (outside_key es ks) refl
     early : KeysBefore b → k.position.line ≤ t.held.position.line
     early h = let there = ap (λ q. q.line) a.position_is in let grows = line_grows a.site.position a.separation t.rest in omega (arith, h.0, there, grows)
 
-    may : (y : Option Key) → outside_key es ks ≡ y → MayChoose true false y t.held.position t.rest → k.position.line ≤ t.held.position.line
-    may y i h =
-        let g = (a.completes true false (true ∷ []) (rw i h)).0 in
+    by : (y : Option Key) (c : Bool) → outside_key es ks ≡ y → is_required y ≡ c → k.position.line ≤ t.held.position.line
+    by y false i e =
+        let g = (a.completes true false (true ∷ []) (rw i (grind arith))).0 in
         early (keys_before (Some first_account) g.steps (a.separation ++ t.rest) b g.leads tt)
-
-    by : (y : Option Key) → outside_key es ks ≡ y → k.position.line ≤ t.held.position.line
-    by None i = may None i tt
-    by (Some z) i = by_must z.required refl
-      where
-        by_must : (c : Bool) → z.required ≡ c → k.position.line ≤ t.held.position.line
-        by_must false e = may (Some z) i e
-        by_must true e =
-            let g = a.carries (true ∷ []) z i e refl some in
-            let first = keys_before (Some first_account) g.begins.steps (spelled g.steps (a.separation ++ t.rest)) g.account g.begins.leads tt in
-            early (keys_before (Some (record g.account { line = taken })) g.steps (a.separation ++ t.rest) b g.leads first)
+    by None true i e = absurd (cc e)
+    by (Some z) true i e =
+        let g = a.carries (true ∷ []) z i e refl some in
+        let first = keys_before (Some first_account) g.begins.steps (spelled g.steps (a.separation ++ t.rest)) g.account g.begins.leads tt in
+        early (keys_before (Some (record g.account { line = taken })) g.steps (a.separation ++ t.rest) b g.leads first)
 
 -- ---- the function of the model that reads a colon: what holds where it begins holds between two fetches after it
 
