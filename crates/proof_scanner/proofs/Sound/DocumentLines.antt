@@ -120,9 +120,6 @@ begins text t some a =
 
 -- ---- `---`
 
-abbrev pub start_read : (more : List ℕ) → Position → Read
-start_read more p = record { tok = Tok.document_start; piece = 45 ∷ 45 ∷ 45 ∷ []; gap = []; rest = more; end = past (past (past p)); leading = false }
-
 -- `---`
 pub document_start_keeps : (text more : List ℕ) (t : ScannerState) → Arrives text t → t.rest ≡ 45 ∷ 45 ∷ 45 ∷ more → is_at_gap more ≡ true → t.held.position.col ≡ 0 → Holds (Onward text t.rest) (fetch_document_marker Tok.document_start t)
 unfolding fetch_document_marker is_break
@@ -130,12 +127,10 @@ document_start_keeps text more t a e gap col =
     let b : Begins text t = begins text t (ap is_empty e) a in
     exactly _ (held_exactly t (line_begun t.held b.held b.rolled)) (λ optional. went
     (subst (λ r. Onward text t.rest (on_held (push t.held.position Tok.document_start) (skip_indicator (skip_indicator (skip_indicator (record { rest = r; held = begun_from b.held })))))) (sym e)
-    (b.stands (start_read more b.held.position) (grind (arith, and_false, e, gap, col, ap (λ q. past (past (past q))) b.same_position ∙ three_past t.held.position 45 more refl)) optional)))
+    (b.stands (record { tok = Tok.document_start; piece = 45 ∷ 45 ∷ 45 ∷ []; gap = []; rest = more; end = past (past (past b.held.position)); leading = false })
+    (grind (arith, and_false, e, gap, col, ap (λ q. past (past (past q))) b.same_position ∙ three_past t.held.position 45 more refl)) optional)))
 
 -- ---- `...`
-
-abbrev pub end_read : (more : List ℕ) → Position → Read
-end_read more p = record { tok = Tok.document_end; piece = 46 ∷ 46 ∷ 46 ∷ []; gap = blanks_and_comment more; rest = past_blanks_and_comment more; end = past_line_rest (past (past (past p))) more; leading = false }
 
 -- the state after the marker
 abbrev pub marked : ScannerState → Held → (rest : List ℕ) → ScannerState
@@ -149,7 +144,8 @@ document_end_keeps text more t a e gap col =
     let clean : has_no_nul more ≡ true = no_nul_after (46 ∷ 46 ∷ 46 ∷ []) more (subst (λ l. has_no_nul l ≡ true) e a.is_clean) in
     exactly {x = marked t b.held (46 ∷ 46 ∷ 46 ∷ more)} _ (exactly _ (held_exactly t (line_begun t.held b.held b.rolled)) (λ optional. went (ap (marked t b.held) e, optional))) (λ optional.
     exactly _ (rest_skipped _) (λ hash. either (is_breakz (peek (past_blanks_and_comment more))) (λ ends. went
-    (b.stands (end_read more b.held.position) (grind (arith, b.same_position, blanks_and_comment, is_done, same_has_break, at_end_of, no_nul_after, begins_with, eqb-true, line_rest_in_line, three_past, same_in_line, none_indents, and_false, line_rest_cut, line_rest_fills)) optional)) (λ no. refused)))
+    (b.stands (record { tok = Tok.document_end; piece = 46 ∷ 46 ∷ 46 ∷ []; gap = blanks_and_comment more; rest = past_blanks_and_comment more; end = past_line_rest (past (past (past b.held.position))) more; leading = false })
+    (grind (arith, b.same_position, blanks_and_comment, is_done, same_has_break, at_end_of, no_nul_after, begins_with, eqb-true, line_rest_in_line, three_past, same_in_line, none_indents, and_false, line_rest_cut, line_rest_fills)) optional)) (λ no. refused)))
 
 -- ---- directives
 

@@ -1,5 +1,5 @@
 -- A piece in flow was read: if the definition and the scanner agree on its entries and tokens, what holds where it begins holds between two fetches after it.
-use Rattle.proof_scanner.proofs.Common.{[], Account, account_past, act_of, ap, AreEntries, AreNumbered, arith, begins_free_line, begun_by, begun_inside, Bool, chosen, colon_of, columns, entries_by, entries_past, Entry, entry_by, false, FlowLevel, had_by, has_break, HasHadHere, is_empty, is_renewed, is_waiting, IsEntryOf, IsLine, IsPiece, Key, least_column, length, length-append, Line, line_by, line_past_separation, List, may_stand, MayChoose, nat_le, None, not, NotBefore, Option, outside_key, pair_position, pop, Position, position_after, previous_by, put, refl, ScannerState, seen, shown_position, Site, site_here, site_past, Some, spelled, Step, suc, sym, takes_pair, Tok, Token, tokens_at, tokens_up_to, true, with_had, with_keys, ℕ, ◌&&◌, ◌++◌, ◌∙◌, ◌∷◌, ◌≡◌, ◌≤◌}
+use Rattle.proof_scanner.proofs.Common.{[], Account, account_past, act_of, ap, AreEntries, AreNumbered, arith, begins_free_line, begun_by, begun_inside, Bool, chosen, colon_of, columns, entries_by, entries_past, Entry, entry_by, false, FlowLevel, has_break, HasHadHere, is_empty, is_renewed, is_waiting, IsEntryOf, IsLine, IsPiece, Key, least_column, length, length-append, Line, line_by, line_past_separation, List, may_stand, MayChoose, nat_le, None, not, NotBefore, Option, outside_key, pair_position, pop, Position, position_after, previous_by, put, refl, ScannerState, seen, shown_position, Site, site_here, site_past, Some, spelled, Step, suc, sym, takes_pair, Tok, Token, tokens_at, tokens_up_to, true, with_keys, ℕ, ◌&&◌, ◌++◌, ◌∙◌, ◌∷◌, ◌≡◌, ◌≤◌}
 use Rattle.proof_scanner.proofs.Sound.Common.{among, ArrivesBy, but_for_key_past, completes_at, goes_past, had_as_it_was, IsDeep, keys_along, line_taken, may_around, not_before_after, not_before_then, numbered_around, numbered_more, one_around, open_around, past_step, same_levels, some_rest, unbroken, unbroken_around, with_entries, keys_own}
 use Rattle.proof_scanner.proofs.Known.Steps.{keyless, knows_inside}
 use Rattle.proof_scanner.proofs.Sound.Reads.{Onward, Reads, stands_so}
@@ -109,11 +109,8 @@ numbered_then before after k ks own e h = grind (arith, length-append, numbered_
 
 -- the tokens of such a step, before a key around the entry has its colon
 module _ (text : List ℕ) (t : ScannerState) (f : FlowLevel) (fs : List FlowLevel) (k : Option Key) (ks : List (Option Key)) (e : Entry) (es : List Entry) (a : ArrivesBy text t (f ∷ fs) (k ∷ ks) (e ∷ es)) (piece next : List ℕ) (tok : Tok) (cut : t.rest ≡ piece ++ next) where
-  abbrev at_text : List ℕ → Site
-  at_text y = site_here true (position_after a.site.position a.separation (piece ++ y)) a.site
-
   pub keyless_tokens : (l : Line) (xs : List Entry) (ws : List Step) (last : List ℕ) → spelled ws last ≡ next →
-      (let w : Step = keyless a.separation piece tok in tokens_up_to (with_entries a.site l (entry_by false k e ∷ xs)) (k ∷ ks) a.tokens (w ∷ ws) last ++ tokens_at a.site (at_text (spelled ws last)) w ws last l (entry_by false k e ∷ xs) ≡
+      (let w : Step = keyless a.separation piece tok in tokens_up_to (with_entries a.site l (entry_by false k e ∷ xs)) (k ∷ ks) a.tokens (w ∷ ws) last ++ tokens_at a.site (site_here true (position_after a.site.position a.separation (piece ++ spelled ws last)) a.site) w ws last l (entry_by false k e ∷ xs) ≡
       with_keys 1 a.site.position (w ∷ ws) last a.site.blocks l xs ks (a.tokens ++ tokens_inside (site_here true t.held.position a.site) piece tok next e))
   keyless_tokens l xs ws last h =
       let w : Step = keyless a.separation piece tok in

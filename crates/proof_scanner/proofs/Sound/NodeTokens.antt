@@ -50,13 +50,9 @@ choice_before allowed c = (if allowed then false else c)
 abbrev pub bit_of : (allowed after : Bool) → Bool
 bit_of allowed c = (if allowed then c else false)
 
--- what an entry has had after a node that is no key
-abbrev pub had_past_node : (allowed : Bool) → Had → Had
-had_past_node allowed h = (if allowed then filled else h)
-
 -- the entry after a node that is no key
 abbrev pub entry_past_node : (allowed : Bool) → Entry → Entry
-entry_past_node allowed e = record { kind = e.kind; pair = e.pair; had = had_past_node allowed e.had }
+entry_past_node allowed e = record { kind = e.kind; pair = e.pair; had = (if allowed then filled else e.had) }
 
 -- in flow; the node may be a collection, which begins with an entry of its own
 pub node_in_entry : (again allowed c : Bool) (k : Option Key) (new : Key) (e : Entry) (here : Position) (begun es : List Entry) → HasHadHere allowed again k e.had → new.position ≡ here →
@@ -151,10 +147,6 @@ key_between a p start here ts us = grind (arith, insert-append_left, insert_end,
 
 -- ---- the tokens of the step
 
--- the key of a step in flow, if one begins with it
-abbrev pub key_inside : (bit single : Bool) → Site → Colon → List Token
-key_inside bit single at c = (if bit then key_tokens single (pair_position c.past c.next) flow_mapping_start at.position else [])
-
 -- ---- a part of a node in flow, be it an opening bracket or no collection: its tokens, and where a key that begins with it goes in
 
 -- The tokens after it are those before, and its own.
@@ -174,7 +166,7 @@ node_tokens level s separation piece next tok allowed c k new e es ks here ts us
     let depth : ℕ = depth_begun level 0 in
     let colon : Colon = colon_of depth p ws last in
     let single : Bool = takes_pair e.kind e.pair in
-    let step : tokens_at s at w ws last l (x ∷ es) ≡ key_inside w.key single (site_here true here s) colon ++ (put here tok ∷ []) = grind arith in
+    let step : tokens_at s at w ws last l (x ∷ es) ≡ (if w.key then key_tokens single (pair_position colon.past colon.next) flow_mapping_start here else []) ++ (put here tok ∷ []) = grind arith in
     ap (λ y. y ++ tokens_at s at w ws last l (x ∷ es)) (keys_past level 0 s.position w ws last act begins s.blocks l (x ∷ es) (k ∷ ks) ts) ∙
     (keys_own depth p ws last s.blocks l x es k ks ts (tokens_at s at w ws last l (x ∷ es)) are_among ∙
     (ap (λ y. with_keys (suc depth) p ws last s.blocks l es ks y) (grind (arith, step, key_between, had_first, had_as_it_was)) ∙

@@ -8,14 +8,9 @@ use Rattle.proof_scanner.proofs.Sound.Common.{saved_keys}
 
 -- ---- properties
 
--- the tokens of properties and aliases
-abbrev pub IsPropertyToken : Tok → Type 0
-IsPropertyToken tok = IsToken tok gives_node [] another (λ _ _. true) (λ _ _ _. true) (λ _ _ b. b)
-
--- ---- the step
-
 -- After a property or an alias what holds between fetches holds.
-property_stands : (text : List ℕ) (t : ScannerState) (tok : Tok) (rest : List ℕ) (end : Position) → IsProperty (in_flow t.held) tok t.held.position t.rest rest end → IsPropertyToken tok → IsDeep t.held → Arrives text t →
+property_stands : (text : List ℕ) (t : ScannerState) (tok : Tok) (rest : List ℕ) (end : Position) → IsProperty (in_flow t.held) tok t.held.position t.rest rest end →
+    IsToken tok gives_node [] another (λ _ _. true) (λ _ _ _. true) (λ _ _ b. b) → IsDeep t.held → Arrives text t →
     Onward text t.rest (on_held (λ s. push t.held.position tok (unled s)) (record { rest = rest; held = record (node_start t.held) { position = end } }))
 property_stands text t tok rest end r k deep arrives = rw (saved_is t.held) (node_read text t u None tok (r.first ∷ r.more) [] deep arrives is_read)
   where

@@ -44,10 +44,6 @@ in_line single body = last (quote_of single) body
 
 -- ---- its token
 
--- the token of a quoted scalar
-abbrev pub IsQuotedToken : (single : Bool) → Tok → Type 0
-IsQuotedToken single tok = IsToken tok gives_node [] quoted_scalar (λ column piece. quoted_lines_fit column (element_of single) piece) quoted_may_end (λ _ _ b. b)
-
 piece_is : (a : PieceAccount) (quotes : Quotes) (body next value : List ℕ) → value_of (are_single quotes) body ≡ Some value → ends_before (are_single quotes) next ≡ true → IsPiece a (piece_of (are_single quotes) body) next None a.position (Tok.scalar (quoted_style quotes) value)
 piece_is a b d e g is i = grind (arith, not-true, begins_with)
 
@@ -70,7 +66,7 @@ module _ (text : List ℕ) (quotes : Quotes) (t : ScannerState) (a : Arrives tex
   abbrev pub least : ℕ
   least = least_column (columns t.held.indent t.held.indents) (has_open_level t.held.indents)
 
-  k : IsQuotedToken (are_single quotes) tok
+  k : IsToken tok gives_node [] quoted_scalar (λ column piece. quoted_lines_fit column (element_of (are_single quotes)) piece) quoted_may_end (λ _ _ b. b)
   k = grind arith
 
   module _ (v : ScannerState) (c : Checked piece closed v) where

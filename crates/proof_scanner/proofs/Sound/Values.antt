@@ -172,12 +172,9 @@ module _ (text more : List ℕ) (t : ScannerState) (f : FlowLevel) (fs : List Fl
   abbrev pub in_pair : (single : Bool) → List Token
   in_pair single = put_key single (put (pair_position (past t.held.position) more) Tok.flow_mapping_start) k.number k.position t.held.tokens
 
-  abbrev pub held_pair : FlowLevel → Held
-  held_pair g = record t.held { flow = pair_level InPair g ∷ fs; keys = None ∷ ks; position = pair_position (past t.held.position) more; leading = false; key_allowed = false; tokens = in_pair (opens_pair (g ∷ fs)) }
-
   -- a single pair's key stands on the colon's line
   pair_begun : (g : FlowLevel) → k.position.line ≤ t.held.position.line →
-      Holds (λ y. (y ≡ held_pair g) × ((not (opens_pair (g ∷ fs)) || (k.position.line == t.held.position.line)) ≡ true)) (insert_key k t.held.position (opens_pair (g ∷ fs)) (at_value more t (g ∷ fs) (Some k ∷ ks)))
+      Holds (λ y. (y ≡ record t.held { flow = pair_level InPair g ∷ fs; keys = None ∷ ks; position = pair_position (past t.held.position) more; leading = false; key_allowed = false; tokens = in_pair (opens_pair (g ∷ fs)) }) × ((not (opens_pair (g ∷ fs)) || (k.position.line == t.held.position.line)) ≡ true)) (insert_key k t.held.position (opens_pair (g ∷ fs)) (at_value more t (g ∷ fs) (Some k ∷ ks)))
   unfolding insert_key begin_pair roll_indent
   pair_begun a h = grind (arith, chained, checked, went, opens_none)
 
