@@ -143,8 +143,7 @@ module _ (text : List ℕ) (t u : ScannerState) (f g : FlowLevel) (fs : List Flo
         outer = pop;
         bit = λ cs. false;
         entry_past = λ cs. rw (n.begun, had_as_it_was k e.had) (n.entry_past (entries_by (pop cs) ks es));
-        tokens_are = λ cs l ws last h. keyless_tokens text t f fs k ks e es a piece next tok r.cut l (entries_by (pop cs) ks es) ws last h ∙
-            (keys_along (λ m. suc m) (λ m. suc m) (λ m. refl) (λ m. refl) 0 a.site.position (past_step a.site.position (keyless a.separation piece tok) ws last) (keyless a.separation piece tok) ws last
-            (λ m. n.colons m a.site.position ws last) a.site.blocks l (entries_by (pop cs) ks es) ks (a.tokens ++ tokens_inside at_piece piece tok next e) ∙
-            ap (λ ts. with_keys 1 (past_step a.site.position (keyless a.separation piece tok) ws last) ws last a.site.blocks l (entries_by (pop cs) ks es) ks ts) (sym n.tokens_are));
+        tokens_are = λ cs l ws last h. grind (arith, keyless_tokens text t f fs k ks e es a piece next tok r.cut l (entries_by (pop cs) ks es) ws last h, n,
+            keys_along (λ m. suc m) (λ m. suc m) (λ m. refl) (λ m. refl) 0 a.site.position (past_step a.site.position (keyless a.separation piece tok) ws last) (keyless a.separation piece tok) ws last
+            (λ m. n.colons m a.site.position ws last) a.site.blocks l (entries_by (pop cs) ks es) ks);
       })

@@ -1,5 +1,5 @@
 -- What a part of a node begins: an opening bracket the first entry of a collection, other pieces nothing.
-use Rattle.proof_scanner.proofs.Common.{[], if◌then◌else◌, Account, act_of, ap, append_assoc, AreNumbered, arith, begun_by, Bool, Colon, colon_of, depth_past, ends_at, entries_by, entries_past, Entry, entry_by, false, filled, first_entry, flow_mapping_start, FlowLevel, gives_node, Had, had_by, HasHadHere, insert, is_keyed, is_waiting, IsLineHere, IsLive, Key, key, key_tokens, length, level_of, Line, line_by, line_past, List, map, MayChoose, None, Option, pair_position, pop, Position, position_after, put, put_key, refl, shown_position, Site, site_here, Some, spelled, Step, suc, sym, taken, takes_pair, Tok, Token, tokens_at, tokens_of_step, tokens_up_to, true, with_had, with_keys, with_line, zero, ℕ, ◌&&◌, ◌++◌, ◌∙◌, ◌∷◌, ◌≡◌, ◌≤◌, kind_of}
+use Rattle.proof_scanner.proofs.Common.{[], if◌then◌else◌, Account, act_of, ap, append_assoc, AreNumbered, arith, begun_by, Bool, Colon, colon_of, depth_past, ends_at, entries_by, entries_past, Entry, entry_by, false, filled, first_entry, flow_mapping_start, FlowLevel, gives_node, Had, had_by, HasHadHere, insert, is_keyed, is_waiting, IsLineHere, IsLive, Key, key, key_tokens, length, level_of, Line, line_by, line_past, List, map, MayChoose, None, Option, pair_position, pop, Position, position_after, put, put_key, refl, shown_position, Site, site_here, Some, spelled, Step, suc, taken, takes_pair, Tok, Token, tokens_at, tokens_of_step, tokens_up_to, true, with_had, with_keys, with_line, zero, ℕ, ◌&&◌, ◌++◌, ◌∷◌, ◌≡◌, ◌≤◌, kind_of}
 use Rattle.std.proofs.lemmas.List.Edits.{insert-append_left, insert_end}
 use Rattle.proof_scanner.proofs.Sound.Sides.{with_entries}
 use Rattle.proof_scanner.proofs.Sound.OutOfFlow.{Outer}
@@ -167,10 +167,9 @@ node_tokens level s separation piece next tok allowed c k new e es ks here ts us
     let colon : Colon = colon_of depth p ws last in
     let single : Bool = takes_pair e.kind e.pair in
     let step : tokens_at s at w ws last l (x ∷ es) ≡ (if w.key then key_tokens single (pair_position colon.past colon.next) flow_mapping_start here else []) ++ (put here tok ∷ []) = grind arith in
-    ap (λ y. y ++ tokens_at s at w ws last l (x ∷ es)) (keys_past level 0 s.position w ws last act begins s.blocks l (x ∷ es) (k ∷ ks) ts) ∙
-    (keys_own depth p ws last s.blocks l x es k ks ts (tokens_at s at w ws last l (x ∷ es)) are_among ∙
-    (ap (λ y. with_keys (suc depth) p ws last s.blocks l es ks y) (grind (arith, step, key_between, had_first, had_as_it_was)) ∙
-    sym (keys_around_begun level p ws last s.blocks l (entry_by c (saved allowed new k) (entry_past_node allowed e) ∷ es) (saved allowed new k ∷ ks) us)))
+    grind (arith, step, key_between, had_first, had_as_it_was, keys_past level 0 s.position w ws last act begins s.blocks l (x ∷ es) (k ∷ ks) ts,
+    keys_own depth p ws last s.blocks l x es k ks ts (tokens_at s at w ws last l (x ∷ es)) are_among,
+    keys_around_begun level p ws last s.blocks l (entry_by c (saved allowed new k) (entry_past_node allowed e) ∷ es) (saved allowed new k ∷ ks) us)
 
 -- ---- a part of a node outside flow, be it an opening bracket or no collection: what may begin after it, and its tokens, where a key that begins with it goes in
 

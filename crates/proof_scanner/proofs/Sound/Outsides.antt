@@ -1,5 +1,5 @@
 -- The key that may begin with a node, among the open keys.
-use Rattle.proof_scanner.proofs.Common.{[], After, after, ap, AreNumbered, arith, Bool, eqb-true, false, has_break, is_empty, is_in_column, is_waiting, IsLineHere, IsLive, IsOpenHere, IsOpenOutside, IsTakenBy, Key, length, length-append, line_by, List, MayChoose, must_be_key, nat_tests, not, NotBefore, Option, Position, ScannerState, Site, site_here, Some, subst, suc, sym, taken, Token, ℕ, ◌&&◌, ◌++◌, ◌∙◌, ◌∷◌, ◌≡◌, ◌≤◌}
+use Rattle.proof_scanner.proofs.Common.{[], After, after, ap, AreNumbered, arith, Bool, eqb-true, false, has_break, is_empty, is_in_column, is_waiting, IsLineHere, IsLive, IsOpenHere, IsOpenOutside, IsTakenBy, Key, length, length-append, line_by, List, MayChoose, must_be_key, nat_tests, not, NotBefore, Option, Position, ScannerState, Site, site_here, Some, subst, sym, taken, Token, ℕ, ◌&&◌, ◌++◌, ◌∙◌, ◌∷◌, ◌≡◌, ◌≤◌}
 use Rattle.proof_scanner.proofs.Sound.Common.{after_then, all_go_on, AreSame, ArrivesBy, first_not_right, IsDeep, must_be, no_waiting, not_before_after, not_before_same, not_before_then, numbered_around, numbered_more, saved, saved_keys, weaker}
 
 -- the key that may begin here
@@ -10,14 +10,10 @@ new_key t = record { required = must_be_key t.held; number = length t.held.token
 pub keys_saved : (t : ScannerState) (k : Option Key) (ks : List (Option Key)) → t.held.keys ≡ k ∷ ks → saved_keys t.held ≡ saved t.held.key_allowed (new_key t) k ∷ ks
 keys_saved t k ks e = grind (arith, new_key)
 
--- one token more
-pub one_more : (ts : List Token) (u : Token) → length (ts ++ (u ∷ [])) ≡ suc (length ts)
-one_more ts u = omega (arith, length-append ts (u ∷ []))
-
 -- in flow the numbers of the open keys are those of tokens so far
 pub numbered_inside : (t : ScannerState) (before : List Token) (k : Option Key) (ks : List (Option Key)) (own : Token) → t.held.tokens ≡ before → AreNumbered (length before) (k ∷ ks) →
     (b : Bool) → AreNumbered (length (t.held.tokens ++ (own ∷ []))) (saved b (new_key t) k ∷ ks)
-numbered_inside t before k ks own e h b = grind (arith, one_more, numbered_more, numbered_around)
+numbered_inside t before k ks own e h b = grind (arith, length-append, numbered_more, numbered_around)
 
 -- ---- a part of a node outside flow, and the open key: the one that was open, or the one that may begin with the node
 
@@ -36,7 +32,7 @@ module _ (text : List ℕ) (t : ScannerState) (k : Option Key) (a : ArrivesBy te
   must_be_here = must_be t.held (ap (λ x. not (is_empty x)) out) a.are_levels deep ∙ ap (λ bs. is_in_column t.held.position.col bs) (sym a.blocks_are)
 
   pub numbered_past : (own : Token) (b : Bool) → AreNumbered (length (t.held.tokens ++ (own ∷ []))) (saved b (new_key t) k ∷ [])
-  numbered_past own b = grind (arith, one_more, numbered_more, length-append)
+  numbered_past own b = grind (arith, numbered_more, length-append)
 
   -- to a later position, where other text is left
   module _ (some : is_empty t.rest ≡ false) (end : Position) (rest : List ℕ) (later : NotBefore t.held.position end) where
