@@ -103,8 +103,7 @@ arrives_now text v s solid near = by (is_empty v.held.flow) refl
         let u : Levels = unrolled (p.col + 1) p v.held.indent v.held.indents v.held.tokens in
         let z : Ended p s.base.site.blocks s.base.site.awaits v.held.tokens u = rw (s.blocks_are, s.awaits_is) (levels_end p v.held.indent v.held.indents v.held.tokens s.are_levels) in
         rw (unrolled_outside (p.col + 1) v.held e)
-        (arrives_with text v s solid near u (ap (λ b. (site_here (not b) p s.base.site).blocks) e ∙ z.columns_are) (ap (λ b. (site_here (not b) p s.base.site).awaits) e ∙ z.open_is) z.are_levels
-        (z.tokens_are ∙ ap (λ b. v.held.tokens ++ ends_here (not b) p s.base.site.blocks) (sym e)))
+        (arrives_with text v s solid near u (grind (arith, z)) (grind (arith, z)) z.are_levels (grind (arith, z)))
 
 -- where a piece begins, after stale keys
 pub stale_arrives : (text : List ℕ) (u : ScannerState) → Stands text u → begins_separation u.rest ≡ false →

@@ -234,8 +234,7 @@ opener_is_read text more lv tok c o t h r e deep hash few fs ks es flow a =
     let reads : Reads t u (site_then t fs a.site (c ∷ []) tok next) (c ∷ []) next (blanks_and_comment more) =
     reads_before_none t u (site_then t fs a.site (c ∷ []) tok next) (c ∷ []) next (blanks_and_comment more) refl (e ∙ ap (λ l. c ∷ l) cut) refl (line_rest_fills more) (line_rest_in_line more) refl
     (indicator_end t.held.position c more o.is_opening.in_line ∙ ap (λ l. position_after (position_after t.held.position (c ∷ []) l) (blanks_and_comment more) u.rest) cut) refl o.previous (a.blocks_are ∙ sym r.columns_are)
-    ((grind arith) ∙ (ap (λ b. if fl then b else not (is_empty x.blocks)) a.awaits_is ∙ (ap (λ bs. if fl then has_open_level t.held.indents else not (is_empty bs)) a.blocks_are ∙
-    (ap (λ f. if not (is_empty f) then has_open_level t.held.indents else not (is_empty (columns t.held.indent t.held.indents))) (sym flow) ∙ sym r.awaits)))) r.are_levels a.was_adjacent (refl, refl, refl) in
+    (grind (arith, a.awaits_is, a.blocks_are, flow, r.awaits)) r.are_levels a.was_adjacent (refl, refl, refl) in
     grind (arith, reads, o, o.is_opening, stays, deep_for, line_rest_in_line, hash,
     o.is_opening.piece (seen (with_entries a.site a.line es) x a.separation) next None
     (less (length fs) (length (map level_of es)) ((grind (arith, many_around, eqb-true)) ∙ sym (length-map es level_of)) (ap (λ f. nat_le 255 (length f)) (sym flow) ∙ few)))

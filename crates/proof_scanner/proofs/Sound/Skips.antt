@@ -1,6 +1,6 @@
 -- What the model skips between tokens leaves no TAB in the indentation of the next one.
 use Rattle.std.proofs.lemmas.List.{length-append}
-use Rattle.proof_scanner.proofs.Common.{TabInBlockIndentation, At, Bool, Err, Fault, Gap, Held, Holds, List, Ok, Previous, Result, ScannerState, [], and_parts, ap, append-nil, append_assoc, arith, begins_line, between, comment, eqb-true, false, has_tab_within, if◌then◌else◌, inl, inr, is_at_comment_or_end, is_before_indent, is_cr_lf, is_empty, last_line, length, moved, no_hash, or-false, or-true, past_line, refl, refused, same_break, skip, subst, suc, tab_line, true, weakened, went, ℕ, ◌&&◌, ◌++◌, ◌==◌, ◌||◌, ◌∙◌, ◌∷◌, ◌≡◌, ◌⊎◌}
+use Rattle.proof_scanner.proofs.Common.{TabInBlockIndentation, At, Bool, Err, Fault, Gap, Held, Holds, List, Ok, Previous, Result, ScannerState, [], and_parts, ap, append-nil, append_assoc, arith, begins_line, between, comment, eqb-true, false, has_tab_within, if◌then◌else◌, inl, inr, is_at_comment_or_end, is_before_indent, is_cr_lf, is_empty, last_line, length, moved, no_hash, or-false, or-true, past_line, refl, refused, same_break, skip, subst, suc, tab_line, true, weakened, went, ℕ, ◌&&◌, ◌++◌, ◌==◌, ◌||◌, ◌∷◌, ◌≡◌, ◌⊎◌}
 use Rattle.yaml_chars.specs.Class.{is_break, is_blank}
 use Rattle.defs_text.specs.Classes as classes
 use Rattle.proof_scanner.proofs.Sound.LastLines.{break_append, last_more, tab_within_more}
@@ -95,12 +95,8 @@ module _ (before : Previous) (least : ℕ) where
 
         by : (t b x : Bool) → ((c == 9) && is_before_indent s) ≡ t → is_blank c ≡ b → (c == 35) ≡ x → Q g (c ∷ a) s
             (if t then skip tab_line a (moved s) else (if b then skip between a (moved s) else (if x then skip comment a (record (moved s) { leading = false }) else Ok (record { rest = c ∷ a; held = s }))))
-        by true b x f i k =
-            let q = and_parts (c == 9) (is_before_indent s) f in
-            w.further g a c s (moved s) _ (omega arith) (ih tab_line (g ++ c ∷ []) (moved s) l (w.tab g c s e f l (at (let i : c ≡ 9 = eqb-true c 9 q.0 in rw i refl))))
-        by false true x f i k = w.further g a c s (moved s) _ (omega arith) (ih between (g ++ c ∷ []) (moved s) l (inr (at_blank g c s (same_break c ∙ e) f l (at (no_hash c i)))))
-        by false false true f i k = w.further g a c s (record (moved s) { leading = false }) _ (omega arith) (ih comment (g ++ c ∷ []) (record (moved s) { leading = false }) l tt)
-        by false false false f i k = w.arrives g a c s (at k)
+        by t b x f i k = grind (arith, eqb-true, and_parts (c == 9) (is_before_indent s), at, w.tab g c s e, w.arrives g a c s, at_blank g c s, same_break c, no_hash c, w.further g a c s (moved s),
+            w.further g a c s (record (moved s) { leading = false }), ih tab_line (g ++ c ∷ []) (moved s) l, ih between (g ++ c ∷ []) (moved s) l, ih comment (g ++ c ∷ []) (record (moved s) { leading = false }) l)
 
     comment_by : (g a : List ℕ) (c : ℕ) (s : Held) → is_break c ≡ false → IsLeast s → Tells a → Q g (c ∷ a) s (skip comment (c ∷ a) s)
     unfolding skip
