@@ -25,14 +25,7 @@ pub levels_end : (p : Position) (i : ℕ) (ds : List Indent) (ts : List Token) �
 unfolding unrolled
 levels_end p i [] ts a = record { columns_are = refl; open_is = refl; are_levels = a; tokens_are = no_ends p [] ts }
 levels_end p i (d ∷ ds) ts a =
-    by d.needs_block_end (nat_lt (p.col + 1) i) refl refl (all_close d.indent ds a.1)
-    (levels_end p d.indent ds (end_level d.needs_block_end p ts) (all_close d.indent ds a.1).0)
-  where
-    by : (b c : Bool) → d.needs_block_end ≡ b → nat_lt (p.col + 1) i ≡ c → AreLevels d.indent ds × (has_open_level ds ≡ false) →
-        Ended p (columns d.indent ds) (has_open_level ds) (end_level d.needs_block_end p ts) (unrolled (p.col + 1) p d.indent ds (end_level d.needs_block_end p ts)) →
-        Ended p (columns i (d ∷ ds)) (has_open_level (d ∷ ds)) ts (unrolled (p.col + 1) p i (d ∷ ds) ts)
-    by b c e f h k =
-        grind (arith, no_ends, deeper_is, one_end p (i - 1) (columns d.indent ds) ts (unrolled (p.col + 1) p d.indent ds (end_level d.needs_block_end p ts)).tokens)
+    grind (arith, all_close d.indent ds a.1, levels_end p d.indent ds (end_level d.needs_block_end p ts) (all_close d.indent ds a.1).0, no_ends, deeper_is, one_end p (i - 1) (columns d.indent ds) ts (unrolled (p.col + 1) p d.indent ds (end_level d.needs_block_end p ts)).tokens)
 
 -- ---- from what holds between two fetches to what holds where the next piece begins, or at the text's end
 

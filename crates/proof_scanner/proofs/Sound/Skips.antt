@@ -76,22 +76,15 @@ module _ (before : Previous) (least : ℕ) where
 
     broken : (m : Gap) (g a : List ℕ) (c : ℕ) (s : Held) → is_break c ≡ true → IsLeast s → Tells a → Q g (c ∷ a) s (skip m (c ∷ a) s)
     unfolding skip
-    broken m g a c s e l ih = rw e (by (is_cr_lf c a) refl)
-      where
-        by : (b : Bool) → is_cr_lf c a ≡ b → Q g (c ∷ a) s (skip between a (if b then moved s else past_line s))
-        by b f = grind (arith, w.further g a c s (moved s), w.further g a c s (past_line s), feed_next c a, at_line g c s e, ih between (g ++ c ∷ []) (moved s) l, ih between (g ++ c ∷ []) (past_line s) l)
+    broken m g a c s e l ih = rw e (grind (arith, w.further g a c s (moved s), w.further g a c s (past_line s), feed_next c a, at_line g c s e, ih between (g ++ c ∷ []) (moved s) l, ih between (g ++ c ∷ []) (past_line s) l))
 
     between_by : (g a : List ℕ) (c : ℕ) (s : Held) → is_break c ≡ false → IsLeast s → IsPassed Tabbed between g s (c ∷ a) → Tells a → Q g (c ∷ a) s (skip between (c ∷ a) s)
     unfolding skip
-    between_by g a c s e l h ih = rw e (by ((c == 9) && is_before_indent s) (is_blank c) (c == 35) refl refl refl)
+    between_by g a c s e l h ih = rw e (grind (arith, eqb-true, and_parts (c == 9) (is_before_indent s), at, w.tab g c s e, w.arrives g a c s, at_blank g c s, same_break c, no_hash c, w.further g a c s (moved s),
+        w.further g a c s (record (moved s) { leading = false }), ih tab_line (g ++ c ∷ []) (moved s) l, ih between (g ++ c ∷ []) (moved s) l, ih comment (g ++ c ∷ []) (record (moved s) { leading = false }) l))
       where
         at : (c == 35) ≡ false → IsAt g s
         at f = grind (arith, no_end c a e f)
-
-        by : (t b x : Bool) → ((c == 9) && is_before_indent s) ≡ t → is_blank c ≡ b → (c == 35) ≡ x → Q g (c ∷ a) s
-            (if t then skip tab_line a (moved s) else (if b then skip between a (moved s) else (if x then skip comment a (record (moved s) { leading = false }) else Ok (record { rest = c ∷ a; held = s }))))
-        by t b x f i k = grind (arith, eqb-true, and_parts (c == 9) (is_before_indent s), at, w.tab g c s e, w.arrives g a c s, at_blank g c s, same_break c, no_hash c, w.further g a c s (moved s),
-            w.further g a c s (record (moved s) { leading = false }), ih tab_line (g ++ c ∷ []) (moved s) l, ih between (g ++ c ∷ []) (moved s) l, ih comment (g ++ c ∷ []) (record (moved s) { leading = false }) l)
 
     comment_by : (g a : List ℕ) (c : ℕ) (s : Held) → is_break c ≡ false → IsLeast s → Tells a → Q g (c ∷ a) s (skip comment (c ∷ a) s)
     unfolding skip
@@ -99,10 +92,7 @@ module _ (before : Previous) (least : ℕ) where
 
     tab_by : (g a : List ℕ) (c : ℕ) (s : Held) → is_break c ≡ false → IsLeast s → Tabbed g → Tells a → Q g (c ∷ a) s (skip tab_line (c ∷ a) s)
     unfolding skip
-    tab_by g a c s e l h ih = rw e (by (is_blank c) (c == 35))
-      where
-        by : (b x : Bool) → Q g (c ∷ a) s (if b then skip tab_line a (moved s) else (if x then skip comment a (moved s) else Err (At TabInBlockIndentation s.position)))
-        by b x = grind (arith, w.fails g a c s h, w.blank g c e h, w.further g a c s (moved s), ih tab_line (g ++ c ∷ []) (moved s) l, ih comment (g ++ c ∷ []) (moved s) l)
+    tab_by g a c s e l h ih = rw e (grind (arith, w.fails g a c s h, w.blank g c e h, w.further g a c s (moved s), ih tab_line (g ++ c ∷ []) (moved s) l, ih comment (g ++ c ∷ []) (moved s) l))
 
     one_by : (m : Gap) (g a : List ℕ) (c : ℕ) (s : Held) (b : Bool) → is_break c ≡ b → IsLeast s → IsPassed Tabbed m g s (c ∷ a) → Tells a → Q g (c ∷ a) s (skip m (c ∷ a) s)
     one_by m g a c s b e l h ih = grind (arith, broken, between_by, comment_by, tab_by)
