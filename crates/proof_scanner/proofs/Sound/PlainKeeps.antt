@@ -1,10 +1,10 @@
 -- Plain scalars: what holds between two fetches holds after them.
-use Rattle.proof_scanner.proofs.Common.{Arrives, Bool, Context, Entry, FlowLevel, HasNoTabs, Holds, IsPiece, IsPlainRead, Key, Levels, List, None, Ok, Option, Plain, Position, ScannerState, Site, Some, Style, Tok, [], allow_key, and_parts, ap, arith, awaits_past, before_by, before_past, begins_separation, begins_solid, begins_white, collection_of, comes_plain, ends_with_content, eqb-true, false, fetch_plain_scalar, has_break, has_no_nul, in_flow, innermost, innermost_column, is_adjacent, is_break, is_deep_enough, is_empty, is_gap, is_indented, is_no_comment, is_one_of, is_renewed, is_white, is_whole_plain, leading, least_column, map, nat_tests, not, other, plain_scalar, plain_value, position_after, position_append, read, read_as, refl, scans_end, seen, sym, true, unroll_non_block_indents, went, whole_plain, without_open, ℕ, ◌++◌, ◌==◌, ◌∙◌, ◌∷◌, ◌≡◌, ◌≤◌, after_plain, go_on, on_held, push, with_levels}
+use Rattle.proof_scanner.proofs.Common.{Arrives, Bool, Context, Entry, FlowLevel, HasNoTabs, Holds, IsPiece, IsPlainRead, Key, Levels, List, None, Ok, Option, Plain, Position, ScannerState, Site, Some, Style, Tok, [], allow_key, and_parts, ap, arith, before_by, before_past, begins_separation, begins_solid, begins_white, collection_of, comes_plain, ends_with_content, eqb-true, false, fetch_plain_scalar, has_break, has_no_nul, in_flow, innermost, innermost_column, is_adjacent, is_break, is_deep_enough, is_empty, is_gap, is_indented, is_no_comment, is_one_of, is_renewed, is_white, is_whole_plain, leading, least_column, map, nat_tests, not, other, plain_value, position_after, position_append, read, read_as, refl, scans_end, seen, sym, true, unroll_non_block_indents, went, whole_plain, without_open, ℕ, ◌++◌, ◌==◌, ◌∙◌, ◌∷◌, ◌≡◌, ◌≤◌, after_plain, go_on, on_held, push, with_levels}
 use Rattle.defs_token.specs.Account.{Account as PieceAccount, is_in_flow}
 use Rattle.model_scanner.specs.Machine as machine
 use Rattle.model_scanner.specs.Plain.{plain}
 use Rattle.proof_lexers.specs.PlainEnds as plains
-use Rattle.proof_scanner.proofs.Sound.Steps.{AreClosed, ArrivesBy, IsDeep, IsRead, Onward, adjacent_kept, allowed_past, begins_as_read, ends_in_line, gap_is_separation, less_or, node_read, not_before_after, on_one_line, same_flow, same_has_break, saved_is, saved_keys, site_of, site_then, white_is_no_hash, with_entries, without_is}
+use Rattle.proof_scanner.proofs.Sound.Steps.{AreClosed, ArrivesBy, IsDeep, IsRead, Onward, adjacent_kept, begins_as_read, ends_in_line, gap_is_separation, less_or, node_read, not_before_after, on_one_line, same_flow, same_has_break, saved_is, saved_keys, site_of, site_then, white_is_no_hash, with_entries, without_is}
 use Rattle.proof_scanner.proofs.Cut.Pieces.Inserted.{no_break_on_line}
 use Rattle.proof_scanner.proofs.Sound.PlainLines.{PlainFits, plain_fits}
 
@@ -80,13 +80,6 @@ module _ (text : List ℕ) (t : ScannerState) (a : Arrives text t) (deep : IsDee
     unfolding is_break
     one_line_of some h = grind (arith, q, not_before_after, on_one_line, nat_tests, eqb-true, content_last, and_parts, no_break_on_line)
 
-    allowed_by : (fl : Bool) → x.value.leading ≡ allowed_past None fl plain_scalar q.gap
-    allowed_by true = q.leads ∙ ap has_break (sym (no_comment q.gap q.white).1)
-    allowed_by false = q.leads
-
-    none_awaits : (fl : Bool) (bs : List ℕ) (b : Bool) (next : List ℕ) → awaits_past fl tok bs b next ≡ false
-    none_awaits a bs b d = grind arith
-
     module _ (fs : List FlowLevel) (ks : List (Option Key)) (es : List Entry) (flow : t.held.flow ≡ fs) (r : ArrivesBy text t fs ks es) where
       abbrev at : Site
       at = site_of t fs r.site
@@ -111,12 +104,12 @@ module _ (text : List ℕ) (t : ScannerState) (a : Arrives text t) (deep : IsDee
       deep_by a h = grind (arith, nat_tests, eqb-true, q, least_here)
 
       no_tabs : HasNoTabs (site_then t fs r.site q.piece tok (q.gap ++ x.rest)) q.gap x.rest
-      no_tabs = grind (arith, q, none_awaits, no_comment, least_here)
+      no_tabs = grind (arith, q, no_comment, least_here)
 
       pub is_read : IsRead t u None fs r.site r.line es r.separation tok q.piece q.gap
       is_read =
           let far = adjacent_kept t u other q.piece (q.gap ++ x.rest) q.gap (whole_solid ctx.flow (collection_of ctx.indent) q.piece (q.gap ++ x.rest) q.whole) q.end_is a.was_adjacent refl refl in
-          grind (arith, q, closed, far, gap_is_separation, whole_solid, none_awaits, no_tabs, piece_is, deep_by, least_here, allowed_by, one_line_of)
+          grind (arith, q, closed, far, gap_is_separation, whole_solid, no_tabs, piece_is, deep_by, least_here, no_comment q.gap q.white, q.leads, one_line_of)
 
     pub stands : Onward text t.rest u
     stands = node_read text t u None tok q.piece q.gap deep a is_read

@@ -1,5 +1,5 @@
 -- The function of the model that reads a dash: what holds where it begins holds between two fetches after it.
-use Rattle.proof_scanner.proofs.Common.{BlockEntryInFlow, BlockEntryNotAllowed, TabAfterKey, before_by, [], if◌then◌else◌, weakened, allow_key, another, ap, AreLevels, arith, Arrives, At, begin_key, begins_with_space_or_break, blanks_and_comment, both_hold, check_block_entry, check_dash, check_key_space, checked, columns, dash_may_precede, Entry, eqb-true, false, Fault, fetch_block_entry, fetch_key, FlowLevel, gap, gives_question, has_break, has_open_level, has_tab_before_piece, Held, Holds, in_flow, Indent, inl, is_at_break_or_flow, is_at_gap, is_break, is_empty, is_one_of, is_separation, Key, Keyed, keyed, lexed, List, No, None, not, not-false, Ok, on_held, opened, Option, or_parts, or_true, pair_past, past, peek, Position, position_after, push, refl, remove_implicit_key, Result, roll_entry, roll_indent, same_break, ScannerState, settled, Site, skip_indicator, skip_spaces, skip_yaml_whitespace, Some, space, subst, suc, sym, take, takes_pair, Tok, token, top_needs_block_end, true, try_held, went, Yes, ℕ, ◌==◌, ◌>>=◌, ◌∙◌, ◌∷◌, ◌≡◌, ◌≤◌, refused, append_assoc, append_assoc, append-nil, append-nil}
+use Rattle.proof_scanner.proofs.Common.{BlockEntryInFlow, BlockEntryNotAllowed, TabAfterKey, before_by, [], if◌then◌else◌, weakened, allow_key, another, ap, AreLevels, arith, Arrives, At, begin_key, begins_with_space_or_break, blanks_and_comment, both_hold, check_block_entry, check_dash, check_key_space, checked, columns, dash_may_precede, Entry, eqb-true, false, Fault, fetch_block_entry, fetch_key, FlowLevel, gap, gives_question, has_break, has_open_level, has_tab_before_piece, Held, Holds, in_flow, Indent, inl, is_at_break_or_flow, is_at_gap, is_break, is_empty, is_one_of, is_separation, Key, Keyed, keyed, lexed, List, No, None, not, not-false, Ok, on_held, opened, Option, or_parts, or_true, pair_past, past, peek, Position, position_after, push, refl, remove_implicit_key, Result, roll_entry, roll_indent, same_break, ScannerState, settled, Site, skip_indicator, skip_spaces, skip_yaml_whitespace, space, subst, suc, sym, take, takes_pair, Tok, token, top_needs_block_end, true, try_held, went, Yes, ℕ, ◌==◌, ◌>>=◌, ◌∙◌, ◌∷◌, ◌≡◌, ◌≤◌, refused, append_assoc, append_assoc, append-nil, append-nil}
 use Rattle.yaml_chars.specs.Class.{is_break as is_break_here, is_flow as is_flow_here}
 use Rattle.model_scanner.specs.State.{after, after as after_first}
 use Rattle.proof_lexers.proofs.Bridges.{same_flow}
@@ -73,13 +73,8 @@ dash_outside text more t a e gap allowed deep =
 pub dash_keeps : (text more : List ℕ) (t : ScannerState) → Arrives text t → t.rest ≡ 45 ∷ more → is_at_gap more ≡ true → IsDeep t.held → Holds (Onward text t.rest) (fetch_block_entry t)
 unfolding fetch_block_entry check_block_entry
 dash_keeps text more t a e gap deep =
-    by_sides text t (λ v. Holds (Onward text v.rest) (fetch_block_entry v)) a (λ k x n. exactly _ (held_exactly (with_sides t [] (k ∷ [])) (entry_checked (with_sides t [] (k ∷ [])).held)) (λ d. none k x d.1))
+    by_sides text t (λ v. Holds (Onward text v.rest) (fetch_block_entry v)) a (λ k x n. exactly _ (held_exactly (with_sides t [] (k ∷ [])) (entry_checked (with_sides t [] (k ∷ [])).held)) (λ d. grind (arith, dash_outside text more t)))
     (λ f fs k ks y es x. refused)
-  where
-    none : (k : Option Key) → ArrivesBy text (with_sides t [] (k ∷ [])) [] (k ∷ []) [] → t.held.key_allowed ≡ true →
-        Holds (Onward text t.rest) (entry_from (with_sides t [] (k ∷ [])) (with_sides t [] (k ∷ [])))
-    none None x allowed = dash_outside text more t x e gap allowed deep
-    none (Some k) x allowed = absurd (cc (allowed, (x.line_is (ap is_empty e)).1))
 
 -- ---- the function of the model that reads a `?`: what holds where it begins holds between two fetches after it
 
@@ -159,9 +154,4 @@ question_inside text more t f fs k ks e es a cut gap deep =
 pub key_keeps : (text more : List ℕ) (t : ScannerState) → Arrives text t → t.rest ≡ 63 ∷ more → is_at_gap more ≡ true → IsDeep t.held → Holds (Onward text t.rest) (fetch_key t)
 unfolding fetch_key begin_key
 key_keeps text more t a e gap deep =
-    by_sides text t (λ v. Holds (Onward text v.rest) (fetch_key v)) a (λ k x n. outside k x) (λ f fs k ks y es x. question_inside text more t f fs k ks y es x e gap deep)
-  where
-    outside : (k : Option Key) → ArrivesBy text (with_sides t [] (k ∷ [])) [] (k ∷ []) [] → Holds (Onward text t.rest) (fetch_key (with_sides t [] (k ∷ [])))
-    outside None x = question_outside text more t x e gap deep
-    outside (Some k) x =
-        exactly _ (held_exactly (with_sides t [] (Some k ∷ [])) (checked (not t.held.key_allowed) _ (λ f. went (refl, not-false t.held.key_allowed f)))) (λ allowed. absurd (cc (allowed, (x.line_is (ap is_empty e)).1)))
+    by_sides text t (λ v. Holds (Onward text v.rest) (fetch_key v)) a (λ k x n. grind (arith, question_outside text more t, refused)) (λ f fs k ks y es x. question_inside text more t f fs k ks y es x e gap deep)

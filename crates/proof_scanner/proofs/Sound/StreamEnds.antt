@@ -113,8 +113,7 @@ at_end text t a e required =
     let ends : may_end a.base ≡ true = rw (a.no_key, plain) refl in
     let last : a.separation ++ t.rest ≡ a.separation = ap (λ x. a.separation ++ x) e ∙ append-nil a.separation in
     let own : Completes text a.separation a.base (λ ws z. tokens_up_to a.base t.held.keys a.tokens ws z) =
-    rw (sym (none_chosen t.held.keys a.base))
-    (rw (sym last) (a.completes true false [] (outside_free a.base.entries t.held.keys t.held.position t.rest required))) in
+    rw (sym (none_chosen t.held.keys a.base)) (rw (sym last) (a.completes true false [] (outside_free a.base.entries t.held.keys t.held.position t.rest required))) in
     let whole : IsRead text (tokens_up_to a.base t.held.keys a.tokens [] a.separation ++ tokens_at_end (position_after a.base.site.position a.separation []) a.base.site.blocks a.base.entries) =
     completed_at_end text a.separation a.base (λ ws z. tokens_up_to a.base t.held.keys a.tokens ws z) (rw (sym e) a.is_filled) ends own in
     let put_none : tokens_up_to a.base t.held.keys a.tokens [] a.separation ≡ a.tokens = none_put 0 a.base.site.position [] a.separation a.base.site.blocks a.base.line a.base.entries t.held.keys a.tokens a.no_key plain in
