@@ -47,10 +47,7 @@ line_rest_cut a = span_cut is_blank a ∙ (ap (λ r. leading is_blank a ++ r) (c
   where
     comment_cut : (b : List ℕ) → b ≡ comment_of b ++ past_comment b
     comment_cut [] = refl
-    comment_cut (c ∷ b) = by (c == 35) (span_cut is_on_line (c ∷ b))
-      where
-        by : (x : Bool) → c ∷ b ≡ leading is_on_line (c ∷ b) ++ after is_on_line (c ∷ b) → c ∷ b ≡ (if x then leading is_on_line (c ∷ b) else []) ++ (if x then after is_on_line (c ∷ b) else c ∷ b)
-        by a e = grind arith
+    comment_cut (c ∷ b) = grind (arith, span_cut is_on_line (c ∷ b))
 
 comment_fills : (a : List ℕ) → is_separation true (leading is_on_line a) (after is_on_line a) ≡ true
 comment_fills [] = refl
@@ -70,14 +67,11 @@ is_clear (c ∷ a) = not (is_blank c) && not (c == 35)
 pub past_rest_is_clear : (a : List ℕ) → is_clear (past_blanks_and_comment a) ≡ true
 unfolding is_blank is_break
 past_rest_is_clear [] = refl
-past_rest_is_clear (c ∷ a) = by (c == 32) (c == 9) refl refl (past_rest_is_clear a)
+past_rest_is_clear (c ∷ a) = grind (arith, line_end, eqb-true, past_rest_is_clear a)
   where
     line_end : (b : List ℕ) → is_clear (after is_on_line b) ≡ true
     line_end [] = refl
     line_end (d ∷ b) = grind (arith, line_end b)
-
-    by : (x y : Bool) → (c == 32) ≡ x → (c == 9) ≡ y → is_clear (past_blanks_and_comment a) ≡ true → is_clear (past_comment (if (x || y) then after is_blank a else c ∷ a)) ≡ true
-    by b y e f h = grind (arith, line_end, eqb-true)
 
 -- ---- what the model reads
 
@@ -120,16 +114,14 @@ spaced_exactly a p = rw (blanks_walked a p (record { found_tabs = false; has_val
 
     of : (b : List ℕ) → after is_blank a ≡ b → IsSpaced a p (after_spaces b (record { position = q; found = found_in l }))
     of [] e = parted (clear_first a (ap (begins_with 35) e)) (grind (arith, q, append-nil, l))
-    of (c ∷ b) e = by (c == 35) refl
+    of (c ∷ b) e = by (c == 35) (is_one_of l 9 || is_one_of l 32) refl refl
       where
-        by : (x : Bool) → (c == 35) ≡ x → IsSpaced a p (if x then comment_after (found_in l) (c ∷ b) q else at (c ∷ b) q)
-        by false f = parted (clear_first a (ap (begins_with 35) e ∙ f)) (grind (arith, q, append-nil, l))
-        by true f = found (is_one_of l 9 || is_one_of l 32) refl
-          where
-            found : (x : Bool) → (is_one_of l 9 || is_one_of l 32) ≡ x → IsSpaced a p (if x then Ok (with_found (found_in l) (skip_while is_line (c ∷ b) q)) else Err (At CommentNotSeparated q))
-            found true g = parted (blank_first a g) (ap (λ r. Ok (with_found (found_in l) r)) (comment_passed (c ∷ b) q) ∙ (ap (λ x. at (after is_on_line (c ∷ b)) x)
-                (ap (λ x. position_after x (leading is_on_line (c ∷ b)) []) (same_in_line p l [] ((leading is_on_line (c ∷ b)) ++ []) (no_break_in_blanks a)) ∙ (sym (position_append p l (leading is_on_line (c ∷ b)) []) ∙ ap (λ x. position_after p (l ++ x) []) (sym (ap comment_of e ∙ rw f refl)))) ∙ ap (λ r. at r (past_line_rest p a)) (sym (ap past_comment e ∙ rw f refl))))
-            found false g = glued (At CommentNotSeparated q) (ap (begins_with 35) (sym (no_blank_first a g) ∙ e) ∙ f) refl
+        by : (x y : Bool) → (c == 35) ≡ x → (is_one_of l 9 || is_one_of l 32) ≡ y →
+            IsSpaced a p (if x then (if y then Ok (with_found (found_in l) (skip_while is_line (c ∷ b) q)) else Err (At CommentNotSeparated q)) else at (c ∷ b) q)
+        by false y f g = parted (clear_first a (ap (begins_with 35) e ∙ f)) (grind (arith, q, append-nil, l))
+        by true false f g = glued (At CommentNotSeparated q) (ap (begins_with 35) (sym (no_blank_first a g) ∙ e) ∙ f) refl
+        by true true f g = parted (blank_first a g) (ap (λ r. Ok (with_found (found_in l) r)) (comment_passed (c ∷ b) q) ∙ (ap (λ x. at (after is_on_line (c ∷ b)) x)
+            (ap (λ x. position_after x (leading is_on_line (c ∷ b)) []) (same_in_line p l [] ((leading is_on_line (c ∷ b)) ++ []) (no_break_in_blanks a)) ∙ (sym (position_append p l (leading is_on_line (c ∷ b)) []) ∙ ap (λ x. position_after p (l ++ x) []) (sym (ap comment_of e ∙ rw f refl)))) ∙ ap (λ r. at r (past_line_rest p a)) (sym (ap past_comment e ∙ rw f refl))))
 
 -- where no comment stands directly, they are read
 pub spaced_parted : (a : List ℕ) (p : Position) → begins_with 35 a ≡ false → space Yes a p ≡ Ok (record { rest = past_blanks_and_comment a; position = past_line_rest p a; value = found_in (leading is_blank a) })
