@@ -1,7 +1,7 @@
 -- Where a text ends: no open key is one, and the stream's end and those of the block collections stand where the row has them.
 use Rattle.proof_scanner.proofs.Sound.Rolled.{all_close}
 use Rattle.std.proofs.lemmas.List.{append-nil}
-use Rattle.proof_scanner.proofs.Common.{KeyExpected, if◌then◌else◌, [], Account, AreAround, AreCollections, AreEntries, AreLevels, Arrives, At, Bool, Completes, Entry, FlowLevel, Held, Holds, Indent, IsRead, Key, Levels, Line, List, MayChoose, Option, Position, ScannerState, Site, Step, Token, ap, append_assoc, arith, block_end, blocks, checked, chosen, cleared, columns, ended_at, ends_at, ends_here, ends_with_stream, entries_by, false, fetch_stream_end, has_required, have_no_key, in_flow, is_empty, is_renewed, is_waiting, length, may_end, nat_lt, next_line, not, not-true, not_ended, outside_key, pop, position_after, put, refl, replicate, site_here, stream_position, suc, sym, tokens_at_end, tokens_up_to, tried, true, unroll_indent, unrolled, went, with_keys, ℕ, ◌++◌, ◌∙◌, ◌∷◌, ◌≡◌, ◌≤◌, IsNotRight, innermost, end_level}
+use Rattle.proof_scanner.proofs.Common.{KeyExpected, if◌then◌else◌, [], Account, AreAround, AreCollections, AreEntries, AreLevels, Arrives, At, Bool, Completes, Entry, FlowLevel, Held, Holds, Indent, IsRead, Key, Line, List, MayChoose, Option, Position, ScannerState, Site, Step, Token, ap, append_assoc, arith, block_end, blocks, checked, chosen, cleared, columns, ended_at, ends_at, ends_here, ends_with_stream, entries_by, false, fetch_stream_end, has_required, have_no_key, in_flow, is_empty, is_renewed, is_waiting, length, may_end, nat_lt, next_line, not, not-true, not_ended, outside_key, pop, position_after, put, refl, replicate, site_here, stream_position, suc, sym, tokens_at_end, tokens_up_to, tried, true, unroll_indent, unrolled, went, with_keys, ℕ, ◌++◌, ◌∙◌, ◌∷◌, ◌≡◌, ◌≤◌, IsNotRight, innermost, end_level}
 use Rattle.proof_scanner.proofs.Cut.Documents.{unroll_keeps}
 use Rattle.proof_scanner.proofs.Sound.Completed.{completed_at_end}
 use Rattle.proof_scanner.proofs.Cut.Unrolls.{unrolled_in_flow}
@@ -29,29 +29,17 @@ none_put d p ws last bs l es [] ts h n = refl
 none_put d p ws last bs l [] (k ∷ ks) ts h n = grind arith
 none_put d p ws last bs l (e ∷ es) (k ∷ ks) ts h n = grind (arith, none_put (suc d) p ws last bs l es ks ts h)
 
--- ---- positions
-
-pub same_line_start : (p : Position) → next_line p ≡ stream_position p
-same_line_start p = grind arith
-
 -- ---- the ends of block collections
 
 -- that many ends
 abbrev pub ends_of : ℕ → Position → List Token
 ends_of n p = replicate n (put p block_end)
 
--- no level is left then
-abbrev pub none_left : Position → ℕ → List Indent → List Token → Levels
-none_left p i ds ts = record { indent = 0; indents = []; tokens = ts ++ ends_of (length (columns i ds)) p }
-
-ended_more : (p : Position) (i : ℕ) (ds : List Indent) (ts : List Token) → none_left p i ds (ts ++ put p block_end ∷ []) ≡ record { indent = 0; indents = []; tokens = ts ++ ends_of (suc (length (columns i ds))) p }
-ended_more p i ds ts = ap (λ (x : List Token). record { indent = 0; indents = []; tokens = x }) (append_assoc ts (put p block_end ∷ []) (ends_of (length (columns i ds)) p))
-
 -- all levels end at the stream's end, each collection with its token
-pub all_levels : (p : Position) (i : ℕ) (ds : List Indent) (ts : List Token) → AreLevels i ds → unrolled 0 p i ds ts ≡ none_left p i ds ts
+pub all_levels : (p : Position) (i : ℕ) (ds : List Indent) (ts : List Token) → AreLevels i ds → unrolled 0 p i ds ts ≡ record { indent = 0; indents = []; tokens = ts ++ ends_of (length (columns i ds)) p }
 unfolding unrolled
 all_levels p i [] ts a = rw (a, append-nil) refl
-all_levels p i (d ∷ ds) ts a = grind (arith, ended_more, all_levels p d.indent ds (end_level d.needs_block_end p ts) (all_close d.indent ds a.1).0)
+all_levels p i (d ∷ ds) ts a = grind (arith, append_assoc, all_levels p d.indent ds (end_level d.needs_block_end p ts) (all_close d.indent ds a.1).0)
 
 -- whether no collection is deeper than a column
 abbrev pub NoneDeeper : (column : ℕ) → List ℕ → Type 0
@@ -134,8 +122,8 @@ same_flow allowed again a ks es b = grind arith
 
 last_tokens : (h : Held) (ts : List Token) (x : Site) (es : List Entry) → is_empty h.flow ≡ is_empty es → AreLevels h.indent h.indents → h.tokens ≡ ts ++ ends_here (not (is_empty h.flow)) h.position x.blocks →
     (site_here (not (is_empty h.flow)) h.position x).blocks ≡ columns h.indent h.indents → (ended_at (unroll_indent 0 (at_stream_end h))).tokens ≡ ts ++ tokens_at_end h.position x.blocks es
-last_tokens h ts x [] e levels tokens blocks = grind (arith, unrolled_outside, same_line_start, append_assoc, ends_by_levels, ends_here, columns)
-last_tokens h ts x (y ∷ es) e levels tokens blocks = grind (arith, unrolled_in_flow, not-true, same_line_start, append-nil)
+last_tokens h ts x [] e levels tokens blocks = grind (arith, unrolled_outside, append_assoc, ends_by_levels, ends_here, columns)
+last_tokens h ts x (y ∷ es) e levels tokens blocks = grind (arith, unrolled_in_flow, not-true, append-nil)
 
 -- At the text's end the stream ends, unless a key must still come to its colon, and the tokens are those of a row of the text.
 pub stream_ended : (text : List ℕ) (t : ScannerState) → Arrives text t → t.rest ≡ [] →
