@@ -1,6 +1,6 @@
 -- Document markers and directives: what holds where they begin holds between two fetches after them.
 use Rattle.proof_scanner.proofs.Common.{[], act_of, and_false, and_parts, ap, append-nil, append_assoc, AreLevels, arith, Arrives, awaits_past, before_by, begin_line, begins_free_line, begins_line, begins_with, begun_by, blanks_and_comment, Bool, check_document_end, columns, Directive, directive_of, directives_end, either, Entry, eqb-true, false, fetch_directive, fetch_document_end, fetch_document_marker, first_break, FlowLevel, further_lines_stand, gives_marker, has_break, has_no_break, has_no_nul, has_open_level, Held, Holds, in_flow, inr, is_at_gap, is_break, is_breakz, is_closed, is_empty, is_indented_by_spaces, is_renewed, is_required, is_separation, IsDirectiveRead, IsPiece, IsReadOn, Key, length, List, may_precede, no_nul_after, None, on_held, Option, or_true, other, past, past_blanks_and_comment, past_line_rest, peek, Position, position_after, position_append, previous_by, push, put, read, read_as, refl, refused, remove_implicit_key, replicate-append-replicate, ScannerState, seen, settled, shown_position, Site, site_in, skip_indicator, Some, subst, sym, taken, Tok, token_of, top_key, true, unroll_indent, went, whole_directive, with_top, ℕ, ◌++◌, ◌∙◌, ◌∷◌, ◌≡◌, ◌≤◌}
-use Rattle.proof_scanner.proofs.Sound.Steps.{exactly, held_exactly, Onward, adjacent_kept, all_levels, by_sides, ArrivesBy, at_end_of, ends_of, goes_inside, is_done, key_gone, line_rest_cut, line_rest_fills, line_rest_in_line, none_indents, read_outside, Reads, rest_skipped, same_in_line, shorter, some_rest, three_past, tokens_before, unrolled_in_flow, with_entries, same_has_break}
+use Rattle.proof_scanner.proofs.Sound.Steps.{exactly, held_exactly, Onward, adjacent_kept, all_levels, by_sides, ArrivesBy, at_end_of, ends_of, goes_inside, is_done, key_gone, line_rest_cut, line_rest_fills, line_rest_in_line, read_outside, Reads, rest_skipped, same_in_line, shorter, some_rest, three_past, tokens_before, unrolled_in_flow, with_entries, same_has_break}
 use Rattle.defs_token.specs.Account.{Account as PieceAccount}
 use Rattle.model_scanner.specs.Directive.{directive}
 use Rattle.proof_lexers.specs.DirectiveEnds.{ends_line, next_line}
@@ -145,7 +145,7 @@ document_end_keeps text more t a e gap col =
     exactly {x = marked t b.held (46 ∷ 46 ∷ 46 ∷ more)} _ (exactly _ (held_exactly t (line_begun t.held b.held b.rolled)) (λ optional. went (ap (marked t b.held) e, optional))) (λ optional.
     exactly _ (rest_skipped _) (λ hash. either (is_breakz (peek (past_blanks_and_comment more))) (λ ends. went
     (b.stands (record { tok = Tok.document_end; piece = 46 ∷ 46 ∷ 46 ∷ []; gap = blanks_and_comment more; rest = past_blanks_and_comment more; end = past_line_rest (past (past (past b.held.position))) more; leading = false })
-    (grind (arith, b.same_position, blanks_and_comment, is_done, same_has_break, at_end_of, no_nul_after, begins_with, eqb-true, line_rest_in_line, three_past, same_in_line, none_indents, and_false, line_rest_cut, line_rest_fills)) optional)) (λ no. refused)))
+    (grind (arith, b.same_position, blanks_and_comment, is_done, same_has_break, at_end_of, no_nul_after, begins_with, eqb-true, line_rest_in_line, three_past, same_in_line, and_false, line_rest_cut, line_rest_fills)) optional)) (λ no. refused)))
 
 -- ---- directives
 

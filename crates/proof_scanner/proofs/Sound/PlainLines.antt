@@ -157,9 +157,6 @@ lines_are column tabbed t = is_blanks (first_line t) && plain_lines_fit column t
 pub all_lines : (column : ℕ) (ls : List (List ℕ)) (last : List ℕ) → lines_have_no_tab column (ls ++ (last ∷ [])) ≡ (line_is 0 column (first_of ls last) && lines_have_no_tab column (after_first ls last))
 all_lines column a last = grind arith
 
-put_first_others : (c : ℕ) (ls : List (List ℕ)) (last : List ℕ) → after_first (put_first c ls last).complete (put_first c ls last).last ≡ after_first ls last
-put_first_others c a last = grind arith
-
 pub feed_first : (c : ℕ) (r : List ℕ) → is_before_line_feed c r ≡ true → first_line r ≡ []
 unfolding classes.is_break
 feed_first c a h = grind (arith, eqb-true, and_parts)
@@ -177,7 +174,7 @@ module _ (column : ℕ) (c : ℕ) (r : List ℕ) where
     first_is = grind (arith, split_is)
 
     pub others_are : plain_lines_fit column (c ∷ r) ≡ plain_lines_fit column r
-    others_are = grind (arith, split_is, put_first_others)
+    others_are = grind (arith, split_is)
 
     -- a blank more, which is no TAB left of the column
     blank_line : (k : ℕ) → classes.is_blank c ≡ true → ((c == 9) && nat_lt k column) ≡ false → (l : List ℕ) → line_is (suc k) column l ≡ true → line_is k column (c ∷ l) ≡ true

@@ -1,6 +1,5 @@
 -- Quoted scalars: what holds between two fetches holds after them.
-use Rattle.proof_scanner.proofs.Common.{Arrives, Bool, Context, Entry, FlowLevel, HasNoTabs, Held, Holds, IsPiece, IsQuotedRead, Key, List, None, Ok, Option, Position, Quotes, ScannerState, Site, Some, Tok, [], adjacent_here, allow_key, and_parts, ap, append_assoc, append_cancel_right, are_single, arith, begins_with, between, both_hold, chained, columns, context, element_of, ends_before, false, fetch_flow_scalar, gives_node, go_on, has_break, has_no_nul, has_open_level, in_flow, inr, is_break, is_empty, is_nul, least_column, no_nul_after, not, not-true, on_held, position_after, position_append, push, quote_of, quoted, quoted_lines_fit, quoted_may_end, quoted_scalar, quoted_style, read, read_as, refl, skip_to_next_token, subst, sym, true, unled, value_of, went, ℕ, ◌&&◌, ◌++◌, ◌-◌, ◌||◌, ◌∙◌, ◌∷◌, ◌≡◌, ◌≤◌, eqb-true, nat_tests}
-use Rattle.defs_token.specs.Account.{Account as PieceAccount}
+use Rattle.proof_scanner.proofs.Common.{Arrives, Bool, Context, Entry, FlowLevel, HasNoTabs, Held, Holds, IsQuotedRead, Key, List, None, Ok, Option, Position, Quotes, ScannerState, Site, Some, Tok, [], adjacent_here, allow_key, and_parts, ap, append_assoc, append_cancel_right, are_single, arith, between, both_hold, chained, columns, context, element_of, ends_before, false, fetch_flow_scalar, gives_node, go_on, has_break, has_no_nul, has_open_level, in_flow, inr, is_break, is_empty, is_nul, least_column, no_nul_after, not, on_held, position_after, position_append, push, quote_of, quoted, quoted_lines_fit, quoted_may_end, quoted_scalar, quoted_style, read, read_as, refl, skip_to_next_token, subst, sym, true, unled, value_of, went, ℕ, ◌&&◌, ◌++◌, ◌-◌, ◌||◌, ◌∙◌, ◌∷◌, ◌≡◌, ◌≤◌, eqb-true, nat_tests}
 use Rattle.model_scanner.specs.Machine as machine
 use Rattle.proof_lexers.specs.PlainEnds as plains
 use Rattle.proof_lexers.proofs.Quoted.ScanEnds.{scans_end}
@@ -43,9 +42,6 @@ in_line single body = last (quote_of single) body
     last c (d ∷ r) = last d r
 
 -- ---- its token
-
-piece_is : (a : PieceAccount) (quotes : Quotes) (body next value : List ℕ) → value_of (are_single quotes) body ≡ Some value → ends_before (are_single quotes) next ≡ true → IsPiece a (piece_of (are_single quotes) body) next None a.position (Tok.scalar (quoted_style quotes) value)
-piece_is a b d e g is i = grind (arith, not-true, begins_with)
 
 -- ---- the step
 
@@ -132,7 +128,7 @@ module _ (text : List ℕ) (quotes : Quotes) (t : ScannerState) (a : Arrives tex
         no_tabs = grind (arith, k, or_false, k.awaits fl at.blocks at.awaits (gap ++ w.rest), least_here, at_token)
 
         is_read : IsRead t u None fs r.site r.line es r.separation tok piece gap
-        is_read = grind (arith, nat_tests, eqb-true, next_is, end_is, k.awaits fl at.blocks at.awaits (gap ++ w.rest), no_tabs, k, leads, some_levels, adjacent_quoted, piece_is,
+        is_read = grind (arith, nat_tests, eqb-true, next_is, end_is, k.awaits fl at.blocks at.awaits (gap ++ w.rest), no_tabs, k, leads, some_levels, adjacent_quoted,
             deep_for, least_here, ap (λ f. not (is_empty f)) flow, or_false, one_line_of, separation_append false spaces b.separation w.rest (rw (sym b.cut) c.spaces.is_filled) b.is_filled,
             break_append spaces b.separation ∙ (ap (λ y. y || has_break b.separation) no_break ∙ sym (same_has_break b.separation)))
 

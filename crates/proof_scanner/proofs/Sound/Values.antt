@@ -2,7 +2,7 @@
 use Rattle.proof_scanner.proofs.Common.{ValueNotAllowed, [], if◌then◌else◌, Account, allow_key, another, ap, append-nil, append_assoc, AreLevels, arith, Arrives, At, before_by, before_past, begin_keyless_mapping, begin_keyless_value, begin_pair, begins_free_line, Bool, chained, check_value_space, checked, chosen, colon_may_precede, columns, ends_at, entries_by, Entry, entry_by, false, Fault, fetch_value, first_account, FlowLevel, gives_colon, has_open_level, Held, Holds, in_flow, Indent, inl, innermost, inr, insert, insert_key, is_adjacent, is_break, is_deeper, is_empty, is_near, is_value, is_value_indicator, IsEntryOf, IsLive, IsNotRight, Key, length, length-append, Line, List, None, not, not-false, not_ended, Ok, on_held, opened, opens_pair, Option, Outside, outside_key, pair_past, pair_position, paired, past, placed, pop, Position, position_after, push, put, put_key, refl, Result, roll_indent, roll_one_col_indent, ScannerState, settled, Site, site_at, site_here, Some, spelled, Step, subst, suc, sym, taken, takes_pair, Tok, Token, token, tokens_at, tokens_of_step, tokens_up_to, top_key, tried, true, try_held, waits, went, with_held, with_keys, ℕ, ◌++◌, ◌==◌, ◌>>=◌, ◌||◌, ◌∙◌, ◌∷◌, ◌≡◌, ◌≤◌, KeysBefore, keys_before, line_grows, free, AreNumbered, is_required, keyed}
 use Rattle.model_scanner.specs.declared.level.FlowLevel.TheVariants.{Pair as InPair}
 use Rattle.model_scanner.specs.Block.{value_of}
-use Rattle.proof_scanner.proofs.Sound.Steps.{exactly, held_exactly, Onward, all_go_on, among, by_sides, with_sides, ArrivesBy, begun_after, ends_outside, first_not_right, goes_inside, goes_of, is_written, IsDeep, key_longer, keyless, keys_along, line_free, line_taken, low_enough, no_waiting, not_before_after, not_before_then, numbered_around, numbered_more, opens_none, opens_one, OpensOne, Outer, outer_completes, outer_then, past_one, past_step, read_outside, Reads, reads_before_none, rolls_to, RollsTo, some_levels, steps_in_flow, tokens_before, value_is, weaker, with_entries, with_start, line_rest_in_line, same_in_line}
+use Rattle.proof_scanner.proofs.Sound.Steps.{exactly, held_exactly, Onward, among, by_sides, with_sides, ArrivesBy, begun_after, ends_outside, first_not_right, goes_inside, goes_of, is_written, IsDeep, key_longer, keyless, keys_along, line_free, line_taken, low_enough, no_waiting, not_before_after, not_before_then, numbered_around, numbered_more, opens_none, opens_one, OpensOne, Outer, outer_completes, outer_then, past_one, past_step, read_outside, Reads, reads_before_none, rolls_to, RollsTo, some_levels, steps_in_flow, tokens_before, value_is, weaker, with_entries, with_start, line_rest_in_line, same_in_line}
 use Rattle.proof_scanner.proofs.Sound.ColonSpaces.{colon_gap, colon_spaced, gap_is, past_colon, past_gap}
 use Rattle.proof_scanner.proofs.Sound.Questions.{pair_level}
 use Rattle.model_scanner.specs.State.{after}
@@ -115,7 +115,7 @@ module _ (text more : List ℕ) (t : ScannerState) (k : Key) (a : ArrivesBy text
 
   -- no collection ends here
   same_blocks : not_ended t.held.position.col a.site.blocks ≡ a.site.blocks
-  same_blocks = grind (arith, all_go_on, live, a, not_before_then k.position a.site.position t.held.position, weaker, not_before_after a.site.position a.separation t.rest)
+  same_blocks = grind (arith, live, a, not_before_then k.position a.site.position t.held.position, weaker, not_before_after a.site.position a.separation t.rest)
 
   -- no line begins before the colon, and it is near
   quiet : (begins_free_line a.site.before a.separation ≡ false) × (is_near k.position t.held.position ≡ true)
