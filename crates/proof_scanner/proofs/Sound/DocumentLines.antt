@@ -87,8 +87,9 @@ line_goes : (text : List ℕ) (t : ScannerState) (d : Read) (f : FlowLevel) (fs 
     Onward text t.rest (line_past t (begun_from t.held) d)
 line_goes text t d f fs k ks e es a r flow keys =
     goes_inside text t (line_past t (begun_from t.held) d) f f fs k ks e (record { kind = e.kind; pair = e.pair; had = settled }) es a d.piece (next_of d) d.tok d.gap
-    (line_reads t d (begun_from t.held) _ r refl refl a.blocks_are (r.awaits_inside a.site.blocks a.site.awaits (next_of d) ∙ a.awaits_is) a.are_levels a.was_adjacent (refl, refl, refl)) (grind (arith, append-nil, r, tokens_before, r.is_piece (seen (with_entries a.site a.line (e ∷ es)) x a.separation) r.at_margin refl,
-    a.is_indented (some_rest t.rest d.piece (next_of d) r.cut r.is_solid)))
+    (line_reads t d (begun_from t.held) _ r refl refl a.blocks_are (r.awaits_inside a.site.blocks a.site.awaits (next_of d) ∙ a.awaits_is) a.are_levels a.was_adjacent (refl, refl, refl))
+    (let piece = r.is_piece (seen (with_entries a.site a.line (e ∷ es)) x a.separation) r.at_margin refl in
+    let indented = a.is_indented (some_rest t.rest d.piece (next_of d) r.cut r.is_solid) in grind (arith, append-nil, r, tokens_before, piece, indented))
   where
     x : Site
     x = site_in true gives_marker t.held.position a.site

@@ -66,8 +66,9 @@ unfolding is_break
 comma_inside text more t f fs k ks e es a flow keys cut deep hash =
     goes_inside text t _ f (next_level f) fs k ks e (first_entry e.kind) es a (44 ∷ []) more Tok.flow_entry (blanks_and_comment more)
     (reads_before_none t _ _ (44 ∷ []) more (blanks_and_comment more) refl cut (line_rest_cut more) (line_rest_fills more) (line_rest_in_line more) refl
-    (indicator_end t.held.position 44 more refl) refl refl a.blocks_are a.awaits_is a.are_levels a.was_adjacent (refl, refl, refl)) (grind (arith, append_assoc, tokens_before, a.is_indented (ap is_empty cut), low_enough text t f fs (k ∷ ks) (e ∷ es) a deep,
-    ends_by_comma.piece (seen (with_entries a.site a.line (e ∷ es)) (site_here true t.held.position a.site) a.separation) more None refl))
+    (indicator_end t.held.position 44 more refl) refl refl a.blocks_are a.awaits_is a.are_levels a.was_adjacent (refl, refl, refl))
+    (let piece = ends_by_comma.piece (seen (with_entries a.site a.line (e ∷ es)) (site_here true t.held.position a.site) a.separation) more None refl in
+    grind (arith, append_assoc, tokens_before, a.is_indented (ap is_empty cut), low_enough text t f fs (k ∷ ks) (e ∷ es) a deep, piece))
 
 -- ---- a closing bracket in flow: the collection ends, with its last entry
 
@@ -131,9 +132,10 @@ module _ (text more : List ℕ) (tok : Tok) (c : ℕ) (i : IsCloser true tok c) 
         outer = λ cs. cs;
         bit = λ cs. false;
         entry_past = λ cs. rw i.act (grind arith);
-        tokens_are = λ cs l ws last h. grind (arith, keyless_tokens text t f fs k ks e es a (c ∷ []) more tok cut l (entries_by cs ks es) ws last h, tokens_are, i,
-            keys_along (λ n. suc n) (λ n. n) (λ n. refl) (λ n. refl) 0 a.site.position (past_step a.site.position (keyless a.separation (c ∷ []) tok) ws last) (keyless a.separation (c ∷ []) tok) ws last
-            (λ n. rw i.act refl) a.site.blocks l (entries_by cs ks es) ks);
+        tokens_are = λ cs l ws last h.
+            let along = keys_along (λ n. suc n) (λ n. n) (λ n. refl) (λ n. refl) 0 a.site.position (past_step a.site.position (keyless a.separation (c ∷ []) tok) ws last)
+            (keyless a.separation (c ∷ []) tok) ws last (λ n. rw i.act refl) a.site.blocks l (entries_by cs ks es) ks in
+            grind (arith, keyless_tokens text t f fs k ks e es a (c ∷ []) more tok cut l (entries_by cs ks es) ws last h, tokens_are, i, along);
       })
 
 -- ---- the functions of the model that read commas and closing brackets keep what holds where they begin
@@ -232,9 +234,9 @@ opener_is_read text more lv tok c o t h r e deep hash few fs ks es flow a =
     reads_before_none t u (site_then t fs a.site (c ∷ []) tok next) (c ∷ []) next (blanks_and_comment more) refl (e ∙ ap (λ l. c ∷ l) cut) refl (line_rest_fills more) (line_rest_in_line more) refl
     (indicator_end t.held.position c more o.is_opening.in_line ∙ ap (λ l. position_after (position_after t.held.position (c ∷ []) l) (blanks_and_comment more) u.rest) cut) refl o.previous (a.blocks_are ∙ sym r.columns_are)
     (grind (arith, a.awaits_is, a.blocks_are, flow, r.awaits)) r.are_levels a.was_adjacent (refl, refl, refl) in
-    grind (arith, reads, o, o.is_opening, stays, deep_for, line_rest_in_line, hash,
-    o.is_opening.piece (seen (with_entries a.site a.line es) x a.separation) next None
-    (less (length fs) (length (map level_of es)) ((grind (arith, many_around, eqb-true)) ∙ sym (length-map es level_of)) (ap (λ f. nat_le 255 (length f)) (sym flow) ∙ few)))
+    let few_here = less (length fs) (length (map level_of es)) ((grind (arith, many_around, eqb-true)) ∙ sym (length-map es level_of)) (ap (λ f. nat_le 255 (length f)) (sym flow) ∙ few) in
+    let piece = o.is_opening.piece (seen (with_entries a.site a.line es) x a.separation) next None few_here in
+    grind (arith, reads, o, o.is_opening, stays, deep_for, line_rest_in_line, hash, piece)
 
 -- ---- the function of the model that reads an opening bracket keeps what holds where it begins
 

@@ -143,7 +143,8 @@ module _ (text : List ℕ) (t u : ScannerState) (f g : FlowLevel) (fs : List Flo
         outer = pop;
         bit = λ cs. false;
         entry_past = λ cs. rw (n.begun, had_as_it_was k e.had) (n.entry_past (entries_by (pop cs) ks es));
-        tokens_are = λ cs l ws last h. grind (arith, keyless_tokens text t f fs k ks e es a piece next tok r.cut l (entries_by (pop cs) ks es) ws last h, n,
-            keys_along (λ m. suc m) (λ m. suc m) (λ m. refl) (λ m. refl) 0 a.site.position (past_step a.site.position (keyless a.separation piece tok) ws last) (keyless a.separation piece tok) ws last
-            (λ m. n.colons m a.site.position ws last) a.site.blocks l (entries_by (pop cs) ks es) ks);
+        tokens_are = λ cs l ws last h.
+            let along = keys_along (λ m. suc m) (λ m. suc m) (λ m. refl) (λ m. refl) 0 a.site.position (past_step a.site.position (keyless a.separation piece tok) ws last)
+            (keyless a.separation piece tok) ws last (λ m. n.colons m a.site.position ws last) a.site.blocks l (entries_by (pop cs) ks es) ks in
+            grind (arith, keyless_tokens text t f fs k ks e es a piece next tok r.cut l (entries_by (pop cs) ks es) ws last h, n, along);
       })

@@ -167,9 +167,10 @@ node_tokens level s separation piece next tok allowed c k new e es ks here ts us
     let colon : Colon = colon_of depth p ws last in
     let single : Bool = takes_pair e.kind e.pair in
     let step : tokens_at s at w ws last l (x ∷ es) ≡ (if w.key then key_tokens single (pair_position colon.past colon.next) flow_mapping_start here else []) ++ (put here tok ∷ []) = grind arith in
-    grind (arith, step, key_between, had_first, had_as_it_was, keys_past level 0 s.position w ws last act begins s.blocks l (x ∷ es) (k ∷ ks) ts,
-    keys_own depth p ws last s.blocks l x es k ks ts (tokens_at s at w ws last l (x ∷ es)) are_among,
-    keys_around_begun level p ws last s.blocks l (entry_by c (saved allowed new k) (entry_past_node allowed e) ∷ es) (saved allowed new k ∷ ks) us)
+    let past = keys_past level 0 s.position w ws last act begins s.blocks l (x ∷ es) (k ∷ ks) ts in
+    let own = keys_own depth p ws last s.blocks l x es k ks ts (tokens_at s at w ws last l (x ∷ es)) are_among in
+    let around = keys_around_begun level p ws last s.blocks l (entry_by c (saved allowed new k) (entry_past_node allowed e) ∷ es) (saved allowed new k ∷ ks) us in
+    grind (arith, step, key_between, had_first, had_as_it_was, past, own, around)
 
 -- ---- a part of a node outside flow, be it an opening bracket or no collection: what may begin after it, and its tokens, where a key that begins with it goes in
 

@@ -144,8 +144,8 @@ question_inside text more t f fs k ks e es a cut gap deep =
     let z : ScannerState = with_sides t (keyed (f ∷ fs)) (k ∷ ks) in
     exactly _ (held_exactly z (key_removed z.held)) (λ _. question_read more _ t.held.position _ (ap after cut) gap (λ begins apart fills.
     goes_inside text (with_sides t (f ∷ fs) (k ∷ ks)) _ f (pair_level Keyed f) fs k ks e (record { kind = e.kind; pair = pair_past (takes_pair e.kind e.pair) gives_question e.pair; had = settled }) es a (63 ∷ []) more Tok.key (white_of false more)
-    (question_reads (with_sides t (f ∷ fs) (k ∷ ks)) _ more _ cut refl fills refl refl refl refl a.blocks_are a.awaits_is a.are_levels a.was_adjacent (refl, refl, refl)) (grind (arith, append-nil, levels, tokens_before, a.is_indented (ap is_empty cut),
-    low_enough text (with_sides t (f ∷ fs) (k ∷ ks)) f fs (k ∷ ks) (e ∷ es) a deep))))
+    (question_reads (with_sides t (f ∷ fs) (k ∷ ks)) _ more _ cut refl fills refl refl refl refl a.blocks_are a.awaits_is a.are_levels a.was_adjacent (refl, refl, refl))
+    (let low = low_enough text (with_sides t (f ∷ fs) (k ∷ ks)) f fs (k ∷ ks) (e ∷ es) a deep in grind (arith, append-nil, levels, tokens_before, a.is_indented (ap is_empty cut), low))))
   where
     levels : keyed (f ∷ fs) ≡ pair_level Keyed f ∷ fs
     levels = grind arith

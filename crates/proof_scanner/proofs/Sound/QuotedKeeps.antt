@@ -128,9 +128,12 @@ module _ (text : List ℕ) (quotes : Quotes) (t : ScannerState) (a : Arrives tex
         no_tabs = grind (arith, k, or_false, k.awaits fl at.blocks at.awaits (gap ++ w.rest), least_here, at_token)
 
         is_read : IsRead t u None fs r.site r.line es r.separation tok piece gap
-        is_read = grind (arith, nat_tests, eqb-true, next_is, end_is, k.awaits fl at.blocks at.awaits (gap ++ w.rest), no_tabs, k, leads, some_levels, adjacent_quoted,
-            deep_for, least_here, ap (λ f. not (is_empty f)) flow, or_false, one_line_of, separation_append false spaces b.separation w.rest (rw (sym b.cut) c.spaces.is_filled) b.is_filled,
-            break_append spaces b.separation ∙ (ap (λ y. y || has_break b.separation) no_break ∙ sym (same_has_break b.separation)))
+        is_read =
+            let filled = separation_append false spaces b.separation w.rest (rw (sym b.cut) c.spaces.is_filled) b.is_filled in
+            let breaks = break_append spaces b.separation ∙ (ap (λ y. y || has_break b.separation) no_break ∙ sym (same_has_break b.separation)) in
+            let awaits_then = k.awaits fl at.blocks at.awaits (gap ++ w.rest) in
+            let inside = ap (λ f. not (is_empty f)) flow in
+            grind (arith, nat_tests, eqb-true, next_is, end_is, awaits_then, no_tabs, k, leads, some_levels, adjacent_quoted, deep_for, least_here, inside, or_false, one_line_of, filled, breaks)
 
       node : Onward text t.rest (on_held (λ s. push t.held.position tok (adjacent_here s)) w)
       node = rw held_is (node_read text t u None tok piece gap deep a is_read)

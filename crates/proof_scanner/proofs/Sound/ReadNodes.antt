@@ -93,9 +93,9 @@ module _ (text : List ℕ) (t u : ScannerState) (level : Option FlowLevel) (k : 
 
   goes : (strict c : Bool) → MayChoose strict c key_then u.held.position u.rest → Goes text a.site a.separation piece (gap ++ u.rest) tok x same_site strict (bit_of t.held.key_allowed c) (line_of c a.line) (line_of c a.line_here) (after_by c)
   goes strict c may =
-      grind (arith, r, r.reads, a, stands_here text t u level [] (k ∷ []) [] a tok piece gap r,
-      line_after_node strict (is_in_column x.position.col x.blocks) t.held.key_allowed c k (new_key t) a.line_here t.held.position u.held.position x.blocks u.rest (line_node text t k a within deep some u.held.position u.rest later) refl (must_be_here text t k a within deep) may,
-      one_node text t k a within deep some u.held.position u.rest later piece (λ x y. (r.one_line x y).0) strict c may)
+      let after = line_after_node strict (is_in_column x.position.col x.blocks) t.held.key_allowed c k (new_key t) a.line_here t.held.position u.held.position x.blocks u.rest (line_node text t k a within deep some u.held.position u.rest later) refl (must_be_here text t k a within deep) may in
+      let one = one_node text t k a within deep some u.held.position u.rest later piece (λ x y. (r.one_line x y).0) strict c may in
+      grind (arith, r, r.reads, a, stands_here text t u level [] (k ∷ []) [] a tok piece gap r, after, one)
 
   rows : (strict c : Bool) (cs : List Bool) → MayChoose strict c key_then u.held.position u.rest → SoFar strict text (gap ++ u.rest) (chosen c cs keys_then base_then) (tokens_up_to (chosen c cs keys_then base_then) keys_then u.held.tokens)
   rows strict c cs may =
@@ -175,8 +175,10 @@ module _ (text : List ℕ) (t u : ScannerState) (level : Option FlowLevel) (f : 
   node_inside keys =
       let n : Entry = entry_past_node t.held.key_allowed e in
       let place = here_is text t u level (f ∷ fs) (k ∷ ks) (e ∷ es) a tok piece gap r in
-      steps_in_flow text t u f fs k ks e es a piece (gap ++ u.rest) tok (with_no_key level (key_past ∷ ks)) (with_begun level (n ∷ es)) (levels_by level (f ∷ fs)) gap r.reads (grind (arith, keys_saved t k ks keys, r, entries_then level r.is_begun r.allowed_is, line_taken text t f fs k ks e es a, r.one_line,
-      begun_numbered level (length (t.held.tokens ++ (shown_token ∷ []))) (key_past ∷ ks) (numbered_inside t a.tokens k ks shown_token (tokens_before text t f fs k ks e es a) a.are_numbered t.held.key_allowed))) (record {
+      let own = numbered_inside t a.tokens k ks shown_token (tokens_before text t f fs k ks e es a) a.are_numbered t.held.key_allowed in
+      let numbered = begun_numbered level (length (t.held.tokens ++ (shown_token ∷ []))) (key_past ∷ ks) own in
+      steps_in_flow text t u f fs k ks e es a piece (gap ++ u.rest) tok (with_no_key level (key_past ∷ ks)) (with_begun level (n ∷ es)) (levels_by level (f ∷ fs)) gap r.reads
+      (grind (arith, keys_saved t k ks keys, r, entries_then level r.is_begun r.allowed_is, line_taken text t f fs k ks e es a, r.one_line, numbered)) (record {
         is_piece = rw (r.shown (site_of t (f ∷ fs) a.site)) r.is_piece;
         stands = stands_here text t u level (f ∷ fs) (k ∷ ks) (e ∷ es) a tok piece gap r;
         choice = λ cs. choice_before t.held.key_allowed (first_choice (choices_around level cs));

@@ -189,9 +189,10 @@ module _ (text more : List ℕ) (t : ScannerState) (f : FlowLevel) (fs : List Fl
       let w : Step = keyless a.separation (58 ∷ []) Tok.value in
       let ys : List Entry = entries_by (pop cs) ks es in
       let shown : List Token = put (position_after a.site.position a.separation (58 ∷ spelled ws last)) Tok.value ∷ [] in
-      grind (arith, a.position_is, e, h, single_is f fs (Some k) x a.are_entries.0, past_one t.held.position 58 more refl, tokens_before text t f fs (Some k) ks x es a,
-      keys_own 0 a.site.position (w ∷ ws) last a.site.blocks l (entry_by true (Some k) x) ys (Some k) ks a.tokens shown (among (length a.tokens) (Some k ∷ ks) a.are_numbered),
-      keys_along (λ m. suc m) (λ m. suc m) (λ m. refl) (λ m. refl) 0 a.site.position (past_step a.site.position w ws last) w ws last (λ m. refl) a.site.blocks l ys ks)
+      let own = keys_own 0 a.site.position (w ∷ ws) last a.site.blocks l (entry_by true (Some k) x) ys (Some k) ks a.tokens shown (among (length a.tokens) (Some k ∷ ks) a.are_numbered) in
+      let along = keys_along (λ m. suc m) (λ m. suc m) (λ m. refl) (λ m. refl) 0 a.site.position (past_step a.site.position w ws last) w ws last (λ m. refl) a.site.blocks l ys ks in
+      let shared = tokens_before text t f fs (Some k) ks x es a in
+      grind (arith, a.position_is, e, h, single_is f fs (Some k) x a.are_entries.0, past_one t.held.position 58 more refl, shared, own, along)
 
   pub inner_stands : (not (opens_pair (f ∷ fs)) || (k.position.line == t.held.position.line)) ≡ true → Onward text t.rest inner_after
   unfolding is_break
