@@ -47,7 +47,8 @@ stray_at text more closes tok c k t a keys e hash =
     read_outside text t (stray_past closes t tok more) a (c ∷ []) more (blanks_and_comment more) tok (record { line = line_then closes; blocks = at.blocks }) at (ap (λ x. site_in false x t.held.position a.site) k.act ∙ (grind arith))
     (reads_in_line t (stray_past closes t tok more) _ (c ∷ []) more (blanks_and_comment more) refl e (line_rest_cut more) (line_rest_fills more) (line_rest_in_line more) (indicator_end t.held.position c more k.is_end.in_line) refl (is_previous closes k.previous)
     a.blocks_are (k.awaits false at.blocks at.awaits more ∙ a.awaits_is) a.are_levels (λ some. absurd (cc some)) (adjacent_kept t (stray_past closes t tok more) other (c ∷ []) more (blanks_and_comment more) refl (indicator_end t.held.position c more k.is_end.in_line) a.was_adjacent refl refl).1 (refl, refl))
-    (record { line_is = grind (arith, quiet_before (previous_by tok) t.held.position (blanks_and_comment more) [] (is_previous closes k.previous) (line_rest_in_line more)); no_key = grind arith; flow_is = refl; keys_are = keys }) (grind (arith, append_assoc, append-nil, k, a.is_indented (ap is_empty e), k.is_end.piece (seen (with_entries a.site a.line []) at a.separation) more None refl))
+    (record { line_is = grind (arith, quiet_before (previous_by tok) t.held.position (blanks_and_comment more) [] (is_previous closes k.previous) (line_rest_in_line more)); no_key = grind arith; flow_is = refl; keys_are = keys })
+    (grind (arith, append_assoc, append-nil, k, a.is_indented (ap is_empty e), k.is_end.piece (seen (with_entries a.site a.line []) at a.separation) more None refl))
   where
     at : Site
     at = site_here false t.held.position a.site
@@ -125,7 +126,8 @@ module _ (text more : List ℕ) (tok : Tok) (c : ℕ) (i : IsCloser true tok c) 
       let far = adjacent_kept t (record past_closer { held = record past_closer.held { adjacent_value_at = t.held.adjacent_value_at } }) other (c ∷ []) more gap refl (indicator_end t.held.position c more i.is_end.in_line) a.was_adjacent refl refl in
       steps_in_flow text t past_closer f fs k ks e es a (c ∷ []) more tok ks es fs gap
       (reads_in_line t past_closer _ (c ∷ []) more gap refl cut (line_rest_cut more) (line_rest_fills more) (line_rest_in_line more) (indicator_end t.held.position c more i.is_end.in_line) refl (inr i.previous) a.blocks_are
-      (i.awaits true x.blocks x.awaits more ∙ a.awaits_is) a.are_levels adjacent_after (grind arith) (refl, refl)) (grind (arith, q, line_taken text t f fs k ks e es a, numbered_then a.tokens past_closer.held.tokens k ks own_tokens (sym tokens_are) a.are_numbered)) (record {
+      (i.awaits true x.blocks x.awaits more ∙ a.awaits_is) a.are_levels adjacent_after (grind arith) (refl, refl))
+      (grind (arith, q, line_taken text t f fs k ks e es a, numbered_then a.tokens past_closer.held.tokens k ks own_tokens (sym tokens_are) a.are_numbered)) (record {
         is_piece = rw (i.shown x (c ∷ []) more) (i.is_end.piece (seen (with_entries a.site a.line (e ∷ es)) x a.separation) more None refl);
         stands = rw (a.is_indented (ap is_empty cut), deep_for true tok x (i.least x) (low_enough text t f fs (k ∷ ks) (e ∷ es) a deep), i.lines (least_for tok x) (c ∷ []), i.precedes true x.blocks (c ∷ []) more, hash) refl;
         choice = λ cs. false;

@@ -119,7 +119,8 @@ question_outside text more t a e gap deep =
     read_outside text v _ a (63 ∷ []) more (white_of false more) Tok.key (begun_after p a.site.blocks) _ refl
     (question_reads v _ more _ e refl fills refl refl refl refl (ap (opened p.col) a.blocks_are ∙ sym r.columns_are) (sym (top_closed r.indents (r.is_top deep)).1)
     r.are_levels a.was_adjacent (refl, refl, refl))
-    (record { line_is = (inl refl, or_true (ends.has_break (white_of false more)), tt); no_key = refl; flow_is = refl; keys_are = refl }) (grind (arith, append_assoc, append-nil, line_free, a.is_indented (ap is_empty e))))))))
+    (record { line_is = (inl refl, or_true (ends.has_break (white_of false more)), tt); no_key = refl; flow_is = refl; keys_are = refl })
+    (grind (arith, append_assoc, append-nil, line_free, a.is_indented (ap is_empty e))))))))
   where
     p : Position
     p = t.held.position
