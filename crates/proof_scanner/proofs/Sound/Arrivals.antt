@@ -1,5 +1,5 @@
 -- What lets a piece stand: four tests, and its column in flow.
-use Rattle.proof_scanner.proofs.Common.{[], After, ap, append-nil, AreAround, AreLevels, AreNumbered, arith, awaits_past, begins_free_line, begins_separation, Bool, chosen, columns, Entry, false, FlowLevel, has_break, Held, in_flow, Indent, innermost, is_break, is_deep_enough, is_empty, is_in_column, is_waiting, IsLive, IsNotRight, IsOpenHere, IsOpenOutside, Key, least_column, least_for, length, Line, line_by, line_past_separation, List, MayChoose, must_be_key, nat_le, None, not, not_ended, NotBefore, Option, or_true, outside_key, Position, position_after, Previous, ScannerState, Site, SoFar, Some, subst, suc, sym, taken, Tok, tokens_up_to, true, ℕ, ◌&&◌, ◌++◌, ◌+◌, ◌==◌, ◌∙◌, ◌∷◌, ◌≡◌, ◌≤◌, Act, act_of, begun_by, previous_by, shown_position, further_lines_stand, may_precede, awaits_in_block, awaits_in_flow}
+use Rattle.proof_scanner.proofs.Common.{[], After, ap, append-nil, AreAround, AreLevels, AreNumbered, arith, awaits_past, begins_free_line, begins_separation, Bool, chosen, columns, Entry, false, FlowLevel, has_break, Held, in_flow, Indent, innermost, is_break, is_deep_enough, is_empty, is_in_column, is_waiting, IsLive, IsNotRight, IsOpenHere, IsOpenOutside, Key, least_column, least_for, length, Line, line_by, line_past_separation, List, MayChoose, must_be_key, nat_le, not, NotBefore, Option, or_true, outside_key, Position, position_after, Previous, ScannerState, Site, SoFar, Some, subst, suc, sym, taken, Tok, tokens_up_to, true, ℕ, ◌&&◌, ◌++◌, ◌+◌, ◌==◌, ◌∙◌, ◌∷◌, ◌≡◌, ◌≤◌, Act, act_of, begun_by, previous_by, shown_position, further_lines_stand, may_precede, awaits_in_block, awaits_in_flow}
 use Rattle.proof_scanner.proofs.Cut.Pieces.Inserted.{no_break_on_line}
 use Rattle.proof_scanner.proofs.Cut.Nodes.{IsDeep}
 use Rattle.proof_scanner.proofs.Sound.Sides.{ArrivesBy, with_entries}
@@ -57,10 +57,6 @@ line_kept a l m h e = grind arith
 
 -- ---- block collections
 
--- a collection that is not right of a column goes on there and right of it
-pub all_go_on : (column key : ℕ) (bs : List ℕ) → IsNotRight (innermost bs) key → key ≤ column → not_ended column bs ≡ bs
-all_go_on col k a r h = grind arith
-
 -- the innermost collection is not right of a column that is deep enough
 pub first_not_right : (col i : ℕ) (ds : List Indent) → AreLevels i ds → i ≤ col + 1 → IsNotRight (innermost (columns i ds)) col
 first_not_right col i a l h = grind arith
@@ -74,8 +70,7 @@ must_be s out l deep = grind arith
 
 pub numbered_more : (m n : ℕ) (ks : List (Option Key)) → m ≤ n → AreNumbered m ks → AreNumbered n ks
 numbered_more m n [] h a = tt
-numbered_more m n (None ∷ ks) h a = (tt, numbered_more m n ks h a.1)
-numbered_more m n (Some k ∷ ks) h a = (omega (arith, h, a.0), a.1)
+numbered_more m n (k ∷ ks) h a = grind (arith, numbered_more m n ks)
 
 -- the keys around one are numbered too
 pub numbered_around : (m : ℕ) (k : Option Key) (ks : List (Option Key)) → AreNumbered m (k ∷ ks) → AreNumbered m ks

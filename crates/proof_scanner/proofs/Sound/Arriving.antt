@@ -1,6 +1,7 @@
 -- The block collections that end where a piece begins: the levels that go on are those of the row, and each end has its token.
-use Rattle.proof_scanner.proofs.Common.{[], ap, append-nil, append_assoc, AreCollections, AreLevels, arith, Arrives, before_by, before_past, begins_free_line, begins_separation, begins_token, block_end, blocks, Bool, chained, columns, end_level, ends_at, ends_here, false, Fault, free, has_open_level, Held, Holds, if◌then◌else◌, Indent, is_adjacent, is_at_comment_or_end, is_deeper, is_empty, is_indented_by_spaces, IsLine, IsLineHere, IsNear, IsTopLevel, Key, length, Levels, Line, line_past_separation, List, nat_lt, not, not-false, not_ended, on_held, Option, outside_key, Position, put, refl, replicate, Result, ScannerState, site_here, skip_to_next_token, Some, stale, Stands, subst, suc, sym, taken, Token, tried, true, try_held, unroll_indent, unrolled, with_levels, ℕ, ◌&&◌, ◌++◌, ◌+◌, ◌-◌, ◌==◌, ◌>>=◌, ◌∙◌, ◌∷◌, ◌≡◌, ◌≤◌, both_hold, length-append, ArrivesAmong}
-use Rattle.proof_scanner.proofs.Sound.Steps.{Nearer, exact, shorter, stale_stands, unrolled_in_flow, unrolled_outside}
+use Rattle.proof_scanner.proofs.Common.{end_level, [], if◌then◌else◌, ap, append-nil, append_assoc, AreLevels, arith, Arrives, before_by, before_past, begins_free_line, begins_separation, begins_token, block_end, blocks, Bool, chained, columns, ends_at, ends_here, false, Fault, free, has_open_level, Holds, Indent, is_adjacent, is_at_comment_or_end, is_deeper, is_empty, is_indented_by_spaces, IsLine, IsLineHere, IsNear, Key, length, Levels, Line, line_past_separation, List, nat_lt, not, not-false, not_ended, on_held, Option, outside_key, Position, put, refl, replicate, Result, ScannerState, site_here, skip_to_next_token, Some, stale, Stands, sym, taken, Token, tried, true, try_held, unroll_indent, unrolled, with_levels, ℕ, ◌&&◌, ◌++◌, ◌+◌, ◌-◌, ◌==◌, ◌>>=◌, ◌∙◌, ◌∷◌, ◌≡◌, ◌≤◌, both_hold, length-append, ArrivesAmong}
+use Rattle.proof_scanner.proofs.Sound.Steps.{exact, shorter, stale_stands, unrolled_in_flow, unrolled_outside}
+use Rattle.proof_scanner.proofs.Sound.Rolled.{all_close, deeper_is}
 use Rattle.proof_scanner.proofs.Sound.ToToken.{passed_stands}
 use Rattle.proof_row.proofs.Inserted.{before_again}
 
@@ -11,68 +12,20 @@ pub record Ended (p : Position) (cols : List ℕ) (awaits : Bool) (ts : List Tok
   pub are_levels : AreLevels u.indent u.indents
   pub tokens_are : u.tokens ≡ ts ++ ends_at p cols (not_ended p.col cols)
 
--- the same of collections alone
-record EndedAlone (p : Position) (cols : List ℕ) (ts : List Token) (u : Levels) : Type 0 where
-  pub columns_are : not_ended p.col cols ≡ columns u.indent u.indents
-  pub are : AreCollections u.indent u.indents
-  pub tokens_are : u.tokens ≡ ts ++ ends_at p cols (not_ended p.col cols)
-
 no_ends : (p : Position) (bs : List ℕ) (ts : List Token) → ts ≡ ts ++ ends_at p bs bs
 no_ends p bs ts = let none : length bs - length bs ≡ 0 = omega arith in sym (ap (λ n. ts ++ replicate n (put p block_end)) none ∙ append-nil ts)
-
-deeper_now : (col i : ℕ) (b : Bool) → nat_lt (col + 1) i ≡ b → nat_lt col (i - 1) ≡ b
-deeper_now col i a e = grind arith
 
 -- one end more
 one_end : (p : Position) (n : ℕ) (cs : List ℕ) (ts us : List Token) → us ≡ (ts ++ put p block_end ∷ []) ++ ends_at p cs (not_ended p.col cs) → us ≡ ts ++ ends_at p (n ∷ cs) (not_ended p.col cs)
 one_end p n cs ts us e = grind (arith, shorter, append_assoc)
 
-collections_end : (p : Position) (i : ℕ) (ds : List Indent) (ts : List Token) → AreCollections i ds → EndedAlone p (columns i ds) ts (unrolled (p.col + 1) p i ds ts)
-unfolding unrolled
-collections_end p i [] ts a = record { columns_are = refl; are = a; tokens_are = no_ends p [] ts }
-collections_end p i (d ∷ ds) ts a =
-    subst (λ b. EndedAlone p (if b then (i - 1) ∷ columns d.indent ds else columns d.indent ds) ts (if nat_lt (p.col + 1) i then unrolled (p.col + 1) p d.indent ds (end_level b p ts) else record { indent = i; indents = d ∷ ds; tokens = ts })) (sym a.0)
-    (by (nat_lt (p.col + 1) i) refl (collections_end p d.indent ds (ts ++ put p block_end ∷ []) a.2))
-  where
-    cs : List ℕ
-    cs = columns d.indent ds
-
-    by : (b : Bool) → nat_lt (p.col + 1) i ≡ b → EndedAlone p cs (ts ++ put p block_end ∷ []) (unrolled (p.col + 1) p d.indent ds (ts ++ put p block_end ∷ [])) →
-        EndedAlone p ((i - 1) ∷ cs) ts (if b then unrolled (p.col + 1) p d.indent ds (ts ++ put p block_end ∷ []) else record { indent = i; indents = d ∷ ds; tokens = ts })
-    by true e h =
-        let ends : not_ended p.col ((i - 1) ∷ cs) ≡ not_ended p.col cs = ap (λ b. if b then not_ended p.col cs else (i - 1) ∷ cs) (deeper_now p.col i true e) in
-        record {
-          columns_are = ends ∙ h.columns_are;
-          are = h.are;
-          tokens_are = one_end p (i - 1) cs ts (unrolled (p.col + 1) p d.indent ds (ts ++ put p block_end ∷ [])).tokens h.tokens_are ∙ ap (λ x. ts ++ ends_at p ((i - 1) ∷ cs) x) (sym ends);
-        }
-    by false e h = grind (arith, cs, deeper_now, no_ends)
-
-alone : (p : Position) (cols : List ℕ) (awaits : Bool) (ts : List Token) (u : Levels) → (awaits && is_deeper p.col cols) ≡ false → EndedAlone p cols ts u → Ended p cols awaits ts u
-alone p cols awaits ts u e h = grind arith
-
 -- Outside flow the levels that are deeper than a position end there.
-pub levels_end : (p : Position) (i : ℕ) (ds : List Indent) (ts : List Token) → AreLevels i ds → Ended p (columns i ds) (has_open_level ds) ts (unrolled (p.col + 1) p i ds ts)
+pub levels_end : (p : Position) (i : ℕ) (ds : List Indent) (ts : List Token) → AreLevels i ds →
+    Ended p (columns i ds) (has_open_level ds) ts (unrolled (p.col + 1) p i ds ts)
 unfolding unrolled
 levels_end p i [] ts a = record { columns_are = refl; open_is = refl; are_levels = a; tokens_are = no_ends p [] ts }
-levels_end p i (d ∷ ds) ts a = by d.needs_block_end refl a.0
-  where
-    first : (o : ℕ) (es : List Indent) → AreCollections o es → is_empty es ≡ false → (n : ℕ) × (ns : List ℕ) × (columns o es ≡ n ∷ ns) × (o ≡ suc n)
-    first o [] a e = absurd (cc e)
-    first o (x ∷ es) a e = (o - 1, columns x.indent es, ap (λ b. if b then (o - 1) ∷ columns x.indent es else columns x.indent es) a.0, omega (arith, a.1))
-
-    by : (b : Bool) → d.needs_block_end ≡ b → IsTopLevel b i d.indent ds → Ended p (columns i (d ∷ ds)) (not d.needs_block_end) ts (unrolled (p.col + 1) p i (d ∷ ds) ts)
-    by true e h = alone p (columns i (d ∷ ds)) (not d.needs_block_end) ts (unrolled (p.col + 1) p i (d ∷ ds) ts) (ap (λ b. not b && is_deeper p.col (columns i (d ∷ ds))) e) (collections_end p i (d ∷ ds) ts (e, h, a.1))
-    by false e h =
-        let z = first d.indent ds a.1 h.1 in
-        subst (λ b. Ended p (if b then (i - 1) ∷ columns d.indent ds else columns d.indent ds) (not b) ts
-        (if nat_lt (p.col + 1) i then unrolled (p.col + 1) p d.indent ds (end_level b p ts) else record { indent = i; indents = d ∷ ds; tokens = ts })) (sym e)
-        (two z.0 z.1 z.2 z.3 (nat_lt (p.col + 1) i) refl)
-      where
-        two : (n : ℕ) (ns : List ℕ) → columns d.indent ds ≡ n ∷ ns → d.indent ≡ suc n → (b : Bool) → nat_lt (p.col + 1) i ≡ b →
-            Ended p (columns d.indent ds) true ts (if b then unrolled (p.col + 1) p d.indent ds ts else record { indent = i; indents = d ∷ ds; tokens = ts })
-        two n ns c k true f = alone p (columns d.indent ds) true ts (unrolled (p.col + 1) p d.indent ds ts) (ap (λ x. is_deeper p.col x) c ∙ (grind arith)) (collections_end p d.indent ds ts a.1)
-        two n ns c k false f = grind (arith, no_ends)
+levels_end p i (d ∷ ds) ts a =
+    grind (arith, all_close d.indent ds a.1, levels_end p d.indent ds (end_level d.needs_block_end p ts) (all_close d.indent ds a.1).0, no_ends, deeper_is, one_end p (i - 1) (columns d.indent ds) ts (unrolled (p.col + 1) p d.indent ds (end_level d.needs_block_end p ts)).tokens)
 
 -- ---- from what holds between two fetches to what holds where the next piece begins, or at the text's end
 
@@ -138,24 +91,17 @@ arrives_now text v s solid near = by (is_empty v.held.flow) refl
     by : (out : Bool) → is_empty v.held.flow ≡ out → Arrives text (on_held (λ s. unroll_indent (s.position.col + 1) s) v)
     by false e =
         rw (unrolled_in_flow (p.col + 1) v.held e)
-        (arrives_with text v s solid near (record { indent = v.held.indent; indents = v.held.indents; tokens = v.held.tokens })
-        (ap (λ b. (site_here (not b) p s.base.site).blocks) e ∙ s.blocks_are) (ap (λ b. (site_here (not b) p s.base.site).awaits) e ∙ s.awaits_is) s.are_levels
-        (sym (append-nil v.held.tokens) ∙ ap (λ b. v.held.tokens ++ ends_here (not b) p s.base.site.blocks) (sym e)))
+        (arrives_with text v s solid near (record { indent = v.held.indent; indents = v.held.indents; tokens = v.held.tokens }) (grind arith) (grind arith) s.are_levels (grind (arith, append-nil)))
     by true e =
         let u : Levels = unrolled (p.col + 1) p v.held.indent v.held.indents v.held.tokens in
         let z : Ended p s.base.site.blocks s.base.site.awaits v.held.tokens u = rw (s.blocks_are, s.awaits_is) (levels_end p v.held.indent v.held.indents v.held.tokens s.are_levels) in
         rw (unrolled_outside (p.col + 1) v.held e)
-        (arrives_with text v s solid near u (ap (λ b. (site_here (not b) p s.base.site).blocks) e ∙ z.columns_are) (ap (λ b. (site_here (not b) p s.base.site).awaits) e ∙ z.open_is) z.are_levels
-        (z.tokens_are ∙ ap (λ b. v.held.tokens ++ ends_here (not b) p s.base.site.blocks) (sym e)))
-
--- with stale keys dropped the open key outside flow is near
-pub near_key : (text : List ℕ) (u : ScannerState) (h : Held) → Nearer text u h → HasNearKey (record u { held = h })
-near_key text u h n out = grind arith
+        (arrives_with text v s solid near u (grind (arith, z)) (grind (arith, z)) z.are_levels (grind (arith, z)))
 
 -- where a piece begins, after stale keys
 pub stale_arrives : (text : List ℕ) (u : ScannerState) → Stands text u → begins_separation u.rest ≡ false →
     Holds (λ v. Arrives text (on_held (λ s. unroll_indent (s.position.col + 1) s) v) × (length v.rest ≡ length u.rest)) (try_held stale u)
-stale_arrives text u s solid = tried u (stale u.held) (stale_stands text u s) (λ h n. (arrives_now text (record u { held = h }) n.stands solid (near_key text u h n), refl))
+stale_arrives text u s solid = tried u (stale u.held) (stale_stands text u s) (λ h n. (arrives_now text (record u { held = h }) n.stands solid (grind arith), refl))
 
 -- From one fetch to where the next piece begins, or to the text's end: the way to the next token, stale keys, and the ends of block collections.
 pub arrived : (text : List ℕ) (t : ScannerState) (f : ScannerState → Result ScannerState Fault) (P : ScannerState → Type 0) → Stands text t → ((v : ScannerState) → Arrives text v → length v.rest ≤ length t.rest → Holds P (f v)) →

@@ -1,10 +1,9 @@
 -- Blanks and a comment after a piece, within its line: what the model reads there is all of them, and it stands where they end.
 use Rattle.std.proofs.lemmas.List.{append-nil}
-use Rattle.proof_scanner.proofs.Common.{[], after, after_spaces, ap, append_assoc, arith, At, begins_line, begins_with, blanks_and_comment, Bool, comment_after, comment_of, eqb-true, Err, false, Fault, follows_plain, has_no_break, has_tab_within, Holds, if◌then◌else◌, in_line_position, is_blank, is_break, is_indented_by_spaces, is_line, is_on_line, is_one_of, is_separation, last_line, leading, least_column, lexed, List, No, not, Ok, or_false, or_true, pass_indicator, past, past_blanks_and_comment, past_comment, past_line_rest, Position, position_after, position_append, position_in_line, Previous, Read, refl, refused, Result, same_break, ScannerState, skip_indicator, skip_spaces, skip_while, space, space_step, span_cut, sym, true, walk, went, Whitespace, with_found, Yes, ℕ, ◌&&◌, ◌++◌, ◌==◌, ◌||◌, ◌∙◌, ◌∷◌, ◌≡◌}
+use Rattle.proof_scanner.proofs.Common.{CommentNotSeparated, [], after, after_spaces, ap, append_assoc, arith, At, begins_with, blanks_and_comment, Bool, comment_of, eqb-true, Err, false, Fault, has_no_break, Holds, if◌then◌else◌, in_line_position, is_blank, is_break, is_line, is_on_line, is_one_of, is_separation, leading, lexed, List, No, not, Ok, or_false, or_true, pass_indicator, past, past_blanks_and_comment, past_comment, past_line_rest, Position, position_after, position_append, position_in_line, Read, refl, refused, Result, same_break, ScannerState, skip_indicator, skip_spaces, skip_while, space, space_step, span_cut, sym, true, walk, went, Whitespace, with_found, Yes, ℕ, ◌&&◌, ◌++◌, ◌==◌, ◌||◌, ◌∙◌, ◌∷◌, ◌≡◌}
 use Rattle.proof_scanner.proofs.Cut.Pieces.Separations.{no_break_append}
 use Rattle.model_scanner.specs.State.{after as after_first}
 use Rattle.proof_scanner.proofs.Cut.Documents.{past_indicator}
-use Rattle.yaml_tokens.specs.declared.problem.Problem.TheVariants as problem
 
 -- ---- positions
 
@@ -14,20 +13,19 @@ same_in_line p l x y h = sym (position_in_line p l x h) ∙ position_in_line p l
 
 -- ---- the blanks
 
--- what was found before, and among these blanks
-abbrev with_blanks : Whitespace → List ℕ → Whitespace
-with_blanks w l = record { found_tabs = w.found_tabs || is_one_of l 9; has_valid_yaml_ws = w.has_valid_yaml_ws || is_one_of l 32 }
-
 pub no_break_in_blanks : (a : List ℕ) → has_no_break (leading is_blank a) ≡ true
 unfolding is_blank is_break
 no_break_in_blanks [] = refl
 no_break_in_blanks (c ∷ a) = grind (arith, no_break_in_blanks a)
 
+-- what was found before, and among these blanks
+abbrev with_blanks : Whitespace → List ℕ → Whitespace
+with_blanks w l = record { found_tabs = w.found_tabs || is_one_of l 9; has_valid_yaml_ws = w.has_valid_yaml_ws || is_one_of l 32 }
+
 blanks_walked : (a : List ℕ) (p : Position) (w : Whitespace) →
     walk (space_step Yes) a (record { position = p; found = w }) ≡ record { rest = after is_blank a; state = record { position = position_after p (leading is_blank a) []; found = with_blanks w (leading is_blank a) } }
 unfolding is_blank is_break
-blanks_walked [] p w = ap (λ (x : Position). record { rest = []; state = record { position = x; found = w } }) refl ∙ ap (λ (x : Whitespace). record { rest = []; state = record { position = p; found = x } })
-    (ap (λ b. record { found_tabs = b; has_valid_yaml_ws = w.has_valid_yaml_ws }) (sym (or_false w.found_tabs)) ∙ ap (λ b. record { found_tabs = (with_blanks w []).found_tabs; has_valid_yaml_ws = b }) (sym (or_false w.has_valid_yaml_ws)))
+blanks_walked [] p w = grind (arith, or_false)
 blanks_walked (c ∷ a) p w = grind (arith, blanks_walked a)
 
 -- ---- a comment
@@ -51,10 +49,7 @@ line_rest_cut a = span_cut is_blank a ∙ (ap (λ r. leading is_blank a ++ r) (c
   where
     comment_cut : (b : List ℕ) → b ≡ comment_of b ++ past_comment b
     comment_cut [] = refl
-    comment_cut (c ∷ b) = by (c == 35) (span_cut is_on_line (c ∷ b))
-      where
-        by : (x : Bool) → c ∷ b ≡ leading is_on_line (c ∷ b) ++ after is_on_line (c ∷ b) → c ∷ b ≡ (if x then leading is_on_line (c ∷ b) else []) ++ (if x then after is_on_line (c ∷ b) else c ∷ b)
-        by a e = grind arith
+    comment_cut (c ∷ b) = grind (arith, span_cut is_on_line (c ∷ b))
 
 comment_fills : (a : List ℕ) → is_separation true (leading is_on_line a) (after is_on_line a) ≡ true
 comment_fills [] = refl
@@ -74,14 +69,11 @@ is_clear (c ∷ a) = not (is_blank c) && not (c == 35)
 pub past_rest_is_clear : (a : List ℕ) → is_clear (past_blanks_and_comment a) ≡ true
 unfolding is_blank is_break
 past_rest_is_clear [] = refl
-past_rest_is_clear (c ∷ a) = by (c == 32) (c == 9) refl refl (past_rest_is_clear a)
+past_rest_is_clear (c ∷ a) = grind (arith, line_end, eqb-true, past_rest_is_clear a)
   where
     line_end : (b : List ℕ) → is_clear (after is_on_line b) ≡ true
     line_end [] = refl
     line_end (d ∷ b) = grind (arith, line_end b)
-
-    by : (x y : Bool) → (c == 32) ≡ x → (c == 9) ≡ y → is_clear (past_blanks_and_comment a) ≡ true → is_clear (past_comment (if (x || y) then after is_blank a else c ∷ a)) ≡ true
-    by b y e f h = grind (arith, line_end, eqb-true)
 
 -- ---- what the model reads
 
@@ -124,16 +116,14 @@ spaced_exactly a p = rw (blanks_walked a p (record { found_tabs = false; has_val
 
     of : (b : List ℕ) → after is_blank a ≡ b → IsSpaced a p (after_spaces b (record { position = q; found = found_in l }))
     of [] e = parted (clear_first a (ap (begins_with 35) e)) (grind (arith, q, append-nil, l))
-    of (c ∷ b) e = by (c == 35) refl
+    of (c ∷ b) e = by (c == 35) (is_one_of l 9 || is_one_of l 32) refl refl
       where
-        by : (x : Bool) → (c == 35) ≡ x → IsSpaced a p (if x then comment_after (found_in l) (c ∷ b) q else at (c ∷ b) q)
-        by false f = parted (clear_first a (ap (begins_with 35) e ∙ f)) (grind (arith, q, append-nil, l))
-        by true f = found (is_one_of l 9 || is_one_of l 32) refl
-          where
-            found : (x : Bool) → (is_one_of l 9 || is_one_of l 32) ≡ x → IsSpaced a p (if x then Ok (with_found (found_in l) (skip_while is_line (c ∷ b) q)) else Err (At problem.CommentNotSeparated q))
-            found true g = parted (blank_first a g) (ap (λ r. Ok (with_found (found_in l) r)) (comment_passed (c ∷ b) q) ∙ (ap (λ x. at (after is_on_line (c ∷ b)) x)
-                (ap (λ x. position_after x (leading is_on_line (c ∷ b)) []) (same_in_line p l [] ((leading is_on_line (c ∷ b)) ++ []) (no_break_in_blanks a)) ∙ (sym (position_append p l (leading is_on_line (c ∷ b)) []) ∙ ap (λ x. position_after p (l ++ x) []) (sym (ap comment_of e ∙ rw f refl)))) ∙ ap (λ r. at r (past_line_rest p a)) (sym (ap past_comment e ∙ rw f refl))))
-            found false g = glued (At problem.CommentNotSeparated q) (ap (begins_with 35) (sym (no_blank_first a g) ∙ e) ∙ f) refl
+        by : (x y : Bool) → (c == 35) ≡ x → (is_one_of l 9 || is_one_of l 32) ≡ y →
+            IsSpaced a p (if x then (if y then Ok (with_found (found_in l) (skip_while is_line (c ∷ b) q)) else Err (At CommentNotSeparated q)) else at (c ∷ b) q)
+        by false y f g = parted (clear_first a (ap (begins_with 35) e ∙ f)) (grind (arith, q, append-nil, l))
+        by true false f g = glued (At CommentNotSeparated q) (ap (begins_with 35) (sym (no_blank_first a g) ∙ e) ∙ f) refl
+        by true true f g = parted (blank_first a g) (ap (λ r. Ok (with_found (found_in l) r)) (comment_passed (c ∷ b) q) ∙ (ap (λ x. at (after is_on_line (c ∷ b)) x)
+            (ap (λ x. position_after x (leading is_on_line (c ∷ b)) []) (same_in_line p l [] ((leading is_on_line (c ∷ b)) ++ []) (no_break_in_blanks a)) ∙ (sym (position_append p l (leading is_on_line (c ∷ b)) []) ∙ ap (λ x. position_after p (l ++ x) []) (sym (ap comment_of e ∙ rw f refl)))) ∙ ap (λ r. at r (past_line_rest p a)) (sym (ap past_comment e ∙ rw f refl))))
 
 -- where no comment stands directly, they are read
 pub spaced_parted : (a : List ℕ) (p : Position) → begins_with 35 a ≡ false → space Yes a p ≡ Ok (record { rest = past_blanks_and_comment a; position = past_line_rest p a; value = found_in (leading is_blank a) })
@@ -175,7 +165,3 @@ past_one p c next e = past_indicator p c next e
 -- the position after all of it
 pub indicator_end : (p : Position) (c : ℕ) (more : List ℕ) → is_break c ≡ false → past_line_rest (past p) more ≡ position_after (position_after p (c ∷ []) more) (blanks_and_comment more) (past_blanks_and_comment more)
 indicator_end p c more e = grind (arith, past_one, same_in_line, line_rest_in_line)
-
--- no TAB indents a line, where no line begins
-pub none_indents : (before : Previous) (bs : List ℕ) (awaits : Bool) (f : List ℕ) → begins_line before f ≡ false → is_indented_by_spaces before bs awaits f ≡ true
-none_indents before bs awaits f h = ap (λ b. not b || not (has_tab_within (least_column bs (awaits || follows_plain before f)) (last_line f))) h

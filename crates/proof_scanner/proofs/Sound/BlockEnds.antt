@@ -24,10 +24,7 @@ written_by collection piece next b z h none = by z.lines z.last z.is z.are h
     by (l ∷ ls) a is are h = grind arith
 
 pub written : (collection : Option ℕ) (piece next : List ℕ) (b : BlockRead) → block_read collection piece next ≡ Some b → is_at_end next ≡ false → Written piece next
-written collection piece next b h e =
-    let z : Lined piece = lined piece in
-    let none : (slice_index next 0 == 10) ≡ false = (grind arith) ∙ (piece_has_line collection piece next b e h).1 in
-    written_by collection piece next b z (ap (λ s. read_lines collection s.complete s.last next false) (sym (ap split z.is ∙ split_spell z.lines z.last z.are z.inner)) ∙ (ap (λ x. read_lines collection (split piece).complete (split piece).last next x) (sym e) ∙ h)) none
+written collection piece next b h e = grind (arith, written_by, lined piece, piece_has_line, split_spell)
 
 -- ---- positions
 
@@ -75,25 +72,7 @@ module _ (indent column : ℕ) (p : Position) (b : BlockRead) (piece next : List
       let w : Written piece next = written (collection_of indent) piece next b h e in
       let ls : List (List ℕ) = texts w.lines in
       let lines : (split piece).complete ≡ w.header.text ∷ ls = ap (λ x. (split x).complete) w.is ∙ ap (λ x. x.complete) (split_spell (w.header ∷ w.lines) [] w.are refl) in
-      let here : block_read (innermost bs) piece next ≡ Some b = ap (λ c. block_read c piece next) (sym l.0) ∙ h in
-      let margin : (position_after p piece next).col ≡ 0 = ends_at_margin (collection_of indent) piece next b p h e in
-      let spaces : (further_position p piece next).col ≡ (position_after p piece next).col + leading_spaces next = spaces_col (position_after p piece next) next in
-      let at : (further_position p piece next).col ≡ leading_spaces next = omega (arith, margin, spaces) in
-      let not_shallow : are_empty column ls ≡ true → (nat_le indent (leading_spaces next) && nat_lt (leading_spaces next) column) ≡ false =
-      λ empty.
-      let none : first_content b.column true p piece ≡ None = (grind (arith, first_header, none_from)) in
-      ap (λ c. nat_le indent (leading_spaces next) && nat_lt (leading_spaces next) c) (sym same) ∙
-      (ap (λ k. nat_le indent k && nat_lt k b.column) (sym at) ∙
-      (ap (λ o. ((not false && is_none o) && nat_le indent (further_position p piece next).col) && nat_lt (further_position p piece next).col b.column) (sym none) ∙
-      (ap (λ x. ((not x && is_none (first_content b.column true p piece)) && nat_le indent (further_position p piece next).col) && nat_lt (further_position p piece next).col b.column) (sym e) ∙ clear))) in
-      ap (λ o. read_may_end bs o piece next) here ∙
-      (ap (λ x. lines_may_end bs b.column x next) lines ∙
-      (ap (λ c. lines_may_end bs c (w.header.text ∷ ls) next) same ∙
-      both_hold (not (is_empty ls && begins_with tab next)) (not (are_empty column ls) || nat_lt (leading_spaces next) (least_column bs true) || nat_le column (leading_spaces next))
-      (grind arith) (grind (arith, nat_tests, eqb-true))))
-    where
-      both_hold : (x y : Bool) → x ≡ true → y ≡ true → (x && y) ≡ true
-      both_hold x y e f = rw (e, f) refl
+      grind (arith, nat_tests, eqb-true, w, lines, l, h, ends_at_margin (collection_of indent) piece next b p h e, spaces_col (position_after p piece next) next, first_header, none_from, clear, untabbed)
 
 -- A block scalar that was read, and was not refused for what stands after it, may end there.
 pub block_clear : (indent : ℕ) (p : Position) (b : BlockRead) (piece next bs : List ℕ) → IsLeast indent bs → block_read (collection_of indent) piece next ≡ Some b → is_tabbed piece next ≡ false → is_shallow indent p b piece next ≡ false → block_may_end bs piece next ≡ true

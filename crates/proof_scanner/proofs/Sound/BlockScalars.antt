@@ -1,5 +1,5 @@
 -- Block scalars: what holds where one begins holds between two fetches after it. No key waits over it, and after it a key may begin.
-use Rattle.proof_scanner.proofs.Common.{Act, Arrives, Block, BlockStyle, Bool, HasNoTabs, Holds, IsLive, IsPiece, IsReadOn, IsTakenBy, Key, KnowsKey, Levels, Line, List, MayChoose, None, NotBefore, Ok, Option, Outside, Position, Previous, Read, ScannerState, Site, SoFar, Some, Tok, Token, [], act_of, allow_key, ap, append-nil, append_assoc, arith, awaits_past, before_by, begins_line, begun_by, block, block_may_end, block_position, block_read, block_scalar, block_style, chosen, collection_of, content_position, false, fetch_block_scalar, folded, free, further_lines_stand, further_position, gives_block_scalar, has_break, has_no_nul, has_tab_within, if◌then◌else◌, inl, innermost, inr, is_break, is_empty, is_in_column, is_literal, is_one_of, is_separation, least_column, least_for, line_past, literal, may_precede, may_stand, nat_tests, no_nul_after, not, position_after, previous_by, read, refl, seen, shown_position, site_at, site_here, site_in, site_past, subst, suc, sym, take, taken, token, tokens_up_to, true, unroll_non_block_indents, went, without_open, without_spaces, ℕ, ◌&&◌, ◌++◌, ◌||◌, ◌∙◌, ◌∷◌, ◌≡◌, ◌⊎◌, eqb-true}
+use Rattle.proof_scanner.proofs.Common.{Act, Arrives, Block, BlockStyle, Bool, Holds, IsLive, IsPiece, IsReadOn, IsTakenBy, Key, KnowsKey, Levels, Line, List, MayChoose, None, NotBefore, Ok, Option, Outside, Position, Previous, Read, ScannerState, Site, SoFar, Some, Tok, Token, [], act_of, allow_key, ap, append-nil, append_assoc, arith, awaits_past, before_by, begun_by, block, block_may_end, block_position, block_read, block_scalar, block_style, chosen, collection_of, content_position, false, fetch_block_scalar, folded, free, further_lines_stand, further_position, gives_block_scalar, has_break, has_no_nul, if◌then◌else◌, inl, innermost, is_break, is_empty, is_in_column, is_literal, is_one_of, is_separation, least_for, line_past, literal, may_precede, may_stand, nat_tests, no_nul_after, not, position_after, previous_by, read, refl, seen, shown_position, site_at, site_here, site_in, site_past, subst, suc, sym, take, taken, token, tokens_up_to, true, unroll_non_block_indents, went, without_open, without_spaces, ℕ, ◌&&◌, ◌++◌, ◌∙◌, ◌∷◌, ◌≡◌, ◌⊎◌, eqb-true, go_on, push, with_levels, on_held, on_held}
 use Rattle.model_scanner.specs.declared.kind.BlockStyle as kind
 use Rattle.model_scanner.specs.declared.kind.BlockStyle.TheVariants.{Literal, Folded}
 use Rattle.defs_token.specs.Account as pieces
@@ -40,18 +40,9 @@ after_by must a bs k l e b = grind arith
 
 -- what the scanner holds after a block scalar, as the model has it
 abbrev pub read_state : ScannerState → Levels → BlockStyle → Read Block → ScannerState
-read_state t w style x = record {
-  rest = x.rest;
-  held = record t.held {
-    position = x.position;
-    tokens = w.tokens ++ token x.value.position (token_of style x.value.text) ∷ [];
-    keys = saved_keys t.held;
-    indents = w.indents;
-    indent = w.indent;
-    key_allowed = true;
-    leading = true;
-  };
-}
+read_state t w style x =
+    on_held (λ s. push x.value.position (token_of style x.value.text) (record s { leading = true }))
+    (go_on x (with_levels (allow_key true (record t.held { keys = saved_keys t.held })) w))
 
 module _ (text : List ℕ) (t : ScannerState) (k : Option Key) (a : ArrivesBy text t [] (k ∷ []) []) (within : t.held.flow ≡ []) (keys : t.held.keys ≡ k ∷ []) (deep : IsDeep t.held) (w : Levels) (closed : AreClosed t.held.indent t.held.indents t.held.tokens w)
     (style : BlockStyle) (x : Read Block) (r : BlockAs style w.indent t.held.position t.rest x) where
@@ -171,14 +162,11 @@ module _ (text : List ℕ) (t : ScannerState) (k : Option Key) (a : ArrivesBy te
 
   scalar_reads : Reads t after_it site_then r.piece r.next gap
   scalar_reads =
-      let far = adjacent_kept t after_it (before_by (previous_by tok)) r.piece r.next gap is_solid place a.was_adjacent refl (ap before_by n.before) in
-      let no_tabs : HasNoTabs site_then gap rest =
-      inr (rw n.before (ap not (ap (λ l. has_tab_within (least_column here.blocks ((awaits_past false tok here.blocks here.awaits r.next) || false)) l)
-      (last_whole (spaces_of r.next) (spaces_in_line r.next)) ∙ no_tab_in (least_column here.blocks ((awaits_past false tok here.blocks here.awaits r.next) || false)) r.next))) in
-      assumption (is_solid, r, spaces_cut r.next, spaces_fill r.next rest, place, (a.blocks_are ∙ closed.same_columns), n.awaits here.blocks here.awaits r.next ∙ sym closed.none_open, no_tabs, sym (ap (λ z. begins_line z gap) n.before), read_on (previous_by tok) n.before, far)
+      grind (arith, n, r, is_solid, place, closed, spaces_cut, spaces_fill, no_tab_in, last_whole, spaces_in_line, read_on, adjacent_kept t after_it (before_by (previous_by tok)) r.piece r.next gap is_solid place)
 
-  pub scalar_stands : KnowsKey text (a.separation ++ t.rest) t.held.position k → Onward text t.rest after_it
-  scalar_stands known = stands_so text t after_it r.piece r.next gap [] (key_now ∷ []) (with_entries site_then free []) a.is_clean a.started a.going scalar_reads (record {
+  -- What stands after a block scalar that was read; the spaces after it are the separation.
+  pub block_stands : KnowsKey text (a.separation ++ t.rest) t.held.position k → Onward text t.rest (read_state t w style x)
+  block_stands known = rw r.is (rw closed.same_tokens (stands_so text t after_it r.piece r.next gap [] (key_now ∷ []) (with_entries site_then free []) a.is_clean a.started a.going scalar_reads (record {
     flow_is = within;
     keys_are = keys_saved t k [] keys;
     one_each = refl;
@@ -193,12 +181,7 @@ module _ (text : List ℕ) (t : ScannerState) (k : Option Key) (a : ArrivesBy te
       (ap not is_solid, subst (λ y. IsPiece (seen (with_entries a.site a.line []) y a.separation) r.piece r.next None (shown_position y r.piece tok r.next) tok) (sym same_site) is_piece),
     ) within deep (ap is_of_node n.act) known;
     completes = λ strict c cs may. then_rows strict c cs key_now refl may;
-  })
-
-  -- What stands after a block scalar that was read; the spaces after it are the separation.
-  pub block_stands : KnowsKey text (a.separation ++ t.rest) t.held.position k → Onward text t.rest (read_state t w style x)
-  block_stands known =
-      rw r.is (rw closed.same_tokens (scalar_stands known))
+  })))
 
 -- ---- the function
 
@@ -218,6 +201,7 @@ block_keeps text style t more e out deep arrives =
         (λ k a n o. block_stands text _ k a refl refl deep w (without_is t.held.indent t.held.indents t.held.tokens arrives.are_levels) style x r n) (λ f fs k ks y es a o. absurd (cc o)) out
 
     of : (style : kind.BlockStyle) → t.rest ≡ (if is_literal style then 124 else 62) ∷ more → (x : Read Block) → block (is_literal style) w.indent t.rest t.held.position ≡ Ok x →
-        Onward text t.rest (record { rest = x.rest; held = record t.held { position = x.position; tokens = w.tokens ++ token x.value.position (Tok.scalar (block_style style) x.value.text) ∷ []; keys = saved_keys t.held; indents = w.indents; indent = w.indent; key_allowed = true; leading = true } })
+        Onward text t.rest (on_held (λ s. push x.value.position (Tok.scalar (block_style style) x.value.text) (record s { leading = true }))
+        (go_on x (with_levels (allow_key true (record t.held { keys = saved_keys t.held })) w)))
     of Literal e x i = by literal x (grind (arith, clean, no_nul_after, block_as))
     of Folded e x i = by folded x (grind (arith, clean, no_nul_after, block_as))

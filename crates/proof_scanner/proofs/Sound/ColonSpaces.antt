@@ -1,8 +1,7 @@
 -- What the model reads after a colon: where a TAB stands next, the blanks and a comment; else nothing.
-use Rattle.proof_scanner.proofs.Common.{arith, At, Bool, Held, Holds, List, Ok, ScannerState, Yes, [], after, begins_with, begins_with_alpha, blanks_and_comment, check_after_tab, check_value_space, checked, colon_may_precede, eqb-true, false, has_no_break, if◌then◌else◌, is_blank, is_one_of, is_separation, leading, lexed, not, or_parts, pair_position, past_blanks_and_comment, past_comment, past_line_rest, peek, refl, same_alpha, space, subst, sym, tab, true, went, ℕ, ◌&&◌, ◌++◌, ◌==◌, ◌||◌, ◌∙◌, ◌≡◌}
+use Rattle.proof_scanner.proofs.Common.{arith, Bool, Held, Holds, List, Ok, ScannerState, Yes, [], after, begins_with, begins_with_alpha, blanks_and_comment, check_after_tab, check_value_space, checked, colon_may_precede, eqb-true, false, has_no_break, if◌then◌else◌, is_blank, is_separation, lexed, or_parts, pair_position, past_blanks_and_comment, past_comment, peek, refl, same_alpha, space, tab, true, went, ℕ, ◌++◌, ◌==◌, ◌||◌, ◌∙◌, ◌≡◌}
 use Rattle.yaml_chars.specs.Class.{is_alpha}
 use Rattle.defs_text.specs.Classes as classes
-use Rattle.yaml_tokens.specs.declared.problem.Problem.TheVariants as problem
 use Rattle.proof_scanner.proofs.Sound.Blanks.{line_rest_cut, line_rest_fills, line_rest_in_line, past_rest, rest_read}
 use Rattle.proof_scanner.proofs.Cut.Fetched.{begins_here}
 
@@ -35,15 +34,7 @@ colon_spaced more h = by (begins_with tab more) refl
     t : ScannerState
     t = record { rest = more; held = h }
 
-    Ends : Bool → ScannerState → Type 0
-    Ends b u = (u ≡ record { rest = (if b then past_blanks_and_comment more else more); held = record h { position = (if b then past_line_rest h.position more else h.position) } }) × (not (b && not (is_one_of (leading is_blank more) 32) && begins_with_alpha (after is_blank more)) ≡ true)
-
-    letter : (x y z : Bool) → (x && y) ≡ false → (y ≡ false → z ≡ false) → not (true && x && z) ≡ true
-    letter a y z e f = grind arith
-
     by : (b : Bool) → begins_with tab more ≡ b → Holds (λ u. (u ≡ past_colon more h) × (colon_may_precede more ≡ true)) (if peek more == 9 then lexed (space Yes more h.position) h check_after_tab else Ok t)
     by true e =
-        rw (begins_here 9 more refl ∙ e) (rest_read t check_after_tab _ (λ _.
-        checked (not (is_one_of (leading is_blank more) 32) && ((peek (past_blanks_and_comment more) == 45) || is_alpha (peek (past_blanks_and_comment more)))) (At problem.TabAfterColon (past_rest t).held.position) (λ f.
-        went (subst (λ b. Ends b (past_rest t)) (sym e) (refl, letter _ _ (begins_with_alpha (after is_blank more)) f (no_letter (after is_blank more)))))))
-    by false e = rw (begins_here 9 more refl ∙ e) (went (subst (λ b. Ends b t) (sym e) (refl, refl)))
+        rw (begins_here 9 more refl ∙ e) (rest_read t check_after_tab _ (λ _. checked _ _ (λ f. went {x = past_rest t} (grind (arith, no_letter (after is_blank more))))))
+    by false e = rw (begins_here 9 more refl ∙ e) (went {x = t} (grind arith))

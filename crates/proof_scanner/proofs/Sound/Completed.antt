@@ -45,14 +45,7 @@ pub completed_past : (text after : List ℕ) (a b : Account) (before past : List
 unfolding begins_past
 completed_past text after a b before past w next cut written stands tokens h = (
   begins_past text after a b w next cut written stands h.0,
-  λ ws last e.
-      let whole : spelled (w ∷ ws) last ≡ after = ap (λ x. w.separation ++ (w.piece ++ x)) e ∙ sym cut in
-      let later : tokens_from (account_past a w (spelled ws last)) ws last ≡ tokens_from (Some b) ws last = ap (λ x. tokens_from x ws last) (ap (λ x. account_past a w x) e ∙ stands) in
-      ap (λ vs. put first_position stream_start ∷ tokens_from (Some first_account) vs last) (append_assoc h.0.steps (w ∷ []) ws) ∙
-      (h.1 (w ∷ ws) last whole ∙
-      (ap (λ x. before (w ∷ ws) last ++ (tokens_of_step a w ws last ++ x)) later ∙
-      (sym (append_assoc (before (w ∷ ws) last) (tokens_of_step a w ws last) (tokens_from (Some b) ws last)) ∙
-      ap (λ x. x ++ tokens_from (Some b) ws last) (tokens ws last e)))),
+  λ ws last e. grind (arith, append_assoc, cut, stands, e, tokens ws last e, h.1 (w ∷ ws) last, append_assoc h.0.steps (w ∷ []) ws),
 )
 
 -- The same of tokens that are a cut alone, if no key begins to wait outside flow.

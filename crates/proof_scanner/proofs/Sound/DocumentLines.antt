@@ -1,22 +1,11 @@
 -- Document markers and directives: what holds where they begin holds between two fetches after them.
-use Rattle.proof_scanner.proofs.Common.{[], act_of, and_false, and_parts, ap, append-nil, append_assoc, AreLevels, arith, Arrives, awaits_past, before_by, begin_line, begins_free_line, begins_line, begins_with, begun_by, begun_inside, blanks_and_comment, Bool, check_document_end, columns, Directive, directive_of, directives_end, either, entries_past, Entry, eqb-true, false, fetch_directive, fetch_document_end, fetch_document_marker, first_break, FlowLevel, further_lines_stand, gives_marker, has_break, has_no_break, has_no_nul, has_open_level, HasNoTabs, Held, Holds, in_flow, inr, is_at_gap, is_break, is_breakz, is_closed, is_empty, is_in_column, is_indented_by_spaces, is_renewed, is_required, is_separation, IsDirectiveRead, IsLeading, IsPiece, IsReadOn, Key, least_for, length, Levels, line_is_done, List, may_precede, no_nul_after, None, on_held, Option, or_true, other, pair_position, past, past_blanks_and_comment, past_line_rest, peek, Position, position_after, position_append, previous_by, push, put, read, read_as, refl, refused, remove_implicit_key, replicate-append-replicate, ScannerState, seen, settled, shown_position, Site, site_in, skip_indicator, Some, subst, sym, taken, takes_pair, Tok, Token, token_of, top_key, true, unroll_indent, went, whole_directive, with_top, ℕ, ◌++◌, ◌∙◌, ◌∷◌, ◌≡◌, ◌≤◌}
-use Rattle.proof_scanner.proofs.Sound.Steps.{exactly, held_exactly, Onward, adjacent_kept, all_levels, by_sides, ArrivesBy, at_end_of, begins_key, ends_of, goes_inside, is_done, key_gone, line_rest_cut, line_rest_fills, line_rest_in_line, none_indents, read_outside, Reads, rest_skipped, same_in_line, shorter, some_rest, three_past, tokens_before, tokens_then, unrolled_in_flow, with_entries, same_has_break}
+use Rattle.proof_scanner.proofs.Common.{[], act_of, and_false, and_parts, ap, append-nil, append_assoc, AreLevels, arith, Arrives, awaits_past, before_by, begin_line, begins_free_line, begins_line, begins_with, begun_by, blanks_and_comment, Bool, check_document_end, columns, Directive, directive_of, directives_end, either, Entry, eqb-true, false, fetch_directive, fetch_document_end, fetch_document_marker, first_break, FlowLevel, further_lines_stand, gives_marker, has_break, has_no_break, has_no_nul, has_open_level, Held, Holds, in_flow, inr, is_at_gap, is_break, is_breakz, is_closed, is_empty, is_indented_by_spaces, is_renewed, is_required, is_separation, IsDirectiveRead, IsPiece, IsReadOn, Key, length, List, may_precede, no_nul_after, None, on_held, Option, or_true, other, past, past_blanks_and_comment, past_line_rest, peek, Position, position_after, position_append, previous_by, push, put, read, read_as, refl, refused, remove_implicit_key, replicate-append-replicate, ScannerState, seen, settled, shown_position, Site, site_in, skip_indicator, Some, subst, sym, taken, Tok, token_of, top_key, true, unroll_indent, went, whole_directive, with_top, ℕ, ◌++◌, ◌∙◌, ◌∷◌, ◌≡◌, ◌≤◌}
+use Rattle.proof_scanner.proofs.Sound.Steps.{exactly, held_exactly, Onward, adjacent_kept, all_levels, by_sides, ArrivesBy, at_end_of, ends_of, goes_inside, is_done, key_gone, line_rest_cut, line_rest_fills, line_rest_in_line, read_outside, Reads, rest_skipped, same_in_line, shorter, some_rest, three_past, tokens_before, unrolled_in_flow, with_entries, same_has_break}
 use Rattle.defs_token.specs.Account.{Account as PieceAccount}
-use Rattle.defs_token.specs.Key.{line_past as line_of_piece}
 use Rattle.model_scanner.specs.Directive.{directive}
 use Rattle.proof_lexers.specs.DirectiveEnds.{ends_line, next_line}
 use Rattle.proof_scanner.proofs.Cut.Pieces.Directives.{break_cut, break_is_separation, percent_in_line, piece_of}
 use Rattle.model_scanner.specs.Machine as machine
-
--- What is said of the token of a document marker or a directive.
-pub record IsDocumentToken (tok : Tok) : Type 0 where
-  pub act : act_of tok ≡ gives_marker
-  pub begun : begun_by tok ≡ []
-  pub shown : (s : Site) (piece next : List ℕ) → shown_position s piece tok next ≡ s.position
-  pub lines : (column : ℕ) (piece : List ℕ) → further_lines_stand column tok piece ≡ true
-  pub awaits_inside : (bs : List ℕ) (b : Bool) (next : List ℕ) → awaits_past true tok bs b next ≡ b
-  pub awaits_outside : (bs : List ℕ) (b : Bool) (next : List ℕ) → awaits_past false tok bs b next ≡ false
-  pub before : before_by (previous_by tok) ≡ other
 
 -- What was read of such a line: the token and its piece, the separation after it, the text and the position after both, and whether only blanks stand before that on its line.
 pub record Read : Type 0 where
@@ -30,9 +19,15 @@ pub record Read : Type 0 where
 abbrev pub next_of : Read → List ℕ
 next_of d = d.gap ++ d.rest
 
--- What is to be known of it.
+-- What is to be known of it: what is so of the token of a document marker or a directive, and what was read.
 pub record IsRead (t : ScannerState) (d : Read) : Type 0 where
-  pub token : IsDocumentToken d.tok
+  pub act : act_of d.tok ≡ gives_marker
+  pub begun : begun_by d.tok ≡ []
+  pub shown : (s : Site) (piece next : List ℕ) → shown_position s piece d.tok next ≡ s.position
+  pub lines : (column : ℕ) (piece : List ℕ) → further_lines_stand column d.tok piece ≡ true
+  pub awaits_inside : (bs : List ℕ) (b : Bool) (next : List ℕ) → awaits_past true d.tok bs b next ≡ b
+  pub awaits_outside : (bs : List ℕ) (b : Bool) (next : List ℕ) → awaits_past false d.tok bs b next ≡ false
+  pub before : before_by (previous_by d.tok) ≡ other
   pub at_margin : t.held.position.col ≡ 0
   pub cut : t.rest ≡ d.piece ++ next_of d
   pub is_solid : is_empty d.piece ≡ false
@@ -55,11 +50,7 @@ line_past t h d = record { rest = d.rest; held = record h { position = d.end; le
 line_reads : (t : ScannerState) (d : Read) (h : Held) (y : Site) → IsRead t d → y.position ≡ position_after t.held.position d.piece (next_of d) → y.before ≡ previous_by d.tok → y.blocks ≡ columns h.indent h.indents → y.awaits ≡ has_open_level h.indents → AreLevels h.indent h.indents →
     t.held.adjacent_value_at ≤ t.held.position.index → (h.adjacent_value_at ≡ t.held.adjacent_value_at) × (h.started ≡ t.held.started) × (h.ended ≡ t.held.ended) → Reads t (line_past t h d) y d.piece (next_of d) d.gap
 line_reads t d h y r here before columns_are awaits levels was same =
-    let far = adjacent_kept t (line_past t h d) (before_by y.before) d.piece (next_of d) d.gap r.is_solid r.end_is was same.0 (ap before_by before ∙ r.token.before) in
-    let no_tabs : HasNoTabs y d.gap d.rest = inr (rw before (r.no_tabs y.blocks y.awaits)) in
-    let leads_then : IsLeading d.leading y d.gap d.rest = λ _ more _. r.leads more ∙ ap (λ b. begins_line b d.gap) (sym before) in
-    let read_on : IsReadOn y.before y.position d.gap d.rest = rw before (r.read_on y.position) in
-    assumption (no_tabs, leads_then, read_on, far, r.end_is ∙ ap (λ q. position_after q d.gap d.rest) (sym here))
+    grind (arith, r, adjacent_kept t (line_past t h d) (before_by y.before) d.piece (next_of d) d.gap r.is_solid)
 
 -- ---- what begins such a line
 
@@ -77,33 +68,18 @@ all_ended s = record s { indent = 0; indents = []; tokens = s.tokens ++ ends_of 
 
 pub unrolled_outside : (s : Held) → in_flow s ≡ false → AreLevels s.indent s.indents → unroll_indent 0 s ≡ all_ended s
 unfolding unroll_indent
-unrolled_outside s e a = rw e (ap (λ (u : Levels). record s { indent = u.indent; indents = u.indents; tokens = u.tokens }) (all_levels s.position s.indent s.indents s.tokens a))
+unrolled_outside s e a = grind (arith, all_levels)
 
 -- ---- outside flow
 
 line_stands : (text : List ℕ) (t : ScannerState) (d : Read) (a : ArrivesBy text t [] (None ∷ []) []) → IsRead t d → t.held.flow ≡ [] → with_top None t.held.keys ≡ None ∷ [] → Onward text t.rest (line_past t (begun_from (all_ended t.held)) d)
 line_stands text t d a r flow keys =
-    read_outside text t (line_past t (begun_from (all_ended t.held)) d) a d.piece (next_of d) d.gap d.tok (record { line = taken; blocks = [] }) x (ap (λ k. site_in false k t.held.position a.site) r.token.act)
-    (line_reads t d (begun_from (all_ended t.held)) _ r refl refl refl (r.token.awaits_outside x.blocks x.awaits (next_of d)) refl a.was_adjacent (refl, refl, refl)) (record { line_is = (inr refl, sym r.not_free, tt); no_key = refl; flow_is = flow; keys_are = keys }) (record {
-      is_piece = rw (r.token.shown x d.piece (next_of d)) (r.is_piece (seen (with_entries a.site a.line []) x a.separation) r.at_margin refl);
-      stands = rw (a.is_indented (some_rest t.rest d.piece (next_of d) r.cut r.is_solid), r.token.lines (least_for d.tok x) d.piece, r.precedes false x.blocks) refl;
-      after_is = ap (λ k. line_of_piece (is_in_column x.position.col x.blocks) x.position x.blocks k false a.line_here) r.token.act ∙ (grind arith);
-      begun = r.token.begun;
-      begins_none = ap begins_key r.token.act;
-      tokens_are = tokens;
-    })
+    read_outside text t (line_past t (begun_from (all_ended t.held)) d) a d.piece (next_of d) d.gap d.tok (record { line = taken; blocks = [] }) x (ap (λ k. site_in false k t.held.position a.site) r.act)
+    (line_reads t d (begun_from (all_ended t.held)) _ r refl refl refl (r.awaits_outside x.blocks x.awaits (next_of d)) refl a.was_adjacent (refl, refl, refl)) (record { line_is = (inr refl, sym r.not_free, tt); no_key = refl; flow_is = flow; keys_are = keys })
+    (grind (arith, append_assoc, append-nil, r, r.is_piece (seen (with_entries a.site a.line []) x a.separation) r.at_margin refl, a.is_indented (some_rest t.rest d.piece (next_of d) r.cut r.is_solid), eqb-true, shorter, replicate-append-replicate))
   where
     x : Site
     x = site_in false gives_marker t.held.position a.site
-
-    bs : List ℕ
-    bs = a.site.blocks
-
-    own : Token
-    own = put t.held.position d.tok
-
-    tokens : (t.held.tokens ++ ends_of (length (columns t.held.indent t.held.indents)) t.held.position) ++ (own ∷ []) ≡ a.tokens ++ tokens_then a.site x d.piece d.tok (next_of d) a.line_here
-    tokens = grind (arith, bs, append_assoc, eqb-true, shorter, replicate-append-replicate, x, own, append-nil)
 
 -- ---- in flow
 
@@ -111,21 +87,9 @@ line_goes : (text : List ℕ) (t : ScannerState) (d : Read) (f : FlowLevel) (fs 
     Onward text t.rest (line_past t (begun_from t.held) d)
 line_goes text t d f fs k ks e es a r flow keys =
     goes_inside text t (line_past t (begun_from t.held) d) f f fs k ks e (record { kind = e.kind; pair = e.pair; had = settled }) es a d.piece (next_of d) d.tok d.gap
-    (line_reads t d (begun_from t.held) _ r refl refl a.blocks_are (r.token.awaits_inside a.site.blocks a.site.awaits (next_of d) ∙ a.awaits_is) a.are_levels a.was_adjacent (refl, refl, refl)) (record {
-      flow_is = flow;
-      keys_are = keys;
-      entry_is = record { kind_is = a.are_entries.0.kind_is; pair_is = a.are_entries.0.pair_is; key_is = tt };
-      has_had = (inr refl, sym r.not_renewed);
-      in_line = r.in_line;
-      begun = r.token.begun;
-      is_piece = rw (r.token.shown x d.piece (next_of d)) (r.is_piece (seen (with_entries a.site a.line (e ∷ es)) x a.separation) r.at_margin refl);
-      stands = rw (a.is_indented (some_rest t.rest d.piece (next_of d) r.cut r.is_solid), r.token.act, r.token.lines (least_for d.tok x) d.piece, r.precedes true x.blocks) refl;
-      entry_past = λ xs. ap (λ y. entries_past x.position (is_renewed a.site.before a.separation) y [] false e xs) r.token.act ∙
-          (grind arith);
-      colons = λ n p ws last. (rw (r.token.act, r.token.begun) refl);
-      tokens_are = let pair : Position = pair_position (position_after x.position d.piece (next_of d)) (next_of d) in ap (λ ts. ts ++ ((put t.held.position d.tok) ∷ [])) (tokens_before text t f fs k ks e es a) ∙
-          (ap (λ b. a.tokens ++ (b ++ ((put t.held.position d.tok) ∷ []))) (sym (ap (λ y. begun_inside (takes_pair e.kind e.pair) e.pair x.position pair pair y false e.had) r.token.act)) ∙ ap (λ p. a.tokens ++ (begun_inside (takes_pair e.kind e.pair) e.pair x.position pair pair (act_of d.tok) false e.had ++ (put p d.tok ∷ []))) (sym (r.token.shown x d.piece (next_of d))));
-    })
+    (line_reads t d (begun_from t.held) _ r refl refl a.blocks_are (r.awaits_inside a.site.blocks a.site.awaits (next_of d) ∙ a.awaits_is) a.are_levels a.was_adjacent (refl, refl, refl))
+    (let piece = r.is_piece (seen (with_entries a.site a.line (e ∷ es)) x a.separation) r.at_margin refl in
+    let indented = a.is_indented (some_rest t.rest d.piece (next_of d) r.cut r.is_solid) in grind (arith, append-nil, r, tokens_before, piece, indented))
   where
     x : Site
     x = site_in true gives_marker t.held.position a.site
@@ -157,12 +121,6 @@ begins text t some a =
 
 -- ---- `---`
 
-start_token : IsDocumentToken Tok.document_start
-start_token = record { act = refl; begun = refl; shown = λ s p n. refl; lines = λ c p. refl; awaits_inside = λ bs b n. refl; awaits_outside = λ bs b n. and_false b; before = refl }
-
-abbrev pub start_read : (more : List ℕ) → Position → Read
-start_read more p = record { tok = Tok.document_start; piece = 45 ∷ 45 ∷ 45 ∷ []; gap = []; rest = more; end = past (past (past p)); leading = false }
-
 -- `---`
 pub document_start_keeps : (text more : List ℕ) (t : ScannerState) → Arrives text t → t.rest ≡ 45 ∷ 45 ∷ 45 ∷ more → is_at_gap more ≡ true → t.held.position.col ≡ 0 → Holds (Onward text t.rest) (fetch_document_marker Tok.document_start t)
 unfolding fetch_document_marker is_break
@@ -170,19 +128,10 @@ document_start_keeps text more t a e gap col =
     let b : Begins text t = begins text t (ap is_empty e) a in
     exactly _ (held_exactly t (line_begun t.held b.held b.rolled)) (λ optional. went
     (subst (λ r. Onward text t.rest (on_held (push t.held.position Tok.document_start) (skip_indicator (skip_indicator (skip_indicator (record { rest = r; held = begun_from b.held })))))) (sym e)
-    (b.stands (start_read more b.held.position) (assumption (start_token, e, gap, col, ap (λ q. past (past (past q))) b.same_position ∙ three_past t.held.position 45 more refl)) optional)))
+    (b.stands (record { tok = Tok.document_start; piece = 45 ∷ 45 ∷ 45 ∷ []; gap = []; rest = more; end = past (past (past b.held.position)); leading = false })
+    (grind (arith, and_false, e, gap, col, ap (λ q. past (past (past q))) b.same_position ∙ three_past t.held.position 45 more refl)) optional)))
 
 -- ---- `...`
-
-end_token : IsDocumentToken Tok.document_end
-end_token = record { act = refl; begun = refl; shown = λ s p n. refl; lines = λ c p. refl; awaits_inside = λ bs b n. refl; awaits_outside = λ bs b n. and_false b; before = refl }
-
-abbrev pub end_read : (more : List ℕ) → Position → Read
-end_read more p = record { tok = Tok.document_end; piece = 46 ∷ 46 ∷ 46 ∷ []; gap = blanks_and_comment more; rest = past_blanks_and_comment more; end = past_line_rest (past (past (past p))) more; leading = false }
-
-pub end_is_read : (t : ScannerState) (more : List ℕ) (p : Position) → p ≡ t.held.position → t.rest ≡ 46 ∷ 46 ∷ 46 ∷ more → is_at_gap more ≡ true → t.held.position.col ≡ 0 → line_is_done (blanks_and_comment more ++ past_blanks_and_comment more) ≡ true → IsRead t (end_read more p)
-unfolding is_break
-end_is_read t more p same e a col done = grind (arith, line_rest_in_line, three_past, same_in_line, none_indents, end_token, line_rest_cut, line_rest_fills)
 
 -- the state after the marker
 abbrev pub marked : ScannerState → Held → (rest : List ℕ) → ScannerState
@@ -190,13 +139,14 @@ marked t h r = on_held (push t.held.position Tok.document_end) (skip_indicator (
 
 -- `...`, after which the line holds no more
 pub document_end_keeps : (text more : List ℕ) (t : ScannerState) → Arrives text t → t.rest ≡ 46 ∷ 46 ∷ 46 ∷ more → is_at_gap more ≡ true → t.held.position.col ≡ 0 → Holds (Onward text t.rest) (fetch_document_end t)
-unfolding fetch_document_end fetch_document_marker check_document_end
+unfolding fetch_document_end fetch_document_marker check_document_end is_break
 document_end_keeps text more t a e gap col =
     let b : Begins text t = begins text t (ap is_empty e) a in
     let clean : has_no_nul more ≡ true = no_nul_after (46 ∷ 46 ∷ 46 ∷ []) more (subst (λ l. has_no_nul l ≡ true) e a.is_clean) in
     exactly {x = marked t b.held (46 ∷ 46 ∷ 46 ∷ more)} _ (exactly _ (held_exactly t (line_begun t.held b.held b.rolled)) (λ optional. went (ap (marked t b.held) e, optional))) (λ optional.
     exactly _ (rest_skipped _) (λ hash. either (is_breakz (peek (past_blanks_and_comment more))) (λ ends. went
-    (b.stands (end_read more b.held.position) (end_is_read t more b.held.position b.same_position e gap col (grind (arith, blanks_and_comment, is_done, line_rest_fills, same_has_break, line_rest_in_line, at_end_of, no_nul_after, line_rest_cut, begins_with, eqb-true))) optional)) (λ no. refused)))
+    (b.stands (record { tok = Tok.document_end; piece = 46 ∷ 46 ∷ 46 ∷ []; gap = blanks_and_comment more; rest = past_blanks_and_comment more; end = past_line_rest (past (past (past b.held.position))) more; leading = false })
+    (grind (arith, b.same_position, blanks_and_comment, is_done, same_has_break, at_end_of, no_nul_after, begins_with, eqb-true, line_rest_in_line, three_past, same_in_line, and_false, line_rest_cut, line_rest_fills)) optional)) (λ no. refused)))
 
 -- ---- directives
 

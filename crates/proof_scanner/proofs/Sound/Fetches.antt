@@ -1,5 +1,5 @@
 -- Each fetch what holds between two fetches, or ends the stream with a row of the text, if the function of each token it.
-use Rattle.proof_scanner.proofs.Common.{Arrives, Fares, FetchKeeps, Holds, IsAtEnd, IsPositionIn, IsRead, List, ScannerState, Stands, [], ap, before_by, before_past, chained, either, false, fetch, fetch_content, fetch_here, fetch_next, first_position, has_no_nul, held_of, inl, inr, is_adjacent, is_empty, next_line, peek, position_after, refused, stale, sym, true, try_held, weakened, ℕ, ◌==◌, ◌>>=◌, ◌∙◌, ◌≡◌, ◌⊎◌, append-nil, length, ◌≤◌, tried, over, arith, goes}
+use Rattle.proof_scanner.proofs.Common.{Arrives, FetchKeeps, Holds, IsAtEnd, IsPositionIn, IsRead, List, ScannerState, Stands, [], ap, before_by, before_past, chained, either, false, fetch, fetch_content, fetch_here, fetch_next, first_position, has_no_nul, held_of, inl, inr, is_adjacent, is_empty, next_line, peek, position_after, refused, stale, sym, true, try_held, weakened, ℕ, ◌==◌, ◌>>=◌, ◌∙◌, ◌≡◌, ◌⊎◌, append-nil, length, ◌≤◌, tried, over, arith, goes}
 use Rattle.model_scanner.specs.State.{after}
 use Rattle.proof_scanner.proofs.Sound.Steps.{Onward, content_holds, goes_on_here, keys_only, no_end, stale_stands, stream_ended, token_holds, whole_text}
 use Rattle.proof_scanner.proofs.Sound.CutsSoFar.{arrives_cut, cut_position}
@@ -44,8 +44,7 @@ here_kept text nul t a =
 -- This stays so after stale keys are dropped.
 stale_kept : (text before rest : List ℕ) (t : ScannerState) → length rest ≤ length before → Fetched text rest t → Holds (Fetched text before) (try_held stale t)
 stale_kept text before rest t m (inl s) = tried t (stale t.held) (stale_stands text t s.stands) (λ h d. inl (record { stands = d.stands; less = omega (arith, s.less, m) }))
-stale_kept text before rest t m (inr e) = tried t (stale t.held) (keys_only t.held) (λ h d.
-    inr (ap (λ y. y.ended) d ∙ e.0, rw d e.1, record { began = ap (λ y. y.started) d ∙ e.2.began; position = ap (λ y. y.position) d ∙ e.2.position }))
+stale_kept text before rest t m (inr e) = tried t (stale t.held) (keys_only t.held) (λ h d. inr (grind (arith, d, e)))
 
 pub fetched : (text : List ℕ) → has_no_nul text ≡ true → (t : ScannerState) → Stands text t → Holds (Fetched text t.rest) (fetch t)
 unfolding fetch fetch_next
@@ -55,8 +54,4 @@ fetched text nul t s =
 
 -- Each fetch what holds, if the function of each token it.
 pub fetch_keeps : FetchKeeps
-fetch_keeps text t u nul s e = by (held_of u (fetched text nul t s) e)
-  where
-    by : Fetched text t.rest u → Fares text u
-    by (inl n) = goes n.stands
-    by (inr n) = over n.0 n.1 n.2
+fetch_keeps text t u nul s e = grind (arith, goes, over, held_of u (fetched text nul t s) e)

@@ -1,92 +1,70 @@
 -- The first of a text's tokens are a cut of a beginning of it.
-use Rattle.proof_scanner.proofs.Common.{[], ap, arith, begins, end_token, Fares, first_position, has_no_nul, inl, inr, is_empty, IsCut, IsCutOfBeginning, IsCutUpTo, IsRow, IsWhere, List, None, Option, over, Position, Reaches, refl, rows_are_cuts, ScannerState, Some, spelled_append, start, start_token, stream_end, sym, Tok, Token, tokens_of, true, up_to_nul, Written, ℕ, ◌++◌, ◌∙◌, ◌∷◌, ◌≡◌, ◌⊎◌, goes}
+use Rattle.proof_scanner.proofs.Common.{zero, IsPiece, [], ap, arith, begins, end_token, Fares, first_position, has_no_nul, inl, inr, is_empty, IsCut, IsCutOfBeginning, IsCutUpTo, IsRow, IsWhere, List, None, Option, over, Position, Reaches, refl, rows_are_cuts, ScannerState, Some, start, start_token, stream_end, sym, Tok, Token, tokens_of, true, up_to_nul, Written, ℕ, ◌++◌, ◌∙◌, ◌∷◌, ◌≡◌, ◌⊎◌, goes, append-nil, drop, first_token, length, length-append, subst, suc, take, take-append-le, ◌≤◌}
 use Rattle.defs_token.specs.Account.{Account, first_account}
-use Rattle.defs_token.specs.Cut.{account_past, spelled}
+use Rattle.defs_token.specs.Cut.{account_at, account_past, spelled}
 use Rattle.proof_scanner.specs.Laws.{TokensAreACut}
 use Rattle.proof_scanner.proofs.Refusals.Common.{cut_position, fetch_keeps, reached, stands_cut, tokens_are_of_a_row, whole_text}
+use Rattle.std.proofs.Math.Seq.{take-append_seam, take-nil}
 
--- the first of a list, or else another
-abbrev first_or : Token → List Token → Token
-first_or t [] = t
-first_or t (x ∷ xs) = x
+-- the first of a row spell the text before that of the others
+spelled_first : (n : ℕ) (ws : List Written) (f : List ℕ) → spelled (take n ws) (spelled (drop n ws) f) ≡ spelled ws f
+spelled_first (suc n) (w ∷ ws) f = ap (λ l. w.separation ++ (w.piece ++ l)) (spelled_first n ws f)
+spelled_first n ws f = grind arith
 
-abbrev rest_of : List Token → List Token
-rest_of [] = []
-rest_of (x ∷ xs) = xs
+tokens_first : (n : ℕ) (ws : List Written) → take n (tokens_of ws) ≡ tokens_of (take n ws)
+tokens_first (suc n) (w ∷ ws) = ap (λ ts. w.token ∷ ts) (tokens_first n ws)
+tokens_first n ws = grind arith
 
 -- a row up to one of its tokens
-row_first : (a : Account) (ws vs : List Written) (f : List ℕ) (last : Option Tok) → IsRow a (ws ++ vs) f last → IsRow a ws (spelled vs f) None
-row_first a [] vs f last r = tt
-row_first a (w ∷ []) vs f last r = ((r.0.0, grind arith), tt)
-row_first a (w ∷ v ∷ ws) vs f last r =
-    let same : spelled ((v ∷ ws) ++ vs) f ≡ spelled (v ∷ ws) (spelled vs f) = spelled_append (v ∷ ws) vs f in
-    rw (sym same) (r.0, row_first (account_past a w (spelled ((v ∷ ws) ++ vs) f)) (v ∷ ws) vs f last r.1)
-
--- a row whose tokens are two lists one after the other
-record Parted (ws : List Written) (given more : List Token) : Type 0 where
-  pub first : List Written
-  pub second : List Written
-  pub are_both : ws ≡ first ++ second
-  pub are_given : tokens_of first ≡ given
-  pub are_more : tokens_of second ≡ more
-
-parted : (ws : List Written) (given more : List Token) → tokens_of ws ≡ given ++ more → Parted ws given more
-parted ws [] more e = record { first = []; second = ws; are_both = refl; are_given = refl; are_more = e }
-parted [] (t ∷ given) more e = absurd (cc e)
-parted (w ∷ ws) (t ∷ given) more e =
-    let i : (w.token ≡ t) × (tokens_of ws ≡ given ++ more) = (ap (first_or t) e, ap rest_of e) in
-    let p : Parted ws given more = parted ws given more i.1 in
-    record { first = w ∷ p.first; second = p.second; are_both = ap (λ vs. w ∷ vs) p.are_both; are_given = ap (λ x. x ∷ tokens_of p.first) i.0 ∙ ap (λ ts. t ∷ ts) p.are_given; are_more = p.are_more }
-
--- the tokens of a row's beginning after the stream's start
-begun_by : (text : List ℕ) (begin : Position) (ws : List Written) (after : List ℕ) (last : Option Tok) (given more : List Token) → spelled ws after ≡ up_to_nul text → IsRow first_account ws after last → start_token begin ∷ tokens_of ws ≡ given ++ more → IsCutOfBeginning given text
-begun_by text begin ws after last [] more is_text row e = inl refl
-begun_by text begin ws after last (t ∷ given) more is_text row e =
-    let p : Parted ws given more = parted ws given more (ap rest_of e) in
-    let same : spelled ws after ≡ spelled p.first (spelled p.second after) = ap (λ vs. spelled vs after) p.are_both ∙ spelled_append p.first p.second after in
-    inr (record {
-      begin = begin;
-      row = p.first;
-      after = spelled p.second after;
-      are_tokens = ap (λ x. x ∷ given) (sym (ap (first_or t) e)) ∙ ap (λ ts. start_token begin ∷ ts) (sym p.are_given);
-      is_text = sym same ∙ is_text;
-      is_row = row_first first_account p.first p.second after last (rw (sym p.are_both) row);
-    })
-
--- what comes before the last of a list, or all of it
-data Before (x : Token) (xs given more : List Token) : Type 0 where
-  all : given ≡ xs ++ (x ∷ []) → Before x xs given more
-  some : (others : List Token) → xs ≡ given ++ others → Before x xs given more
-
-before_last : (x : Token) (xs given more : List Token) → xs ++ (x ∷ []) ≡ given ++ more → Before x xs given more
-before_last x xs [] more e = some xs refl
-before_last x [] (t ∷ []) more e = all (ap (λ y. y ∷ []) (sym (ap (first_or t) e)))
-before_last x [] (t ∷ u ∷ given) more e = absurd (cc e)
-before_last x (y ∷ xs) (t ∷ given) more e = by (before_last x xs given more (ap rest_of e))
+row_first : (n : ℕ) (a : Account) (ws : List Written) (f : List ℕ) (last : Option Tok) → IsRow a ws f last →
+    IsRow a (take n ws) (spelled (drop n ws) f) None
+row_first zero a ws f last r = tt
+row_first (suc n) a [] f last r = tt
+row_first (suc n) a (w ∷ ws) f last r =
+    rw (spelled_first n ws f) ((r.0.0, followed n ws r.0.1), row_first n (account_past a w (spelled ws f)) ws f last r.1)
   where
-    by : Before x xs given more → Before x (y ∷ xs) (t ∷ given) more
-    by (all f) = all (ap (λ z. z ∷ given) (sym (ap (first_or t) e)) ∙ ap (λ ts. y ∷ ts) f)
-    by (some others f) = some others (ap (λ z. z ∷ xs) (ap (first_or t) e) ∙ ap (λ ts. t ∷ ts) f)
+    next : List ℕ
+    next = spelled ws f
+
+    followed : (n : ℕ) (vs : List Written) → IsPiece (account_at a w next) w.piece next (first_token vs last) w.token.position w.token.tok →
+        IsPiece (account_at a w next) w.piece next (first_token (take n vs) None) w.token.position w.token.tok
+    followed (suc n) (v ∷ vs) h = h
+    followed n vs h = grind (arith)
+
+-- so many tokens of the stream's start and a row
+begun_by : (text : List ℕ) (begin : Position) (ws : List Written) (after : List ℕ) (last : Option Tok) (n : ℕ) → spelled ws after ≡ up_to_nul text →
+    IsRow first_account ws after last → IsCutOfBeginning (take n (start_token begin ∷ tokens_of ws)) text
+begun_by text begin ws after last zero is_text row = inl refl
+begun_by text begin ws after last (suc n) is_text row = inr (record {
+  begin = begin;
+  row = take n ws;
+  after = spelled (drop n ws) after;
+  are_tokens = ap (λ ts. start_token begin ∷ ts) (tokens_first n ws);
+  is_text = spelled_first n ws after ∙ is_text;
+  is_row = row_first n first_account ws after last row;
+})
 
 -- Of a run, the first tokens are a cut of the whole text, up to the stream's end, or of a beginning of it.
 pub first_tokens_are_cut : (text : List ℕ) (given more : List Token) (t : ScannerState) → has_no_nul text ≡ true → Reaches (start text) t → t.held.tokens ≡ given ++ more → IsCut given text ⊎ IsCutOfBeginning given text
 first_tokens_are_cut text given more t nul run e = by (reached fetch_keeps text nul (start text) t run (begins refl))
   where
-    nothing : (given : List Token) → [] ≡ given ++ more → IsCutOfBeginning given text
-    nothing [] f = inl refl
-    nothing (x ∷ given) f = absurd (cc f)
+    so_many : (ts : List Token) → take (length given) ts ≡ take (length given) t.held.tokens → IsCutOfBeginning (take (length given) ts) text → IsCutOfBeginning given text
+    so_many ts f h = subst (λ us. IsCutOfBeginning us text) (f ∙ ap (take (length given)) e ∙ take-append_seam given more) h
+
+    ended : (rest : List Token) → t.held.tokens ≡ given ++ rest → IsCut t.held.tokens text → IsCut given text ⊎ IsCutOfBeginning given text
+    ended [] f c = inl (rw (sym (f ∙ append-nil given)) c)
+    ended (x ∷ rest) f c =
+        let xs : List Token = start_token c.begin ∷ tokens_of c.row in
+        let few : length given ≤ length xs = omega (arith, ap length f, ap length c.are_tokens, length-append given (x ∷ rest), length-append xs (end_token c.end ∷ [])) in
+        inr (so_many xs (sym (ap (take (length given)) c.are_tokens ∙ take-append-le (length given) xs (end_token c.end ∷ []) few))
+        (begun_by text c.begin c.row c.separation (Some stream_end) (length given) c.is_text c.is_row))
 
     by : Fares text t → IsCut given text ⊎ IsCutOfBeginning given text
-    by (begins f) = inr (nothing given (sym (ap (λ y. y.held.tokens) f) ∙ e))
+    by (begins f) = inr (so_many [] (ap (λ y. take (length given) y.held.tokens) (sym f)) (inl (take-nil (length given))))
     by (goes s) =
         let c : IsCutUpTo text (s.separation ++ t.rest) s.base t.held.tokens = stands_cut text t s in
-        inr (begun_by text first_position c.row (s.separation ++ t.rest) None given more c.is_text (c.is_row.is_row None) (sym c.are_tokens ∙ e))
-    by (over f r n) = elim (before_last (end_token (rows_are_cuts text t.held.tokens r).end) (start_token (rows_are_cuts text t.held.tokens r).begin ∷ tokens_of (rows_are_cuts text t.held.tokens r).row) given more (sym (rows_are_cuts text t.held.tokens r).are_tokens ∙ e)) [
-      | all k ↦ inl
-          (rw (sym ((rows_are_cuts text t.held.tokens r).are_tokens ∙ sym k)) (rows_are_cuts text t.held.tokens r))
-      | some others k ↦ inr
-          (begun_by text (rows_are_cuts text t.held.tokens r).begin (rows_are_cuts text t.held.tokens r).row (rows_are_cuts text t.held.tokens r).separation (Some stream_end) given others (rows_are_cuts text t.held.tokens r).is_text (rows_are_cuts text t.held.tokens r).is_row k)
-    ]
+        inr (so_many _ (ap (take (length given)) (sym c.are_tokens)) (begun_by text first_position c.row (s.separation ++ t.rest) None (length given) c.is_text (c.is_row.is_row None)))
+    by (over f r n) = ended more e (rows_are_cuts text t.held.tokens r)
 
 -- The tokens that the model gives a text are a cut of it.
 pub tokens_are_cut : TokensAreACut
@@ -101,10 +79,5 @@ run_is_where text t nul run = by (reached fetch_keeps text nul (start text) t ru
     by (begins e) = grind (arith, over)
     by (goes s) =
         let c : IsCutUpTo text (s.separation ++ t.rest) s.base t.held.tokens = stands_cut text t s in
-        record {
-          going = λ _. cut_position text s.separation t.rest s.base t.held.tokens t.held.position (whole_text text nul) s.position_is c;
-          over = λ f. absurd (cc (f, s.going));
-          none = λ f. absurd (cc (f, s.started));
-          some = λ _. (ap is_empty c.are_tokens);
-        }
+        grind (arith, s, c, cut_position text s.separation t.rest s.base t.held.tokens t.held.position (whole_text text nul) s.position_is c)
     by (over f r n) = grind (arith, rows_are_cuts)

@@ -1,14 +1,10 @@
 -- Commas and closing brackets: what holds where they begin holds between two fetches after them. Outside flow they close nothing.
-use Rattle.proof_scanner.proofs.Common.{[], Act, act_of, adjacent_in_flow, another, ap, append_assoc, AreAround, AreEntries, AreLevels, AreNumbered, arith, Arrives, before_by, before_past, begin_flow, begins_free_line, begins_with, begun_by, begun_outside, blanks_and_comment, Bool, Collection, columns, end_entry, end_flow, ends_at, ends_spaces, entries_by, Entry, eqb-true, false, fetch_flow_collection_end, fetch_flow_collection_start, fetch_flow_entry, first_entry, flow_collection, flow_end, flow_level, flow_start, FlowLevel, free, gives_closing, gives_comma, gives_node, has_no_break, has_no_nul, has_open_level, Held, Holds, if◌then◌else◌, in_block, in_flow, increase_flow_level, Indent, is_blank, is_deeper, is_empty, is_in_column, is_renewed, is_required, is_separation, IsAdjacent, IsEntryOf, IsLine, IsPairOf, Key, least_for, length, level_of, Line, line_past, List, map, Mapping, nat_le, nat_lt, no_nul_after, no_pair, None, not, on_held, Option, other, outside_key, pair_end, past, past_blanks_and_comment, past_line_rest, pop, Position, position_after, position_in_line, Previous, previous_by, push, put, refl, refused, remove_implicit_key, roll_one_col_indent, ScannerState, seen, Site, site_here, site_in, Some, Step, subst, suc, sym, taken, Tok, Token, top_key, true, went, with_keys, with_top, Yes, ℕ, ◌&&◌, ◌++◌, ◌∙◌, ◌∷◌, ◌≡◌, ◌⊎◌, kind_of, length-map}
-use Rattle.proof_scanner.proofs.Cut.FlowEnds.{adjacent_collection, closed_tokens, ended_is, ended_now, ends_by_comma, ends_mapping, ends_sequence, entered, entry_is, entry_now, IsEndOf}
-use Rattle.proof_scanner.proofs.Sound.Steps.{exactly, held_exactly, Onward, adjacent_kept, ArrivesBy, begins_key, by_sides, deep_for, had_as_it_was, indicator_end, indicator_passed, is_clear, IsDeep, IsRead, IsToken, key_gone, keyless, keyless_tokens, keys_along, line_rest_cut, line_rest_fills, line_rest_in_line, line_taken, low_enough, many_around, next_of, node_read, numbered_then, past_it, past_rest_is_clear, past_step, quiet_before, Read, read_outside, reads_before_none, reads_in_line, same_has_break, saved_is, saved_keys, site_of, site_then, started_tokens, state_after, steps_in_flow, tokens_before, with_entries}
+use Rattle.proof_scanner.proofs.Common.{[], adjacent_in_flow, another, ap, append_assoc, AreLevels, arith, Arrives, before_by, before_past, begin_flow, begins_with, blanks_and_comment, Bool, Collection, columns, end_entry, end_flow, ends_spaces, entries_by, Entry, eqb-true, false, fetch_flow_collection_end, fetch_flow_collection_start, fetch_flow_entry, first_entry, flow_collection, flow_end, flow_level, flow_start, FlowLevel, free, gives_closing, gives_comma, gives_node, has_no_nul, has_open_level, Held, Holds, if◌then◌else◌, in_block, in_flow, increase_flow_level, Indent, is_blank, is_empty, is_required, IsAdjacent, IsPairOf, Key, least_for, length, level_of, Line, List, map, Mapping, nat_le, nat_lt, no_nul_after, no_pair, None, not, on_held, Option, other, pair_end, past, past_blanks_and_comment, past_line_rest, Position, position_after, position_in_line, Previous, previous_by, push, put, refl, refused, remove_implicit_key, roll_one_col_indent, ScannerState, seen, Site, site_here, site_in, Some, subst, suc, sym, taken, Tok, Token, top_key, true, went, with_top, Yes, ℕ, ◌++◌, ◌∙◌, ◌∷◌, ◌≡◌, ◌⊎◌, kind_of, length-map, inr, is_break, append-nil}
+use Rattle.proof_scanner.proofs.Cut.FlowEnds.{adjacent_collection, closed_tokens, ended_is, ended_now, ends_by_comma, ends_mapping, ends_sequence, entry_is, entry_now, IsEndOf}
+use Rattle.proof_scanner.proofs.Sound.Steps.{exactly, held_exactly, Onward, adjacent_kept, ArrivesBy, by_sides, deep_for, indicator_end, indicator_passed, is_clear, IsDeep, IsRead, IsToken, key_gone, keyless, keyless_tokens, keys_along, line_rest_cut, line_rest_fills, line_rest_in_line, low_enough, many_around, node_read, numbered_then, past_it, past_rest_is_clear, past_step, quiet_before, read_outside, reads_before_none, reads_in_line, same_has_break, saved_is, saved_keys, site_of, site_then, steps_in_flow, tokens_before, with_entries, goes_inside, line_taken, Reads}
 use Rattle.model_scanner.specs.State.{after}
 use Rattle.model_scanner.specs.declared.level.FlowLevel.TheVariants.{Entry as InEntry}
 use Rattle.proof_scanner.proofs.Cut.Flows.{IsOpeningOf, opening_mapping, opening_sequence}
-
--- whether the innermost collection ends
-abbrev pub act_by : (closes : Bool) → Act
-act_by closes = (if closes then gives_closing else gives_comma)
 
 -- what the last piece was, after one
 abbrev pub previous_of : (closes : Bool) → Previous
@@ -17,7 +13,7 @@ previous_of closes = (if closes then flow_collection else another)
 -- What is said of a closing bracket or a comma.
 pub record IsCloser (closes : Bool) (tok : Tok) (c : ℕ) : Type 0 where
   pub is_end : IsEndOf tok c
-  pub token : IsToken tok (act_by closes) [] (previous_of closes) (λ _ _. true) (λ _ piece next. not (begins_with 35 next)) (λ _ _ b. b)
+  pub token : IsToken tok (if closes then gives_closing else gives_comma) [] (previous_of closes) (λ _ _. true) (λ _ piece next. not (begins_with 35 next)) (λ _ _ b. b)
   pub open token use *
 
 pub comma : IsCloser false Tok.flow_entry 44
@@ -51,96 +47,37 @@ stray_at text more closes tok c k t a keys e hash =
     read_outside text t (stray_past closes t tok more) a (c ∷ []) more (blanks_and_comment more) tok (record { line = line_then closes; blocks = at.blocks }) at (ap (λ x. site_in false x t.held.position a.site) k.act ∙ (grind arith))
     (reads_in_line t (stray_past closes t tok more) _ (c ∷ []) more (blanks_and_comment more) refl e (line_rest_cut more) (line_rest_fills more) (line_rest_in_line more) (indicator_end t.held.position c more k.is_end.in_line) refl (is_previous closes k.previous)
     a.blocks_are (k.awaits false at.blocks at.awaits more ∙ a.awaits_is) a.are_levels (λ some. absurd (cc some)) (adjacent_kept t (stray_past closes t tok more) other (c ∷ []) more (blanks_and_comment more) refl (indicator_end t.held.position c more k.is_end.in_line) a.was_adjacent refl refl).1 (refl, refl))
-    (record { line_is = allowed_by closes (begins_free_line (previous_by tok) (blanks_and_comment more)) (quiet_before (previous_by tok) t.held.position (blanks_and_comment more) [] (is_previous closes k.previous) (line_rest_in_line more)).1; no_key = grind arith; flow_is = refl; keys_are = keys }) (record {
-      is_piece = rw (k.shown at (c ∷ []) more) (k.is_end.piece (seen (with_entries a.site a.line []) at a.separation) more None refl);
-      stands = rw (a.is_indented (ap is_empty e), k.lines (least_for tok at) (c ∷ []), k.precedes false at.blocks (c ∷ []) more, hash) refl;
-      after_is = ap (λ x. line_past (is_in_column at.position.col at.blocks) at.position at.blocks x false a.line_here) k.act ∙ (grind arith);
-      begun = k.begun;
-      begins_none = ap begins_key k.act ∙ (grind arith);
-      tokens_are = started_tokens false t.held.tokens a.tokens (ends_at t.held.position a.site.blocks at.blocks) t.held.position tok (put t.held.position tok) a.tokens_are ∙
-          (ap (λ x. a.tokens ++ ((ends_at t.held.position a.site.blocks at.blocks ++ x) ++ ((put t.held.position tok) ∷ []))) (sym (ap (λ x. begun_outside (is_deeper at.position.col at.blocks) at.position at.position x false (Some a.line_here)) k.act ∙ (grind arith))) ∙ ap
-          (λ p. a.tokens ++ ((ends_at t.held.position a.site.blocks at.blocks ++ begun_outside (is_deeper at.position.col at.blocks) at.position at.position (act_of tok) false (Some a.line_here)) ++ (put p tok ∷ []))) (sym (k.shown at (c ∷ []) more)));
-    })
+    (record { line_is = grind (arith, quiet_before (previous_by tok) t.held.position (blanks_and_comment more) [] (is_previous closes k.previous) (line_rest_in_line more)); no_key = grind arith; flow_is = refl; keys_are = keys })
+    (grind (arith, append_assoc, append-nil, k, a.is_indented (ap is_empty e), k.is_end.piece (seen (with_entries a.site a.line []) at a.separation) more None refl))
   where
     at : Site
     at = site_here false t.held.position a.site
 
-    allowed_by : (b broken : Bool) → broken ≡ false → IsLine false (not b) broken (past_line_rest (past t.held.position) more) (past_blanks_and_comment more) None (line_then b)
-    allowed_by b broken h = grind arith
+-- ---- a comma in flow: the entry ends, and with it a single pair
 
--- ---- commas and closing brackets in flow: the entry ends, and with it a single pair
+-- the flow level of the next entry
+abbrev next_level : FlowLevel → FlowLevel
+next_level Mapping = Mapping
+next_level f = InEntry
 
--- where a colon may stand next
-abbrev pub adjacent_then : (closes : Bool) → List FlowLevel → (old new : ℕ) → ℕ
-adjacent_then closes fs old new = (if closes && not (is_empty fs) then new else old)
+comma_inside : (text more : List ℕ) (t : ScannerState) (f : FlowLevel) (fs : List FlowLevel) (k : Option Key) (ks : List (Option Key)) (e : Entry) (es : List Entry) (a : ArrivesBy text t (f ∷ fs) (k ∷ ks) (e ∷ es)) →
+    t.held.flow ≡ f ∷ fs → t.held.keys ≡ k ∷ ks → t.rest ≡ 44 ∷ more → IsDeep t.held → begins_with 35 more ≡ false →
+    Onward text t.rest (on_held (push t.held.position Tok.flow_entry) (past_it (record t { held = entry_now (f ∷ fs) t.held }) more))
+unfolding is_break
+comma_inside text more t f fs k ks e es a flow keys cut deep hash =
+    goes_inside text t _ f (next_level f) fs k ks e (first_entry e.kind) es a (44 ∷ []) more Tok.flow_entry (blanks_and_comment more)
+    (reads_before_none t _ _ (44 ∷ []) more (blanks_and_comment more) refl cut (line_rest_cut more) (line_rest_fills more) (line_rest_in_line more) refl
+    (indicator_end t.held.position 44 more refl) refl refl a.blocks_are a.awaits_is a.are_levels a.was_adjacent (refl, refl, refl))
+    (let piece = ends_by_comma.piece (seen (with_entries a.site a.line (e ∷ es)) (site_here true t.held.position a.site) a.separation) more None refl in
+    grind (arith, append_assoc, tokens_before, a.is_indented (ap is_empty cut), low_enough text t f fs (k ∷ ks) (e ∷ es) a deep, piece))
 
--- the flow levels after it
-abbrev pub levels_then : (closes : Bool) → FlowLevel → List FlowLevel → List FlowLevel
-levels_then closes f fs = (if closes then fs else entered (f ∷ fs))
-
--- the entries after it: those around, and after a comma the next one
-abbrev pub entries_after : (closes : Bool) → Entry → List Entry → List Entry
-entries_after closes e es = (if closes then es else first_entry e.kind ∷ es)
-
--- the open keys after it, from those around
-abbrev pub keys_by : (closes : Bool) → List (Option Key) → List (Option Key)
-keys_by closes ks = (if closes then ks else None ∷ ks)
-
--- the choices for the entries around, from those after it
-abbrev pub choices_by : (closes : Bool) → List Bool → List Bool
-choices_by closes cs = (if closes then cs else pop cs)
-
--- ---- the tokens of keys around it
-
-keys_around : (closes : Bool) (p : Position) (w : Step) (ws : List Step) (last : List ℕ) → act_of w.shown ≡ act_by closes → begun_by w.shown ≡ [] → (bs : List ℕ) (l : Line) (cs : List Bool) (e : Entry) (es : List Entry) (ks : List (Option Key)) (ts : List Token) →
-    with_keys 1 p (w ∷ ws) last bs l (entries_by (choices_by closes cs) ks es) ks ts ≡
-    with_keys 0 (past_step p w ws last) ws last bs l (entries_by cs (keys_by closes ks) (entries_after closes e es)) (keys_by closes ks) ts
-keys_around true p w ws last h f bs l cs e es ks ts =
-    keys_along (λ n. suc n) (λ n. n) (λ n. refl) (λ n. refl) 0 p (past_step p w ws last) w ws last (λ n. (rw h refl)) bs l (entries_by cs ks es) ks ts
-keys_around false p w ws last h f bs l cs e es ks ts =
-    keys_along (λ n. n) (λ n. n) (λ n. refl) (λ n. refl) 1 p (past_step p w ws last) w ws last (λ n. (rw (h, f) refl)) bs l (entries_by (pop cs) ks es) ks ts
-
--- the scanner after it
-abbrev pub closed_past : (closes : Bool) → ScannerState → Tok → (more : List ℕ) → FlowLevel → List FlowLevel → List (Option Key) → ScannerState
-closed_past closes t tok more f fs ks = record {
-  rest = past_blanks_and_comment more;
-  held = record t.held {
-    position = past_line_rest (past t.held.position) more;
-    leading = false;
-    tokens = closed_tokens (f ∷ fs) t.held.position t.held.tokens ++ (put t.held.position tok ∷ []);
-    keys = keys_by closes ks;
-    flow = levels_then closes f fs;
-    key_allowed = not closes;
-    adjacent_value_at = adjacent_then closes fs t.held.adjacent_value_at (past_line_rest (past t.held.position) more).index;
-  };
-}
+-- ---- a closing bracket in flow: the collection ends, with its last entry
 
 clear_ends : (a : List ℕ) → is_clear a ≡ true → ends_spaces Yes a ≡ true
 unfolding is_blank
 clear_ends b h = grind arith
 
-entries_then : (closes : Bool) (again : Bool) (f : FlowLevel) (fs : List FlowLevel) (k : Option Key) (ks : List (Option Key)) (e : Entry) (es : List Entry) → again ≡ false → IsEntryOf f k e → AreAround fs ks es →
-    AreEntries (not closes) again (levels_then closes f fs) (keys_by closes ks) (entries_after closes e es)
-entries_then a again f fs k ks e es i h b = grind arith
-
-many_then : (closes : Bool) (f : FlowLevel) (fs : List FlowLevel) (ks : List (Option Key)) → length ks ≡ suc (length fs) → length (keys_by closes ks) ≡ suc (length (levels_then closes f fs))
-many_then a f fs ks h = grind (arith)
-
-same_key : (closes : Bool) (e : Entry) (es : List Entry) (ks : List (Option Key)) → outside_key (entries_after closes e es) (keys_by closes ks) ≡ outside_key es ks
-same_key a e es ks = grind arith
-
--- what may begin outside flow after it
-line_after : (closes : Bool) (f : FlowLevel) (fs : List FlowLevel) (broken : Bool) (p : Position) (rest : List ℕ) (k : Option Key) (l : Line) → broken ≡ false → l ≡ taken → IsLine (not (is_empty (levels_then closes f fs))) (not closes) broken p rest k l
-line_after a f fs broken p rest k l b h = grind arith
-
--- where a colon may stand after it in flow
-adjacent_after : (closes : Bool) (f : FlowLevel) (fs : List FlowLevel) (old : ℕ) (p : Position) (gap rest : List ℕ) → IsAdjacent (before_past other gap) p old rest → is_separation false gap rest ≡ true → has_no_break gap ≡ true → ends_spaces Yes rest ≡ true → has_no_nul rest ≡ true →
-    is_empty (levels_then closes f fs) ≡ false → IsAdjacent (before_past (before_by (previous_of closes)) gap) p (adjacent_then closes fs old p.index) rest
-adjacent_after a f fs old p gap rest far fills b ends clean some = grind (arith, adjacent_collection, same_has_break)
-
--- ---- the step
-
-module _ (text more : List ℕ) (closes : Bool) (tok : Tok) (c : ℕ) (i : IsCloser closes tok c) (t : ScannerState) (f : FlowLevel) (fs : List FlowLevel) (k : Option Key) (ks : List (Option Key)) (e : Entry) (es : List Entry)
+module _ (text more : List ℕ) (tok : Tok) (c : ℕ) (i : IsCloser true tok c) (t : ScannerState) (f : FlowLevel) (fs : List FlowLevel) (k : Option Key) (ks : List (Option Key)) (e : Entry) (es : List Entry)
     (a : ArrivesBy text t (f ∷ fs) (k ∷ ks) (e ∷ es)) (deep : IsDeep t.held) (cut : t.rest ≡ c ∷ more) (hash : begins_with 35 more ≡ false) where
   abbrev gap : List ℕ
   gap = blanks_and_comment more
@@ -154,46 +91,53 @@ module _ (text more : List ℕ) (closes : Bool) (tok : Tok) (c : ℕ) (i : IsClo
   abbrev x : Site
   x = site_here true t.held.position a.site
 
-  abbrev past_closer : ScannerState
-  past_closer = closed_past closes t tok more f fs ks
+  -- the scanner after it
+  abbrev pub past_closer : ScannerState
+  past_closer = record {
+    rest = left;
+    held = record t.held {
+      position = end;
+      leading = false;
+      tokens = closed_tokens (f ∷ fs) t.held.position t.held.tokens ++ (put t.held.position tok ∷ []);
+      keys = ks;
+      flow = fs;
+      key_allowed = false;
+      adjacent_value_at = (if not (is_empty fs) then end.index else t.held.adjacent_value_at);
+    };
+  }
 
   abbrev own_tokens : List Token
   own_tokens = pair_end t.held.position e.pair ++ (put t.held.position tok ∷ [])
 
   tokens_are : a.tokens ++ own_tokens ≡ past_closer.held.tokens
-  tokens_are = ap (λ ts. ts ++ own_tokens) (sym (tokens_before text t f fs k ks e es a)) ∙ sym (grind (arith, append_assoc))
+  tokens_are = grind (arith, append_assoc, tokens_before)
 
-  numbered : (b : Bool) → AreNumbered (length past_closer.held.tokens) (keys_by b ks)
-  numbered b = grind (arith, numbered_then a.tokens past_closer.held.tokens k ks own_tokens (sym tokens_are) a.are_numbered)
+  clean : has_no_nul left ≡ true
+  clean = grind (arith, no_nul_after, line_rest_cut more, a.is_clean, cut)
+
+  -- where a colon may stand next
+  adjacent_after : is_empty fs ≡ false → IsAdjacent (before_past (before_by (previous_by tok)) gap) end past_closer.held.adjacent_value_at left
+  adjacent_after some = grind (arith, i, adjacent_collection end gap left (line_rest_fills more), same_has_break, line_rest_in_line, clear_ends left (past_rest_is_clear more), clean)
 
   -- What holds between two fetches holds after it.
   pub closer_stands : Onward text t.rest past_closer
   closer_stands =
-      let q = quiet_before (previous_by tok) end gap left (is_previous closes i.previous) (line_rest_in_line more) in
+      let q = quiet_before (previous_by tok) end gap left (inr i.previous) (line_rest_in_line more) in
       let far = adjacent_kept t (record past_closer { held = record past_closer.held { adjacent_value_at = t.held.adjacent_value_at } }) other (c ∷ []) more gap refl (indicator_end t.held.position c more i.is_end.in_line) a.was_adjacent refl refl in
-      steps_in_flow text t past_closer f fs k ks e es a (c ∷ []) more tok (keys_by closes ks) (entries_after closes e es) (levels_then closes f fs) gap
-      (reads_in_line t past_closer _ (c ∷ []) more gap refl cut (line_rest_cut more) (line_rest_fills more) (line_rest_in_line more) (indicator_end t.held.position c more i.is_end.in_line) refl (is_previous closes i.previous) a.blocks_are
-      (i.awaits true x.blocks x.awaits more ∙ a.awaits_is) a.are_levels (λ some. rw i.previous
-      (adjacent_after closes f fs t.held.adjacent_value_at end gap left far.0 (line_rest_fills more) (line_rest_in_line more) (clear_ends left (past_rest_is_clear more)) (no_nul_after gap left (subst (λ r. has_no_nul r ≡ true) (line_rest_cut more) (no_nul_after (c ∷ []) more (subst (λ r. has_no_nul r ≡ true) cut a.is_clean)))) some)) (grind arith) (refl, refl)) (
-      assumption (
-        many_then closes f fs ks (cc a.one_each),
-        same_key closes e es ks,
-        entries_then closes (is_renewed (previous_by tok) gap) f fs k ks e es q.2 a.are_entries.0 a.are_entries.2,
-        line_after closes f fs (begins_free_line (previous_by tok) gap) end left (outside_key (entries_after closes e es) (keys_by closes ks)) a.line q.1 (line_taken text t f fs k ks e es a),
-        numbered closes,
-        ap (λ b. not (not b && true)) i.is_end.in_line,
-      )) (record {
+      steps_in_flow text t past_closer f fs k ks e es a (c ∷ []) more tok ks es fs gap
+      (reads_in_line t past_closer _ (c ∷ []) more gap refl cut (line_rest_cut more) (line_rest_fills more) (line_rest_in_line more) (indicator_end t.held.position c more i.is_end.in_line) refl (inr i.previous) a.blocks_are
+      (i.awaits true x.blocks x.awaits more ∙ a.awaits_is) a.are_levels adjacent_after (grind arith) (refl, refl))
+      (grind (arith, q, line_taken text t f fs k ks e es a, numbered_then a.tokens past_closer.held.tokens k ks own_tokens (sym tokens_are) a.are_numbered)) (record {
         is_piece = rw (i.shown x (c ∷ []) more) (i.is_end.piece (seen (with_entries a.site a.line (e ∷ es)) x a.separation) more None refl);
         stands = rw (a.is_indented (ap is_empty cut), deep_for true tok x (i.least x) (low_enough text t f fs (k ∷ ks) (e ∷ es) a deep), i.lines (least_for tok x) (c ∷ []), i.precedes true x.blocks (c ∷ []) more, hash) refl;
         choice = λ cs. false;
-        outer = choices_by closes;
+        outer = λ cs. cs;
         bit = λ cs. false;
-        entry_past = λ cs. rw (i.act, i.begun, had_as_it_was k e.had) (grind arith);
+        entry_past = λ cs. rw i.act (grind arith);
         tokens_are = λ cs l ws last h.
-            let w : Step = keyless a.separation (c ∷ []) tok in
-            keyless_tokens text t f fs k ks e es a (c ∷ []) more tok cut l (entries_by (choices_by closes cs) ks es) ws last h ∙
-            (ap (λ ts. with_keys 1 a.site.position (w ∷ ws) last a.site.blocks l (entries_by (choices_by closes cs) ks es) ks ts) (ap (λ ts. a.tokens ++ ts) (grind arith) ∙ tokens_are) ∙
-            keys_around closes a.site.position w ws last i.act i.begun a.site.blocks l cs e es ks past_closer.held.tokens);
+            let along = keys_along (λ n. suc n) (λ n. n) (λ n. refl) (λ n. refl) 0 a.site.position (past_step a.site.position (keyless a.separation (c ∷ []) tok) ws last)
+            (keyless a.separation (c ∷ []) tok) ws last (λ n. rw i.act refl) a.site.blocks l (entries_by cs ks es) ks in
+            grind (arith, keyless_tokens text t f fs k ks e es a (c ∷ []) more tok cut l (entries_by cs ks es) ws last h, tokens_are, i, along);
       })
 
 -- ---- the functions of the model that read commas and closing brackets keep what holds where they begin
@@ -216,7 +160,7 @@ comma_keeps text more t e deep a =
     exactly _ (held_exactly t (entry_over t.held)) (λ optional. exactly _ (indicator_passed _ more (ap after e)) (λ hash. went
     (by_sides text t (λ u. is_required (top_key u.held.keys) ≡ false → Onward text u.rest (on_held (push u.held.position Tok.flow_entry) (past_it (record u { held = entry_now u.held.flow u.held }) more))) a
     (λ k x n optional. stray_at text more false Tok.flow_entry 44 comma _ (key_gone text _ k x (ap is_empty e) (grind arith)) refl e hash)
-    (λ f fs k ks y es x optional. closer_stands text more false Tok.flow_entry 44 comma _ f fs k ks y es x deep e hash) optional)))
+    (λ f fs k ks y es x optional. comma_inside text more _ f fs k ks y es x refl refl e deep hash) optional)))
 
 -- ---- a closing bracket
 
@@ -229,7 +173,7 @@ closing_keeps text more kind c k t e deep a =
     (λ o x n optional. stray_at text more true (flow_end kind) c k _ (key_gone text _ o x (ap is_empty e) (grind arith)) refl e hash)
     (λ f fs o ks y es x optional.
     let now : ScannerState = past_it (record t { held = ended_now (f ∷ fs) (record t.held { flow = f ∷ fs; keys = o ∷ ks }) }) more in
-    subst (λ h. Onward text t.rest (record now { held = push t.held.position (flow_end kind) h })) (sym (grind arith)) (closer_stands text more true (flow_end kind) c k _ f fs o ks y es x deep e hash)) optional)))
+    subst (λ h. Onward text t.rest (record now { held = push t.held.position (flow_end kind) h })) (sym (grind arith)) (closer_stands text more (flow_end kind) c k _ f fs o ks y es x deep e hash)) optional)))
 
 -- ---- opening brackets: what holds where they begin holds between two fetches after them
 
@@ -263,21 +207,6 @@ opens_level s l = grind arith
 
 -- ---- the step
 
--- what was read
-abbrev pub opener_read : ScannerState → Tok → (c : ℕ) → (more : List ℕ) → List Indent → (indent : ℕ) → Read
-opener_read t tok c more ds i = record {
-  tok = tok;
-  piece = c ∷ [];
-  gap = blanks_and_comment more;
-  rest = past_blanks_and_comment more;
-  end = past_line_rest (past t.held.position) more;
-  indents = ds;
-  indent = i;
-  leading = false;
-  allowed = true;
-  adjacent = t.held.adjacent_value_at;
-}
-
 less : (m n : ℕ) → m ≡ n → nat_le 255 m ≡ false → nat_lt n 255 ≡ true
 less m n same h = grind arith
 
@@ -285,37 +214,33 @@ less m n same h = grind arith
 abbrev pub with_key : Held → Held
 with_key s = record s { keys = saved_keys s }
 
-pub opener_is_read : (text more : List ℕ) (lv : FlowLevel) (tok : Tok) (c : ℕ) → IsOpener lv tok c → (t : ScannerState) (u : Held) (r : OpensLevel (with_key t.held) u) → t.rest ≡ c ∷ more → IsDeep t.held → begins_with 35 more ≡ false → nat_le 255 (length t.held.flow) ≡ false →
-    (fs : List FlowLevel) (ks : List (Option Key)) (es : List Entry) → t.held.flow ≡ fs → (a : ArrivesBy text t fs ks es) → IsRead t (Some lv) fs a.site a.line es a.separation (opener_read t tok c more r.indents r.indent)
-opener_is_read text more lv tok c o t u r e deep hash few fs ks es flow a =
-    let d : Read = opener_read t tok c more r.indents r.indent in
-    let fl : Bool = not (is_empty fs) in
-    let x : Site = site_of t fs a.site in
-    let cut : more ≡ next_of d = line_rest_cut more in
-    let stays = ap (λ q. q.line) (sym (position_in_line (past t.held.position) (blanks_and_comment more) [] (line_rest_in_line more))) in
-    record {
-      reads = reads_before_none t (state_after t (Some lv) d) (site_then t fs a.site d) (c ∷ []) (next_of d) d.gap refl (e ∙ ap (λ l. c ∷ l) cut) refl (line_rest_fills more) (line_rest_in_line more) refl
-          (indicator_end t.held.position c more o.is_opening.in_line ∙ ap (λ l. position_after (position_after t.held.position (c ∷ []) l) d.gap d.rest) cut) refl o.previous (a.blocks_are ∙ sym r.columns_are)
-          ((grind arith) ∙ (ap (λ b. if fl then b else not (is_empty x.blocks)) a.awaits_is ∙ (ap (λ bs. if fl then has_open_level t.held.indents else not (is_empty bs)) a.blocks_are ∙
-          (ap (λ f. if not (is_empty f) then has_open_level t.held.indents else not (is_empty (columns t.held.indent t.held.indents))) (sym flow) ∙ sym r.awaits)))) r.are_levels a.was_adjacent (refl, refl, refl);
-      act = o.act;
-      begun = o.begun;
-      is_begun = (o.no_pair_yet, omega (arith, stays));
-      shown = λ y. o.shown y (c ∷ []) (next_of d);
-      is_piece = o.is_opening.piece (seen (with_entries a.site a.line es) x a.separation) (next_of d) None
-          (less (length fs) (length (map level_of es)) ((grind (arith, many_around, eqb-true)) ∙ sym (length-map es level_of)) (ap (λ f. nat_le 255 (length f)) (sym flow) ∙ few));
-      is_deep = deep_for fl tok x (o.least x) (rw (a.blocks_are, a.awaits_is) (grind arith));
-      lines_stand = o.lines (least_for tok x) (c ∷ []);
-      precedes = o.precedes fl x.blocks (c ∷ []) (next_of d) ∙ ap (λ l. not (begins_with 35 l)) (sym cut) ∙ ap not hash;
-      allowed_is = refl;
-      one_line = λ _ _. (ap (λ b. not (not b && true)) o.is_opening.in_line, ap (λ b. begins_free_line b d.gap) o.previous ∙ ap not (line_rest_in_line more));
-    }
-
--- ---- the function of the model that reads an opening bracket keeps what holds where it begins
-
 -- in a flow level more, with these levels of indentation
 abbrev pub begun_now : FlowLevel → Held → List Indent → ℕ → Held
 begun_now lv s ds i = record s { keys = None ∷ saved_keys s; flow = lv ∷ s.flow; key_allowed = true; indents = ds; indent = i }
+
+-- the scanner after it
+abbrev pub past_opener : ScannerState → FlowLevel → Tok → (more : List ℕ) → List Indent → ℕ → ScannerState
+past_opener t lv tok more ds i = on_held (push t.held.position tok) (past_it (record t { held = begun_now lv t.held ds i }) more)
+
+pub opener_is_read : (text more : List ℕ) (lv : FlowLevel) (tok : Tok) (c : ℕ) → IsOpener lv tok c → (t : ScannerState) (h : Held) (r : OpensLevel (with_key t.held) h) → t.rest ≡ c ∷ more → IsDeep t.held → begins_with 35 more ≡ false → nat_le 255 (length t.held.flow) ≡ false →
+    (fs : List FlowLevel) (ks : List (Option Key)) (es : List Entry) → t.held.flow ≡ fs → (a : ArrivesBy text t fs ks es) →
+    IsRead t (past_opener t lv tok more r.indents r.indent) (Some lv) fs a.site a.line es a.separation tok (c ∷ []) (blanks_and_comment more)
+opener_is_read text more lv tok c o t h r e deep hash few fs ks es flow a =
+    let next : List ℕ = blanks_and_comment more ++ past_blanks_and_comment more in
+    let u : ScannerState = past_opener t lv tok more r.indents r.indent in
+    let fl : Bool = not (is_empty fs) in
+    let x : Site = site_of t fs a.site in
+    let cut : more ≡ next = line_rest_cut more in
+    let stays = ap (λ q. q.line) (sym (position_in_line (past t.held.position) (blanks_and_comment more) [] (line_rest_in_line more))) in
+    let reads : Reads t u (site_then t fs a.site (c ∷ []) tok next) (c ∷ []) next (blanks_and_comment more) =
+    reads_before_none t u (site_then t fs a.site (c ∷ []) tok next) (c ∷ []) next (blanks_and_comment more) refl (e ∙ ap (λ l. c ∷ l) cut) refl (line_rest_fills more) (line_rest_in_line more) refl
+    (indicator_end t.held.position c more o.is_opening.in_line ∙ ap (λ l. position_after (position_after t.held.position (c ∷ []) l) (blanks_and_comment more) u.rest) cut) refl o.previous (a.blocks_are ∙ sym r.columns_are)
+    (grind (arith, a.awaits_is, a.blocks_are, flow, r.awaits)) r.are_levels a.was_adjacent (refl, refl, refl) in
+    let few_here = less (length fs) (length (map level_of es)) ((grind (arith, many_around, eqb-true)) ∙ sym (length-map es level_of)) (ap (λ f. nat_le 255 (length f)) (sym flow) ∙ few) in
+    let piece = o.is_opening.piece (seen (with_entries a.site a.line es) x a.separation) next None few_here in
+    grind (arith, reads, o, o.is_opening, stays, deep_for, line_rest_in_line, hash, piece)
+
+-- ---- the function of the model that reads an opening bracket keeps what holds where it begins
 
 flow_begun : (kind : Collection) (s : Held) (ds : List Indent) (i : ℕ) → roll_one_col_indent (with_key s) ≡ record (with_key s) { indents = ds; indent = i } → Holds (λ u. (u ≡ begun_now (flow_level kind) s ds i) × (nat_le 255 (length s.flow) ≡ false)) (begin_flow kind s)
 unfolding begin_flow increase_flow_level
@@ -327,4 +252,4 @@ unfolding fetch_flow_collection_start
 opening_keeps text more kind c o t e deep a =
     let r : OpensLevel (with_key t.held) (roll_one_col_indent (with_key t.held)) = opens_level (with_key t.held) a.are_levels in
     exactly _ (held_exactly t (flow_begun kind t.held r.indents r.indent r.is_held)) (λ few. exactly _ (indicator_passed _ more (ap after e)) (λ hash. went
-    (node_read text t (Some (flow_level kind)) (opener_read t (flow_start kind) c more r.indents r.indent) deep a (opener_is_read text more (flow_level kind) (flow_start kind) c o t _ r e deep hash few))))
+    (node_read text t _ (Some (flow_level kind)) (flow_start kind) (c ∷ []) (blanks_and_comment more) deep a (opener_is_read text more (flow_level kind) (flow_start kind) c o t _ r e deep hash few))))

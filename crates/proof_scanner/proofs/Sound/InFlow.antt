@@ -1,6 +1,6 @@
 -- A piece in flow was read: if the definition and the scanner agree on its entries and tokens, what holds where it begins holds between two fetches after it.
-use Rattle.proof_scanner.proofs.Common.{[], Account, account_past, act_of, ap, AreEntries, AreNumbered, arith, begins_free_line, begun_by, begun_inside, Bool, chosen, Colon, colon_of, columns, entries_by, entries_past, Entry, entry_by, false, FlowLevel, had_by, has_break, HasHadHere, is_empty, is_renewed, is_waiting, IsEntryOf, IsLine, IsPiece, Key, key_end, least_column, length, length-append, Line, line_by, line_past_separation, List, may_stand, MayChoose, nat_le, None, not, NotBefore, Option, outside_key, pair_position, pop, Position, position_after, previous_by, put, refl, ScannerState, seen, shown_position, Site, site_here, site_past, Some, spelled, Step, suc, sym, takes_pair, Tok, Token, tokens_at, tokens_of_step, tokens_up_to, true, with_had, with_keys, ℕ, ◌&&◌, ◌++◌, ◌∙◌, ◌∷◌, ◌≡◌, ◌≤◌}
-use Rattle.proof_scanner.proofs.Sound.Common.{among, ArrivesBy, but_for_key_past, completes_at, first_among, goes_past, had_as_it_was, IsDeep, keys_along, keys_first, line_taken, may_around, not_before_after, not_before_then, numbered_around, numbered_more, one_around, open_around, past_step, same_levels, some_rest, unbroken, unbroken_around, with_entries}
+use Rattle.proof_scanner.proofs.Common.{[], Account, account_past, act_of, ap, AreEntries, AreNumbered, arith, begins_free_line, begun_by, begun_inside, Bool, chosen, colon_of, columns, entries_by, entries_past, Entry, entry_by, false, FlowLevel, has_break, HasHadHere, is_empty, is_renewed, is_waiting, IsEntryOf, IsLine, IsPiece, Key, least_column, length, length-append, Line, line_by, line_past_separation, List, may_stand, MayChoose, nat_le, None, not, NotBefore, Option, outside_key, pair_position, pop, Position, position_after, previous_by, put, refl, ScannerState, seen, shown_position, Site, site_here, site_past, Some, spelled, Step, suc, sym, takes_pair, Tok, Token, tokens_at, tokens_up_to, true, with_keys, ℕ, ◌&&◌, ◌++◌, ◌∙◌, ◌∷◌, ◌≡◌, ◌≤◌}
+use Rattle.proof_scanner.proofs.Sound.Common.{among, ArrivesBy, but_for_key_past, completes_at, goes_past, had_as_it_was, IsDeep, keys_along, line_taken, may_around, not_before_after, not_before_then, numbered_around, numbered_more, one_around, open_around, past_step, same_levels, some_rest, unbroken, unbroken_around, with_entries, keys_own}
 use Rattle.proof_scanner.proofs.Known.Steps.{keyless, knows_inside}
 use Rattle.proof_scanner.proofs.Sound.Reads.{Onward, Reads, stands_so}
 
@@ -69,7 +69,7 @@ module _ (text : List ℕ) (t u : ScannerState) (f : FlowLevel) (fs : List FlowL
         (goes_past strict text (a.separation ++ (piece ++ next)) (before c cs) (chosen c cs ls (account_then piece_here)) (tokens_up_to (before c cs) (k ∷ ks) a.tokens) (tokens_up_to (chosen c cs ls (account_then piece_here)) ls u.held.tokens)
         (flow_step (n.bit cs)) next refl (grind (arith, same_levels))
         (account c cs (unbroken_around text t f fs k ks e es a some u.held.position u.rest later strict c was) (one_around text t f fs k ks e es a some u.held.position u.rest later piece g.in_line strict c was))
-        (λ _ i. ap (λ y. is_waiting (line_by c y a.line)) g.same_key ∙ i) (tokens c cs)
+        (λ _ i. ap (λ y. is_waiting (line_by c y a.line)) g.same_key ∙ i) (grind arith)
         (completes_at text t (f ∷ fs) (k ∷ ks) (e ∷ es) a (piece ++ next) piece_here r.cut place strict c (n.choice cs ∷ n.outer cs)
         (rw (sym place) (rw (sym r.cut) (may_around text t f fs k ks e es a some u.held.position u.rest later strict c was))))));
   })
@@ -86,10 +86,6 @@ module _ (text : List ℕ) (t u : ScannerState) (f : FlowLevel) (fs : List FlowL
       account : (c : Bool) (cs : List Bool) → line_past_separation true (begins_free_line a.site.before a.separation) (line_by c (outside_key es ks) a.line) ≡ Some (line_by c (outside_key es ks) a.line) → (has_break piece && is_waiting (line_by c (outside_key es ks) a.line)) ≡ false →
           account_past (before c cs) (flow_step (n.bit cs)) next ≡ Some (chosen c cs ls (account_then piece_here))
       account c cs unbroken one = rw (n.stands, unbroken, n.entry_past cs, one) (ap (λ y. Some (with_entries (flow_past piece_here) (line_by c y a.line) (entries_by cs ls es2))) (sym g.same_key))
-
-      tokens : (c : Bool) (cs : List Bool) (ws : List Step) (last : List ℕ) → spelled ws last ≡ next →
-          tokens_up_to (before c cs) (k ∷ ks) a.tokens (flow_step (n.bit cs) ∷ ws) last ++ tokens_of_step (before c cs) (flow_step (n.bit cs)) ws last ≡ tokens_up_to (chosen c cs ls (account_then piece_here)) ls u.held.tokens ws last
-      tokens c cs ws last h = grind arith
 
   -- What holds where the piece begins holds between two fetches after it.
   pub steps_in_flow : (gs : List FlowLevel) (gap : List ℕ) → Reads t u (flow_past t.held.position) piece next gap → Enters gs gap → Steps t.held.position → Onward text t.rest u
@@ -113,30 +109,12 @@ numbered_then before after k ks own e h = grind (arith, length-append, numbered_
 
 -- the tokens of such a step, before a key around the entry has its colon
 module _ (text : List ℕ) (t : ScannerState) (f : FlowLevel) (fs : List FlowLevel) (k : Option Key) (ks : List (Option Key)) (e : Entry) (es : List Entry) (a : ArrivesBy text t (f ∷ fs) (k ∷ ks) (e ∷ es)) (piece next : List ℕ) (tok : Tok) (cut : t.rest ≡ piece ++ next) where
-  abbrev at_text : List ℕ → Site
-  at_text y = site_here true (position_after a.site.position a.separation (piece ++ y)) a.site
-
   pub keyless_tokens : (l : Line) (xs : List Entry) (ws : List Step) (last : List ℕ) → spelled ws last ≡ next →
-      (let w : Step = keyless a.separation piece tok in tokens_up_to (with_entries a.site l (entry_by false k e ∷ xs)) (k ∷ ks) a.tokens (w ∷ ws) last ++ tokens_at a.site (at_text (spelled ws last)) w ws last l (entry_by false k e ∷ xs) ≡
+      (let w : Step = keyless a.separation piece tok in tokens_up_to (with_entries a.site l (entry_by false k e ∷ xs)) (k ∷ ks) a.tokens (w ∷ ws) last ++ tokens_at a.site (site_here true (position_after a.site.position a.separation (piece ++ spelled ws last)) a.site) w ws last l (entry_by false k e ∷ xs) ≡
       with_keys 1 a.site.position (w ∷ ws) last a.site.blocks l xs ks (a.tokens ++ tokens_inside (site_here true t.held.position a.site) piece tok next e))
   keyless_tokens l xs ws last h =
       let w : Step = keyless a.separation piece tok in
-      let p : Position = a.site.position in
-      let x : Site = at_text (spelled ws last) in
-      let own : List Token = tokens_inside (site_here true t.held.position a.site) piece tok next e in
-      let single : Bool = takes_pair e.kind e.pair in
-      let past : Position = position_after x.position piece (spelled ws last) in
-      let there : Position = pair_position past (spelled ws last) in
-      let at_end : Colon = key_end tok past ws last in
-      let first : with_had (colon_of 0 p (w ∷ ws) last) single (had_by false k e.had) k a.tokens ≡ a.tokens =
-      rw (had_as_it_was k e.had) (grind arith) in
-      let second : tokens_at a.site x w ws last l (entry_by false k e ∷ xs) ≡ own =
-      ap (λ y. y ++ (put (shown_position x piece tok (spelled ws last)) tok ∷ []))
-      ((grind arith) ∙ ap (λ y. begun_inside single e.pair x.position there there (act_of tok) false y) (had_as_it_was k e.had)) ∙
-      (ap (λ y. tokens_inside (at_text y) piece tok y e) h ∙ ap (λ q. tokens_inside (site_here true q a.site) piece tok next e) (sym (a.position_is ∙ ap (λ y. position_after p a.separation y) cut))) in
-      ap (λ y. with_keys 1 p (w ∷ ws) last a.site.blocks l xs ks y ++ tokens_at a.site x w ws last l (entry_by false k e ∷ xs)) first ∙
-      (ap (λ y. with_keys 1 p (w ∷ ws) last a.site.blocks l xs ks a.tokens ++ y) second ∙
-      sym (keys_first 1 p (w ∷ ws) last a.site.blocks l xs ks a.tokens own (first_among (length a.tokens) k ks (among (length a.tokens) (k ∷ ks) a.are_numbered)).1))
+      grind (arith, had_as_it_was, keys_own 0 a.site.position (w ∷ ws) last a.site.blocks l (entry_by false k e) xs k ks a.tokens, among (length a.tokens) (k ∷ ks) a.are_numbered, a.position_is, cut)
 
 module _ (text : List ℕ) (t u : ScannerState) (f g : FlowLevel) (fs : List FlowLevel) (k : Option Key) (ks : List (Option Key)) (e e2 : Entry) (es : List Entry) (a : ArrivesBy text t (f ∷ fs) (k ∷ ks) (e ∷ es)) (piece next : List ℕ) (tok : Tok) where
   abbrev at_piece : Site
@@ -165,8 +143,8 @@ module _ (text : List ℕ) (t u : ScannerState) (f g : FlowLevel) (fs : List Flo
         outer = pop;
         bit = λ cs. false;
         entry_past = λ cs. rw (n.begun, had_as_it_was k e.had) (n.entry_past (entries_by (pop cs) ks es));
-        tokens_are = λ cs l ws last h. keyless_tokens text t f fs k ks e es a piece next tok r.cut l (entries_by (pop cs) ks es) ws last h ∙
-            (keys_along (λ m. suc m) (λ m. suc m) (λ m. refl) (λ m. refl) 0 a.site.position (past_step a.site.position (keyless a.separation piece tok) ws last) (keyless a.separation piece tok) ws last
-            (λ m. n.colons m a.site.position ws last) a.site.blocks l (entries_by (pop cs) ks es) ks (a.tokens ++ tokens_inside at_piece piece tok next e) ∙
-            ap (λ ts. with_keys 1 (past_step a.site.position (keyless a.separation piece tok) ws last) ws last a.site.blocks l (entries_by (pop cs) ks es) ks ts) (sym n.tokens_are));
+        tokens_are = λ cs l ws last h.
+            let along = keys_along (λ m. suc m) (λ m. suc m) (λ m. refl) (λ m. refl) 0 a.site.position (past_step a.site.position (keyless a.separation piece tok) ws last)
+            (keyless a.separation piece tok) ws last (λ m. n.colons m a.site.position ws last) a.site.blocks l (entries_by (pop cs) ks es) ks in
+            grind (arith, keyless_tokens text t f fs k ks e es a piece next tok r.cut l (entries_by (pop cs) ks es) ws last h, n, along);
       })

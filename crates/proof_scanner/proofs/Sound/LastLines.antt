@@ -1,11 +1,8 @@
 -- The last line of a text as the text grows, and the column after it.
-use Rattle.proof_scanner.proofs.Common.{[], and_parts, ap, arith, Bool, eqb-true, false, has_break, has_no_break, has_tab_within, if◌then◌else◌, inl, inr, is_at_line_end, is_before_line_feed, is_break, is_empty, is_one_of, is_separation, last_line, length, List, nat_lt, nat_tests, not, not-true, or-true, Position, position_after, position_past, put_first, refl, split, split_by, suc, take, take-append-le, true, zero, ℕ, ◌&&◌, ◌++◌, ◌+◌, ◌-◌, ◌==◌, ◌||◌, ◌∙◌, ◌∷◌, ◌≡◌, ◌≤◌, ◌⊎◌}
+use Rattle.std.proofs.Math.Seq.{take-nil}
+use Rattle.proof_scanner.proofs.Common.{[], and_parts, ap, arith, Bool, eqb-true, false, has_break, has_no_break, has_tab_within, if◌then◌else◌, is_at_line_end, is_break, is_empty, is_one_of, is_separation, last_line, length, List, nat_lt, nat_tests, not, not-true, or-true, Position, position_after, position_past, put_first, refl, split, suc, take, take-append-le, true, ℕ, ◌&&◌, ◌++◌, ◌+◌, ◌-◌, ◌==◌, ◌||◌, ◌∙◌, ◌∷◌, ◌≡◌, ◌≤◌, ◌⊎◌}
 
 -- ---- breaks in a text and one character more
-
-feed_breaks : (c : ℕ) (r : List ℕ) → is_before_line_feed c r ≡ true → has_break r ≡ true
-unfolding is_break
-feed_breaks c a h = grind (arith, eqb-true)
 
 -- a break anywhere is one of either part
 pub break_append : (a b : List ℕ) → has_break (a ++ b) ≡ (has_break a || has_break b)
@@ -15,14 +12,12 @@ break_append (c ∷ a) b = grind (arith, break_append a b)
 -- ---- the last line
 
 complete_is : (r : List ℕ) → is_empty (split r).complete ≡ has_no_break r
+unfolding is_break
 complete_is [] = refl
-complete_is (c ∷ r) = by (is_break c) (is_before_line_feed c r) refl (complete_is r)
+complete_is (c ∷ r) = grind (arith, not-true, kept, complete_is r)
   where
     kept : (complete : List (List ℕ)) (last : List ℕ) → is_empty (put_first c complete last).complete ≡ is_empty complete
     kept a last = grind arith
-
-    by : (x y : Bool) → is_before_line_feed c r ≡ y → is_empty (split r).complete ≡ has_no_break r → is_empty (split_by x y c (split r)).complete ≡ (not x && has_no_break r)
-    by b a e h = grind (arith, not-true, feed_breaks, kept)
 
 -- one character more at its start
 pub last_first : (c : ℕ) (r : List ℕ) → last_line (c ∷ r) ≡ (if is_break c || has_break r then last_line r else c ∷ last_line r)
@@ -60,35 +55,21 @@ column_after p (c ∷ g) a h = grind (arith, nat_tests, eqb-true, last_first, fe
 pub no_comment_in_last : (g rest : List ℕ) → is_separation false g rest ≡ true → is_at_line_end rest ≡ false → is_one_of (last_line g) 35 ≡ false
 no_comment_in_last g rest h ends = (both g).0 h
   where
-    Both : List ℕ → Type 0
-    Both g = (is_separation false g rest ≡ true → is_one_of (last_line g) 35 ≡ false) × (is_separation true g rest ≡ true → (has_break g ≡ true) × (is_one_of (last_line g) 35 ≡ false))
-
-    both : (g : List ℕ) → Both g
+    both : (g : List ℕ) → (is_separation false g rest ≡ true → is_one_of (last_line g) 35 ≡ false) × (is_separation true g rest ≡ true → (has_break g ≡ true) × (is_one_of (last_line g) 35 ≡ false))
     both [] = grind arith
-    both (c ∷ g) = grind (arith, nat_tests, Both, last_first, or-true, eqb-true, both g)
+    both (c ∷ g) = grind (arith, nat_tests, last_first, or-true, eqb-true, both g)
 
 -- ---- TABs in its first columns
 
 -- a character other than a TAB, or one after these columns, adds none
 pub tab_within_more : (n : ℕ) (l : List ℕ) (c : ℕ) → ((9 == c) ≡ false) ⊎ (n ≤ length l) → has_tab_within n l ≡ false → has_tab_within n (l ++ c ∷ []) ≡ false
-tab_within_more n l c (inr deep) h = ap (λ x. is_one_of x 9) (take-append-le n l (c ∷ []) deep) ∙ h
-tab_within_more n l c (inl other) h = go n l h
+tab_within_more n l c a h = grind (arith, take-append-le, take-nil, go n l h)
   where
-    go : (n : ℕ) (l : List ℕ) → is_one_of (take n l) 9 ≡ false → is_one_of (take n (l ++ c ∷ [])) 9 ≡ false
-    go zero l h = refl
-    go (suc n) [] h = rw other (none n)
-      where
-        none : (n : ℕ) → is_one_of (take n []) 9 ≡ false
-        none a = grind arith
-    go (suc n) (x ∷ l) h = grind (arith, go n l)
+    go : (n : ℕ) (l : List ℕ) → is_one_of (take n l) 9 ≡ false → (9 == c) ≡ false → is_one_of (take n (l ++ c ∷ [])) 9 ≡ false
+    go (suc n) (x ∷ l) h e = grind (arith, go n l)
+    go n l h e = grind (arith, take-nil)
 
 -- ---- tABs among the blanks of a line, left of a column
-
-pub take_none : (n : ℕ) → ◌≡◌ {A = List ℕ} (take n []) []
-take_none a = grind arith
-
-pub none_before : (column : ℕ) → column - 0 ≡ column
-none_before column = omega arith
 
 -- A blank in a column, before others: no TAB stands left of a later column if none does there, and the blank is no TAB left of it.
 pub blank_more : (k column c : ℕ) (bs : List ℕ) → ((c == 9) && nat_lt k column) ≡ false → has_tab_within (column - suc k) bs ≡ false → has_tab_within (column - k) (c ∷ bs) ≡ false

@@ -1,6 +1,6 @@
 -- What a part of a node begins: an opening bracket the first entry of a collection, other pieces nothing.
-use Rattle.proof_scanner.proofs.Common.{if◌then◌else◌, [], Account, act_of, ap, append_assoc, AreNumbered, arith, begun_by, Bool, Colon, colon_of, depth_past, ends_at, entries_by, entries_past, Entry, entry_by, false, filled, first_entry, flow_mapping_start, FlowLevel, gives_node, Had, had_by, HasHadHere, insert, is_keyed, is_waiting, IsLineHere, IsLive, Key, key, key_tokens, length, level_of, Line, line_by, line_past, List, map, MayChoose, None, Option, pair_position, pop, Position, position_after, put, put_if, put_key, refl, shown_position, Site, site_here, Some, spelled, Step, suc, sym, taken, takes_pair, Tok, Token, tokens_at, tokens_of_step, tokens_up_to, true, with_had, with_keys, with_line, zero, ℕ, ◌&&◌, ◌++◌, ◌∙◌, ◌∷◌, ◌≡◌, ◌≤◌, kind_of}
-use Rattle.std.proofs.lemmas.List.Edits.{insert-append_left}
+use Rattle.proof_scanner.proofs.Common.{[], if◌then◌else◌, Account, act_of, ap, append_assoc, AreNumbered, arith, begun_by, Bool, Colon, colon_of, depth_past, ends_at, entries_by, entries_past, Entry, entry_by, false, filled, first_entry, flow_mapping_start, FlowLevel, gives_node, Had, had_by, HasHadHere, insert, is_keyed, is_waiting, IsLineHere, IsLive, Key, key, key_tokens, length, level_of, Line, line_by, line_past, List, map, MayChoose, None, Option, pair_position, pop, Position, position_after, put, put_key, refl, shown_position, Site, site_here, Some, spelled, Step, suc, taken, takes_pair, Tok, Token, tokens_at, tokens_of_step, tokens_up_to, true, with_had, with_keys, with_line, zero, ℕ, ◌&&◌, ◌++◌, ◌∷◌, ◌≡◌, ◌≤◌, kind_of}
+use Rattle.std.proofs.lemmas.List.Edits.{insert-append_left, insert_end}
 use Rattle.proof_scanner.proofs.Sound.Sides.{with_entries}
 use Rattle.proof_scanner.proofs.Sound.OutOfFlow.{Outer}
 
@@ -50,13 +50,9 @@ choice_before allowed c = (if allowed then false else c)
 abbrev pub bit_of : (allowed after : Bool) → Bool
 bit_of allowed c = (if allowed then c else false)
 
--- what an entry has had after a node that is no key
-abbrev pub had_past_node : (allowed : Bool) → Had → Had
-had_past_node allowed h = (if allowed then filled else h)
-
 -- the entry after a node that is no key
 abbrev pub entry_past_node : (allowed : Bool) → Entry → Entry
-entry_past_node allowed e = record { kind = e.kind; pair = e.pair; had = had_past_node allowed e.had }
+entry_past_node allowed e = record { kind = e.kind; pair = e.pair; had = (if allowed then filled else e.had) }
 
 -- in flow; the node may be a collection, which begins with an entry of its own
 pub node_in_entry : (again allowed c : Bool) (k : Option Key) (new : Key) (e : Entry) (here : Position) (begun es : List Entry) → HasHadHere allowed again k e.had → new.position ≡ here →
@@ -71,15 +67,10 @@ longer [] (suc n) t = refl
 longer (x ∷ ts) (suc n) t = ap suc (longer ts n t)
 
 key_first : (b : Bool) (start : Token) (n : ℕ) (here : Position) (ts us : List Token) → n ≤ length ts → put_key b start n here (ts ++ us) ≡ put_key b start n here ts ++ us
-key_first b start n here ts us h =
-    let l = longer ts n (put here key) in
-    ap (λ x. put_if b n start x) (insert-append_left ts us n (put here key) h) ∙ (grind (arith, insert-append_left))
-
-if_longer : (b : Bool) (ts : List Token) (n : ℕ) (t : Token) → length ts ≤ length (put_if b n t ts)
-if_longer a ts n t = grind (arith, longer)
+key_first b start n here ts us h = grind (arith, longer, insert-append_left)
 
 pub key_longer : (b : Bool) (start : Token) (n : ℕ) (here : Position) (ts : List Token) → length ts ≤ length (put_key b start n here ts)
-key_longer b start n here ts = let k = longer ts n (put here key) in let l = if_longer b (insert ts n (put here key)) n start in omega (arith, k, l)
+key_longer b start n here ts = grind (arith, longer)
 
 -- each open key's number is among so many
 abbrev pub AreAmong : (many : ℕ) → List (Option Key) → Type 0
@@ -89,8 +80,7 @@ AreAmong many (Some k ∷ ks) = (k.number ≤ many) × AreAmong many ks
 
 pub fewer : (m n : ℕ) (ks : List (Option Key)) → m ≤ n → AreAmong m ks → AreAmong n ks
 fewer m n [] h a = tt
-fewer m n (None ∷ ks) h a = fewer m n ks h a
-fewer m n (Some k ∷ ks) h a = (omega (arith, h, a.0), fewer m n ks h a.1)
+fewer m n (k ∷ ks) h a = grind (arith, fewer m n ks)
 
 pub among : (many : ℕ) (ks : List (Option Key)) → AreNumbered many ks → AreAmong many ks
 among many [] a = tt
@@ -112,6 +102,11 @@ pub keys_first : (d : ℕ) (p : Position) (ws : List Step) (last : List ℕ) (bs
 keys_first d p ws last bs l es [] ts us a = refl
 keys_first d p ws last bs l [] (k ∷ ks) ts us a = grind (arith, key_first, first_among)
 keys_first d p ws last bs l (e ∷ es) (k ∷ ks) ts us a = grind (arith, first_among, had_first, fewer, had_longer, keys_first (suc d) p ws last bs l es ks)
+
+-- Own tokens of a step stand after those so far: the key of the innermost entry goes in before, and so do those around it.
+pub keys_own : (d : ℕ) (p : Position) (ws : List Step) (last bs : List ℕ) (l : Line) (e : Entry) (es : List Entry) (k : Option Key) (ks : List (Option Key)) (ts own : List Token) → AreAmong (length ts) (k ∷ ks) →
+    with_keys d p ws last bs l (e ∷ es) (k ∷ ks) ts ++ own ≡ with_keys (suc d) p ws last bs l es ks (with_had (colon_of d p ws last) (takes_pair e.kind e.pair) e.had k ts ++ own)
+keys_own d p ws last bs l e es k ks ts own a = grind (arith, keys_first, first_among, fewer, had_longer)
 
 -- ---- the tokens of a part of a node: with its key put in, or without
 
@@ -146,32 +141,24 @@ keys_past kind d p w ws last e f bs l es ks ts = keys_along (λ n. n) (depth_beg
 
 -- ---- a key that begins with the last token
 
-insert_between : (ts us : List Token) (t : Token) → insert (ts ++ us) (length ts) t ≡ ts ++ (t ∷ us)
-insert_between [] us t = refl
-insert_between (x ∷ ts) us t = ap (λ l. x ∷ l) (insert_between ts us t)
-
 -- a key goes in before the tokens of its node
 pub key_between : (begins : Bool) (p : Position) (start : Tok) (here : Position) (ts us : List Token) → put_key begins (put p start) (length ts) here (ts ++ us) ≡ ts ++ (key_tokens begins p start here ++ us)
-key_between a p start here ts us = grind (arith, insert_between)
+key_between a p start here ts us = grind (arith, insert-append_left, insert_end, append_assoc)
 
 -- ---- the tokens of the step
-
--- the key of a step in flow, if one begins with it
-abbrev pub key_inside : (bit single : Bool) → Site → Colon → List Token
-key_inside bit single at c = (if bit then key_tokens single (pair_position c.past c.next) flow_mapping_start at.position else [])
 
 -- ---- a part of a node in flow, be it an opening bracket or no collection: its tokens, and where a key that begins with it goes in
 
 -- The tokens after it are those before, and its own.
-pub node_tokens : (level : Option FlowLevel) (s : Site) (separation piece : List ℕ) (tok : Tok) (allowed c : Bool) (k : Option Key) (new : Key) (e : Entry) (es : List Entry) (ks : List (Option Key)) (ts : List Token) (l : Line) (ws : List Step) (last : List ℕ) →
-    act_of tok ≡ gives_node → begun_by tok ≡ with_begun level [] → is_keyed e.had ≡ false →
-    new.number ≡ length ts → AreAmong (length ts) (k ∷ ks) →
+pub node_tokens : (level : Option FlowLevel) (s : Site) (separation piece next : List ℕ) (tok : Tok) (allowed c : Bool) (k : Option Key) (new : Key) (e : Entry) (es : List Entry) (ks : List (Option Key)) (here : Position) (ts us : List Token) (l : Line) (ws : List Step) (last : List ℕ) →
+    act_of tok ≡ gives_node → begun_by tok ≡ with_begun level [] → is_keyed e.had ≡ false → new.number ≡ length ts → AreAmong (length ts) (k ∷ ks) → spelled ws last ≡ next → here ≡ position_after s.position separation (piece ++ next) →
+    shown_position (site_here true here s) piece tok next ≡ here → new.position ≡ here → us ≡ ts ++ (put here tok ∷ []) →
     (let w : Step = record { separation = separation; piece = piece; shown = tok; key = bit_of allowed c } in
     let at : Site = site_here true (position_after s.position separation (piece ++ spelled ws last)) s in
     let x : Entry = entry_by (choice_before allowed c) k e in
-    new.position ≡ at.position → tokens_up_to (with_entries s l (x ∷ es)) (k ∷ ks) ts (w ∷ ws) last ++ tokens_at s at w ws last l (x ∷ es) ≡
-    with_keys 0 (past_step s.position w ws last) ws last s.blocks l (with_begun level (entry_by c (saved allowed new k) (entry_past_node allowed e) ∷ es)) (with_no_key level (saved allowed new k ∷ ks)) (ts ++ (put (shown_position at piece tok (spelled ws last)) tok ∷ [])))
-node_tokens level s separation piece tok allowed c k new e es ks ts l ws last act begins idle number are_among place =
+    tokens_up_to (with_entries s l (x ∷ es)) (k ∷ ks) ts (w ∷ ws) last ++ tokens_at s at w ws last l (x ∷ es) ≡
+    with_keys 0 (past_step s.position w ws last) ws last s.blocks l (with_begun level (entry_by c (saved allowed new k) (entry_past_node allowed e) ∷ es)) (with_no_key level (saved allowed new k ∷ ks)) us)
+node_tokens level s separation piece next tok allowed c k new e es ks here ts us l ws last act begins idle number are_among h is_here shown place u =
     let w : Step = record { separation = separation; piece = piece; shown = tok; key = bit_of allowed c } in
     let at : Site = site_here true (position_after s.position separation (piece ++ spelled ws last)) s in
     let x : Entry = entry_by (choice_before allowed c) k e in
@@ -179,16 +166,11 @@ node_tokens level s separation piece tok allowed c k new e es ks ts l ws last ac
     let depth : ℕ = depth_begun level 0 in
     let colon : Colon = colon_of depth p ws last in
     let single : Bool = takes_pair e.kind e.pair in
-    let inner : List Token = with_had colon single x.had k ts in
-    let own : Token = put (shown_position at piece tok (spelled ws last)) tok in
-    let step : List Token = key_inside w.key single at colon ++ (own ∷ []) in
-    let first : tokens_up_to (with_entries s l (x ∷ es)) (k ∷ ks) ts (w ∷ ws) last ≡ with_keys (suc depth) p ws last s.blocks l es ks inner = keys_past level 0 s.position w ws last act begins s.blocks l (x ∷ es) (k ∷ ks) ts in
-    let parts : AreAmong (length ts) (k ∷ []) × AreAmong (length ts) ks = first_among (length ts) k ks are_among in
-    ap (λ y. y ++ tokens_at s at w ws last l (x ∷ es)) first ∙
-    (ap (λ y. with_keys (suc depth) p ws last s.blocks l es ks inner ++ y) (grind arith) ∙
-    (sym (keys_first (suc depth) p ws last s.blocks l es ks inner step (fewer (length ts) (length inner) ks (had_longer colon single x.had k ts) parts.1)) ∙
-    (ap (λ y. with_keys (suc depth) p ws last s.blocks l es ks y) (grind (arith, key_between, had_first, had_as_it_was)) ∙
-    sym (keys_around_begun level p ws last s.blocks l (entry_by c (saved allowed new k) (entry_past_node allowed e) ∷ es) (saved allowed new k ∷ ks) (ts ++ (own ∷ []))))))
+    let step : tokens_at s at w ws last l (x ∷ es) ≡ (if w.key then key_tokens single (pair_position colon.past colon.next) flow_mapping_start here else []) ++ (put here tok ∷ []) = grind arith in
+    let past = keys_past level 0 s.position w ws last act begins s.blocks l (x ∷ es) (k ∷ ks) ts in
+    let own = keys_own depth p ws last s.blocks l x es k ks ts (tokens_at s at w ws last l (x ∷ es)) are_among in
+    let around = keys_around_begun level p ws last s.blocks l (entry_by c (saved allowed new k) (entry_past_node allowed e) ∷ es) (saved allowed new k ∷ ks) us in
+    grind (arith, step, key_between, had_first, had_as_it_was, past, own, around)
 
 -- ---- a part of a node outside flow, be it an opening bracket or no collection: what may begin after it, and its tokens, where a key that begins with it goes in
 
@@ -207,12 +189,13 @@ line_after_node strict must allowed c k new l here p bs rest h e q may = grind a
 -- ---- the tokens after it
 
 -- The tokens after it are those before, with the ends that stand here, and its own.
-pub node_outer_tokens : (level : Option FlowLevel) (s : Site) (separation piece : List ℕ) (tok : Tok) (strict allowed c : Bool) (k : Option Key) (new : Key) (l m : Line) (p : Position) (rest : List ℕ) (ts : List Token) (ws : List Step) (last : List ℕ) →
+pub node_outer_tokens : (level : Option FlowLevel) (s : Site) (separation piece next : List ℕ) (tok : Tok) (strict allowed c : Bool) (k : Option Key) (new : Key) (l m : Line) (here p : Position) (rest : List ℕ) (ts us : List Token) (ws : List Step) (last : List ℕ) →
     act_of tok ≡ gives_node → begun_by tok ≡ with_begun level [] →
-    IsLineHere false allowed (0 ∷ []) k m → MayChoose strict c (saved allowed new k) p rest → is_waiting l ≡ false → AreAmong (length ts) (k ∷ []) →
-    (let b : Site = site_here false (position_after s.position separation (piece ++ spelled ws last)) s in
+    IsLineHere false allowed (0 ∷ []) k m → MayChoose strict c (saved allowed new k) p rest → is_waiting l ≡ false → AreAmong (length ts) (k ∷ []) → spelled ws last ≡ next → here ≡ position_after s.position separation (piece ++ next) →
+    (let b : Site = site_here false here s in
     let w : Step = record { separation = separation; piece = piece; shown = tok; key = bit_of allowed c } in
     let before : Account = Outer s (line_by (choice_before allowed c) k l) in
-    new.position ≡ b.position → new.number ≡ length (ts ++ ends_at b.position s.blocks b.blocks) → AreSame k p rest s.blocks b.blocks → tokens_up_to before (k ∷ []) ts (w ∷ ws) last ++ tokens_of_step before w ws last ≡
-    with_keys 0 (past_step s.position w ws last) ws last b.blocks (line_by c (saved allowed new k) taken) (with_begun level []) (with_no_key level (saved allowed new k ∷ [])) ((ts ++ ends_at b.position s.blocks b.blocks) ++ (put (shown_position b piece tok (spelled ws last)) tok ∷ [])))
-node_outer_tokens level s separation piece tok strict allowed c k new l m p rest ts ws last act begins a may idle b place number same = grind (arith, append_assoc, keys_past, key_between, key_first, keys_around_begun, taken)
+    us ≡ ts ++ ends_at here s.blocks b.blocks → shown_position b piece tok next ≡ here → new.position ≡ here → new.number ≡ length us → AreSame k p rest s.blocks b.blocks →
+    tokens_up_to before (k ∷ []) ts (w ∷ ws) last ++ tokens_of_step before w ws last ≡
+    with_keys 0 (position_after here piece next) ws last b.blocks (line_by c (saved allowed new k) taken) (begun_by tok) (with_no_key level (saved allowed new k ∷ [])) (us ++ (put here tok ∷ [])))
+node_outer_tokens level s separation piece next tok strict allowed c k new l m here p rest ts us ws last act begins a may idle b e at u shown place number same = grind (arith, append_assoc, keys_past, key_between, key_first, keys_around_begun, taken)

@@ -40,7 +40,7 @@ module _ (text : List ℕ) (s : Site) (separation piece next : List ℕ) (tok : 
       ((ws : List Step) (last : List ℕ) → spelled ws last ≡ next → before (outer_step bit ∷ ws) last ++ tokens_of_step (Outer s l) (outer_step bit) ws last ≡ past ws last) →
       SoFar strict text (separation ++ (piece ++ next)) (Outer s l) before → SoFar strict text next (outer_then after) past
   outer_completes true bit l m after before past n tokens h =
-      completed_past text (separation ++ (piece ++ next)) (Outer s l) (outer_then after) before past (outer_step bit) next refl (is_written true bit l m after n) (ap (λ y. past_site false s y (outer_step bit) next l []) same ∙ rw (n.stands, n.line_is, n.after_is, n.in_line) refl) tokens h
+      completed_past text (separation ++ (piece ++ next)) (Outer s l) (outer_then after) before past (outer_step bit) next refl (is_written true bit l m after n) (grind (arith, n, same)) tokens h
   outer_completes false bit l m after before past n tokens h = (
     n.idle refl,
     λ ws last e. rw (sym (tokens ws last e))

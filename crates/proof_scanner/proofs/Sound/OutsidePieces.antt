@@ -1,6 +1,5 @@
 -- A piece outside flow before and after which no key waits: what holds where it begins holds between two fetches after it.
-use Rattle.std.proofs.lemmas.List.{append-nil}
-use Rattle.proof_scanner.proofs.Common.{[], Account, act_of, ap, append_assoc, arith, begins_free_line, begun_by, Bool, columns, Completes, false, free, has_break, if◌then◌else◌, is_deeper, is_empty, is_in_column, is_separation, is_waiting, IsCarriedOn, IsLine, IsLineHere, IsPiece, IsWritten, Key, Line, line_past, List, may_stand, MayChoose, None, not_ended, opened, Option, Outside, placed, Position, position_after, previous_by, refl, ScannerState, seen, shown_position, Site, site_at, site_in, site_past, SoFar, Some, start_if, subst, sym, Tok, Token, token, true, ℕ, ◌++◌, ◌∙◌, ◌∷◌, ◌≡◌}
+use Rattle.proof_scanner.proofs.Common.{[], Account, act_of, ap, arith, begins_free_line, begun_by, Bool, columns, Completes, false, free, has_break, if◌then◌else◌, is_deeper, is_empty, is_in_column, is_separation, is_waiting, IsCarriedOn, IsLine, IsLineHere, IsPiece, IsWritten, Key, Line, line_past, List, may_stand, MayChoose, None, not_ended, opened, Option, Outside, placed, Position, position_after, previous_by, refl, ScannerState, seen, shown_position, Site, site_at, site_in, site_past, SoFar, Some, subst, sym, Tok, Token, token, true, ℕ, ◌++◌, ◌∙◌, ◌∷◌, ◌≡◌}
 use Rattle.proof_scanner.proofs.Known.Steps.{keyless, knows_none, begins_key}
 use Rattle.proof_scanner.proofs.Sound.Common.{ArrivesBy, goes_of, is_written, may_be_no_key, no_waiting, outer_completes, outer_tokens, tokens_then, with_entries}
 use Rattle.proof_scanner.proofs.Sound.Reads.{Onward, Reads, stands_so}
@@ -65,11 +64,6 @@ read_outside text t u a piece next gap tok after x same r m n =
 -- where a key may begin and none is open, the line is free
 pub line_free : (allowed : Bool) (rest : List ℕ) (l : Line) → allowed ≡ true → IsLineHere false allowed rest None l → l ≡ free
 line_free allowed rest l e h = grind arith
-
--- the tokens of a piece with which a block collection may begin
-pub started_tokens : (begins : Bool) (ts before ends : List Token) (p : Position) (start : Tok) (own : Token) → ts ≡ before ++ ends →
-    (if begins then placed None (token p start) ts else ts) ++ own ∷ [] ≡ before ++ ((ends ++ start_if begins p start) ++ (own ∷ []))
-started_tokens begins ts before ends p start own e = grind (arith, append_assoc, append-nil)
 
 -- ---- an open key that need not be one is dropped where a piece begins
 

@@ -1,10 +1,10 @@
 -- Plain scalars: what holds between two fetches holds after them.
-use Rattle.proof_scanner.proofs.Common.{Arrives, Bool, Context, Entry, FlowLevel, HasNoTabs, Holds, IsPiece, IsPlainRead, Key, Levels, List, None, Ok, Option, Plain, Position, ScannerState, Site, Some, Style, Tok, [], allow_key, and_parts, ap, arith, awaits_past, before_by, before_past, begins_plain, begins_separation, begins_solid, begins_white, collection_column, collection_of, comes_plain, ends_with_content, eqb-true, false, fetch_plain_scalar, has_break, has_dash_before_flow, has_no_nul, has_open_level, in_flow, innermost, innermost_column, is_adjacent, is_blank, is_break, is_deep_enough, is_empty, is_gap, is_indented, is_no_comment, is_one_of, is_renewed, is_white, is_whole_plain, leading, least_column, map, nat_tests, not, other, plain_lines_fit, plain_scalar, plain_value, position_after, position_append, read, read_as, refl, scans_end, seen, sym, true, unroll_non_block_indents, went, whole_plain, without_open, ℕ, ◌&&◌, ◌++◌, ◌==◌, ◌∙◌, ◌∷◌, ◌≡◌, ◌≤◌, put}
+use Rattle.proof_scanner.proofs.Common.{Arrives, Bool, Context, Entry, FlowLevel, HasNoTabs, Holds, IsPiece, IsPlainRead, Key, Levels, List, None, Ok, Option, Plain, Position, ScannerState, Site, Some, Style, Tok, [], allow_key, and_parts, ap, arith, before_by, before_past, begins_separation, begins_solid, begins_white, collection_of, comes_plain, ends_with_content, eqb-true, false, fetch_plain_scalar, has_break, has_no_nul, in_flow, innermost, innermost_column, is_adjacent, is_break, is_deep_enough, is_empty, is_gap, is_indented, is_no_comment, is_one_of, is_renewed, is_white, is_whole_plain, leading, least_column, map, nat_tests, not, other, plain_value, position_after, position_append, read, read_as, refl, scans_end, seen, sym, true, unroll_non_block_indents, went, whole_plain, without_open, ℕ, ◌++◌, ◌==◌, ◌∙◌, ◌∷◌, ◌≡◌, ◌≤◌, after_plain, go_on, on_held, push, with_levels}
 use Rattle.defs_token.specs.Account.{Account as PieceAccount, is_in_flow}
 use Rattle.model_scanner.specs.Machine as machine
 use Rattle.model_scanner.specs.Plain.{plain}
 use Rattle.proof_lexers.specs.PlainEnds as plains
-use Rattle.proof_scanner.proofs.Sound.Steps.{AreClosed, ArrivesBy, IsDeep, IsRead, Onward, Read, adjacent_kept, allowed_past, begins_as_read, ends_in_line, gap_is_separation, less_or, next_of, node_read, not_before_after, on_one_line, same_flow, same_has_break, saved_is, saved_keys, site_of, site_then, state_after, white_is_no_hash, with_entries, without_is}
+use Rattle.proof_scanner.proofs.Sound.Steps.{AreClosed, ArrivesBy, IsDeep, IsRead, Onward, adjacent_kept, begins_as_read, ends_in_line, gap_is_separation, less_or, node_read, not_before_after, on_one_line, same_flow, same_has_break, saved_is, saved_keys, site_of, site_then, white_is_no_hash, with_entries, without_is}
 use Rattle.proof_scanner.proofs.Cut.Pieces.Inserted.{no_break_on_line}
 use Rattle.proof_scanner.proofs.Sound.PlainLines.{PlainFits, plain_fits}
 
@@ -34,7 +34,7 @@ plain_as ctx p text x none begins indented e = by x (read_as e (scans_end ctx te
 -- ---- its piece and its gap
 
 content_last : (c : ℕ) (r : List ℕ) → ends_with_content c r ≡ true → ends_in_line (c ∷ r) ≡ true
-content_last c [] h = (and_parts (not (is_blank c)) (not (is_break c)) h).1
+content_last c [] h = grind (arith, and_parts)
 content_last c (d ∷ r) h = content_last d r h
 
 whole_solid : (fl : Bool) (collection : Option ℕ) (piece next : List ℕ) → is_whole_plain fl collection piece next ≡ true → is_empty piece ≡ false
@@ -72,33 +72,13 @@ module _ (text : List ℕ) (t : ScannerState) (a : Arrives text t) (deep : IsDee
     abbrev tok : Tok
     tok = Tok.scalar Style.plain x.value.text
 
-    abbrev pub d : Read
-    d = record {
-      tok = tok;
-      piece = q.piece;
-      gap = q.gap;
-      rest = x.rest;
-      end = x.position;
-      indents = gone.indents;
-      indent = gone.indent;
-      leading = x.value.leading;
-      allowed = x.value.leading;
-      adjacent = t.held.adjacent_value_at;
-    }
-
-    in_line : ends_in_line q.piece ≡ true
-    in_line = grind (arith, nat_tests, eqb-true, content_last, and_parts)
+    -- the scanner after it
+    abbrev pub u : ScannerState
+    u = on_held (λ s. push t.held.position tok (after_plain x.value.leading s)) (go_on x (with_levels (allow_key false (record t.held { keys = saved_keys t.held })) gone))
 
     one_line_of : is_empty x.rest ≡ false → x.position.line ≤ t.held.position.line → (has_break q.piece ≡ false) × (has_break q.gap ≡ false)
     unfolding is_break
-    one_line_of some h = grind (arith, q, not_before_after, on_one_line, in_line, no_break_on_line)
-
-    allowed_by : (fl : Bool) → x.value.leading ≡ allowed_past None fl plain_scalar q.gap
-    allowed_by true = q.leads ∙ ap has_break (sym (no_comment q.gap q.white).1)
-    allowed_by false = q.leads
-
-    none_awaits : (fl : Bool) (bs : List ℕ) (b : Bool) (next : List ℕ) → awaits_past fl tok bs b next ≡ false
-    none_awaits a bs b d = grind arith
+    one_line_of some h = grind (arith, q, not_before_after, on_one_line, nat_tests, eqb-true, content_last, and_parts, no_break_on_line)
 
     module _ (fs : List FlowLevel) (ks : List (Option Key)) (es : List Entry) (flow : t.held.flow ≡ fs) (r : ArrivesBy text t fs ks es) where
       abbrev at : Site
@@ -117,34 +97,22 @@ module _ (text : List ℕ) (t : ScannerState) (a : Arrives text t) (deep : IsDee
       least_here : least_column at.blocks true ≡ gone.indent
       least_here = ap (λ bs. least_column bs true) (r.blocks_are ∙ closed.same_columns) ∙ closed.is_least.1
 
-      piece_is : IsPiece own q.piece (next_of d) None t.held.position tok
-      piece_is = (
-        (
-          (ap (begins_plain (is_in_flow own) (is_adjacent own.before) own.position.col) (sym q.cut) ∙ (ap (λ f. begins_plain f (is_adjacent own.before) own.position.col t.rest) own_flow ∙ begins_as_read ctx (is_adjacent own.before) t.rest t.held.position x (grind arith) scanned)),
-          ap
-              (λ f. is_whole_plain f (collection_column own) q.piece (next_of d)) own_flow ∙ (ap (λ c. is_whole_plain (in_flow t.held) c q.piece (next_of d)) (same_innermost at.blocks ∙ (ap innermost (r.blocks_are ∙ closed.same_columns) ∙ sym closed.is_least.0)) ∙ q.whole),
-          q.value_is,
-        ),
-        refl,
-      )
+      piece_is : IsPiece own q.piece (q.gap ++ x.rest) None t.held.position tok
+      piece_is = grind (arith, own_flow, q, same_innermost at.blocks, closed, begins_as_read ctx (is_adjacent own.before) t.rest t.held.position x, scanned)
 
       deep_by : (f : Bool) → f ≡ in_flow t.held → is_deep_enough f tok at ≡ true
       deep_by a h = grind (arith, nat_tests, eqb-true, q, least_here)
 
-      no_tabs : HasNoTabs (site_then t fs r.site d) q.gap x.rest
-      no_tabs = grind (arith, q, none_awaits, no_comment, least_here)
+      no_tabs : HasNoTabs (site_then t fs r.site q.piece tok (q.gap ++ x.rest)) q.gap x.rest
+      no_tabs = grind (arith, q, no_comment, least_here)
 
-      pub is_read : IsRead t None fs r.site r.line es r.separation d
+      pub is_read : IsRead t u None fs r.site r.line es r.separation tok q.piece q.gap
       is_read =
-          let far = adjacent_kept t (state_after t None d) other q.piece (next_of d) q.gap (whole_solid ctx.flow (collection_of ctx.indent) q.piece (q.gap ++ x.rest) q.whole) q.end_is a.was_adjacent refl refl in
-          let filled = gap_is_separation q.gap x.rest q.white in
-          let awaits_then : awaits_past fl tok at.blocks at.awaits (next_of d) ≡ has_open_level gone.indents = none_awaits fl at.blocks at.awaits (next_of d) ∙ sym closed.none_open in
-          let further : plain_lines_fit (least_column at.blocks true) q.piece ≡ true = ap (λ n. plain_lines_fit n q.piece) least_here ∙ q.fits.lines in
-          assumption (q, closed, (whole_solid ctx.flow (collection_of ctx.indent) q.piece (q.gap ++ x.rest) q.whole), far, filled, (r.blocks_are ∙ closed.same_columns), awaits_then, no_tabs, piece_is, deep_by fl (sym (ap (λ f. not (is_empty f)) flow)), further, (ap not (ap (λ y. y && has_dash_before_flow q.piece (next_of d)) (sym (ap (λ f. not (is_empty f)) flow)) ∙ q.fits.dash)), allowed_by fl, one_line_of)
+          let far = adjacent_kept t u other q.piece (q.gap ++ x.rest) q.gap (whole_solid ctx.flow (collection_of ctx.indent) q.piece (q.gap ++ x.rest) q.whole) q.end_is a.was_adjacent refl refl in
+          grind (arith, q, closed, far, gap_is_separation, whole_solid, no_tabs, piece_is, deep_by, least_here, no_comment q.gap q.white, q.leads, one_line_of)
 
-    pub stands : Onward text t.rest (record (state_after t None d) { held = record (state_after t None d).held { tokens = gone.tokens ++ put t.held.position tok ∷ [] } })
-    stands =
-        rw closed.same_tokens (node_read text t None d deep a (λ fs ks es f r. is_read fs ks es f r))
+    pub stands : Onward text t.rest u
+    stands = node_read text t u None tok q.piece q.gap deep a is_read
 
 -- a plain scalar
 pub plain_keeps : (text : List ℕ) (t : ScannerState) (a : Arrives text t) → IsDeep t.held → comes_plain (in_flow t.held) (is_adjacent (before_past (before_by a.base.site.before) a.separation)) t.held.position.col t.rest ≡ true → Holds (Onward text t.rest) (fetch_plain_scalar t)

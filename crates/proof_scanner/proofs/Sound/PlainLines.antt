@@ -1,10 +1,11 @@
 -- The scan of a plain scalar refuses TABs that indent its further lines, and in flow a dash before a flow indicator.
-use Rattle.proof_scanner.proofs.Common.{Bool, Context, Err, Fault, List, Ok, Plain, PlainState, Position, Read, Result, Stop, Turn, [], after_first, and_false, and_parts, and_then, ap, append_assoc, append_cancel_right, arith, at_char, at_dash, begins_flow, begins_solid, ended, eqb-true, fail, false, first, has_break, has_dash_before_flow, has_tab_within, if◌then◌else◌, inl, inr, is_at_comment_or_end, is_before_line_feed, is_blanks, is_cr_lf, is_gap, joined, last_line, leading, lines_have_no_tab, nat_lt, nat_tests, not, not-true, nothing, on, or_true, plain_from, plain_lines_fit, put_first, refl, run, same_blank, same_break, split, starts, stop, suc, sym, tabs, true, turn, turn_in, turned, ℕ, ◌&&◌, ◌++◌, ◌-◌, ◌==◌, ◌||◌, ◌∙◌, ◌∷◌, ◌≡◌, ◌≤◌, ◌⊎◌, break_leads}
+use Rattle.std.proofs.Math.Seq.{take-nil}
+use Rattle.proof_scanner.proofs.Common.{Bool, Context, Err, Fault, List, Ok, Plain, PlainState, Position, Read, Result, Stop, Turn, [], after_first, and_false, and_parts, and_then, ap, append_assoc, append_cancel_right, arith, at_char, at_dash, begins_flow, begins_solid, ended, eqb-true, fail, false, first, has_break, has_dash_before_flow, has_tab_within, if◌then◌else◌, inl, inr, is_at_comment_or_end, is_before_line_feed, is_blanks, is_gap, joined, last_line, leading, lines_have_no_tab, nat_lt, nat_tests, not, not-true, nothing, on, or_true, plain_from, plain_lines_fit, put_first, refl, run, same_blank, same_break, split, starts, stop, suc, sym, tabs, true, turn, turn_in, turned, ℕ, ◌&&◌, ◌++◌, ◌-◌, ◌==◌, ◌||◌, ◌∙◌, ◌∷◌, ◌≡◌, ◌≤◌, ◌⊎◌, break_leads}
 use Rattle.defs_text.specs.Classes as classes
 use Rattle.yaml_chars.specs.Class.{is_break, is_blank}
 use Rattle.yaml_chars.specs.Class as model_classes
 use Rattle.model_scanner.specs.Plain.{Mode, inside, between, goes_on, plain}
-use Rattle.proof_scanner.proofs.Sound.Steps.{blank_more, last_first, last_whole, none_before, same_flow_start, take_none}
+use Rattle.proof_scanner.proofs.Sound.Steps.{blank_more, last_first, last_whole, same_flow_start}
 
 -- ---- what a text says of TABs, character by character
 
@@ -71,10 +72,6 @@ IsCalm tabs l = Unit {0}
 abbrev pub IsAt : PlainState → Spot → (rest : List ℕ) → Type 0
 IsAt t x a = (spot_of t.mode t.folded.leading t.position.col ≡ x) ⊎ ((x ≡ at 0) × (begins_break a ≡ true))
 
-feed_breaks : (c : ℕ) (a : List ℕ) → is_cr_lf c a ≡ true → begins_break a ≡ true
-unfolding is_break
-feed_breaks c b h = grind arith
-
 module _ (ctx : Context) (start : Position) (c : ℕ) (a : List ℕ) where
   -- What a turn does at a character: it stays before it; fails, because of a TAB or a dash; or is after it.
   pub data Goes (m : Mode) (s : PlainState) : Turn PlainState Fault → Type 0 where
@@ -89,24 +86,11 @@ module _ (ctx : Context) (start : Position) (c : ℕ) (a : List ℕ) where
       unfolding is_blank
       no_spot a h = grind (arith, breaks, solid)
 
-      -- one more character of a line
-      char_inside : (s : PlainState) → s.folded.leading ≡ false → Goes inside s (on (at_char c s.position s.folded))
-      char_inside s l = goes _ l refl (inl (sym (no_spot in_text refl))) (grind arith) (rw (breaks, solid) refl)
-
-      -- the first one after a gap
-      char_between : (s : PlainState) → (ctx.flow && true && (c == 45) && begins_flow a) ≡ false → Goes between s (on (at_char c s.position (joined s.folded)))
-      char_between s d = goes _ refl (grind arith) (inl (sym (no_spot (spot_of between s.folded.leading s.position.col) (grind arith)))) d (rw (breaks, solid) refl)
-
   -- ---- a turn
 
-  -- the dash that is looked for before a scalar goes on
-  pub dash_is : (ctx.flow && true && (c == 45) && begins_flow a) ≡ at_dash ctx.flow (c ∷ a)
-  unfolding at_dash model_classes.is_flow
-  dash_is = ap (λ b. b && (c == 45) && begins_flow a) (grind arith) ∙ ap (λ b. ctx.flow && (c == 45) && b) (sym (same_flow_start a))
-
   pub turn_goes : (m : Mode) (s : PlainState) → IsCalm m s.folded.leading → Goes m s (turn_in ctx start m s c a)
-  unfolding is_break is_blank goes_on
-  turn_goes a s l = grind (arith, eqb-true, on, stop, char_inside, stays, char_between, dash_is, tabs, fail, feed_breaks, between, break_leads, goes, fails)
+  unfolding is_break is_blank goes_on at_dash model_classes.is_flow
+  turn_goes a s l = grind (arith, eqb-true, on, stop, stays, tabs, fail, same_flow_start, between, break_leads, goes, fails, no_spot)
 
 -- ---- a run
 
@@ -171,10 +155,7 @@ lines_are column tabbed t = is_blanks (first_line t) && plain_lines_fit column t
 
 -- all lines: the first, and the others
 pub all_lines : (column : ℕ) (ls : List (List ℕ)) (last : List ℕ) → lines_have_no_tab column (ls ++ (last ∷ [])) ≡ (line_is 0 column (first_of ls last) && lines_have_no_tab column (after_first ls last))
-all_lines column a last = grind (arith, none_before)
-
-put_first_others : (c : ℕ) (ls : List (List ℕ)) (last : List ℕ) → after_first (put_first c ls last).complete (put_first c ls last).last ≡ after_first ls last
-put_first_others c a last = grind arith
+all_lines column a last = grind arith
 
 pub feed_first : (c : ℕ) (r : List ℕ) → is_before_line_feed c r ≡ true → first_line r ≡ []
 unfolding classes.is_break
@@ -190,10 +171,10 @@ module _ (column : ℕ) (c : ℕ) (r : List ℕ) where
     split_is = rw no_break refl
 
     pub first_is : first_line (c ∷ r) ≡ c ∷ first_line r
-    first_is = ap (λ s. first_of s.complete s.last) split_is ∙ (grind arith)
+    first_is = grind (arith, split_is)
 
     pub others_are : plain_lines_fit column (c ∷ r) ≡ plain_lines_fit column r
-    others_are = ap (λ s. lines_have_no_tab column (after_first s.complete s.last)) split_is ∙ ap (λ ls. lines_have_no_tab column ls) (put_first_others c (split r).complete (split r).last)
+    others_are = grind (arith, split_is)
 
     -- a blank more, which is no TAB left of the column
     blank_line : (k : ℕ) → classes.is_blank c ≡ true → ((c == 9) && nat_lt k column) ≡ false → (l : List ℕ) → line_is (suc k) column l ≡ true → line_is k column (c ∷ l) ≡ true
@@ -201,7 +182,7 @@ module _ (column : ℕ) (c : ℕ) (r : List ℕ) where
 
     -- content ends the indentation
     content_line : (k : ℕ) → classes.is_blank c ≡ false → (l : List ℕ) → line_is k column (c ∷ l) ≡ true
-    content_line k f l = rw (f, take_none (column - k)) refl
+    content_line k f l = rw (f, take-nil (column - k)) refl
 
 -- What the scan says of each character says that the further lines fit.
 lines_fit : (column : ℕ) (x : Spot) (t g rest : List ℕ) → tabs_fit column x (t ++ g) rest ≡ true → lines_are column x t ≡ true
@@ -225,12 +206,12 @@ tabbed_gap column [] rest n h = h
 tabbed_gap column (c ∷ g) rest n h = grind (arith, and_parts, same_break, tabbed_gap column g rest)
 
 blanks_gap : (column k : ℕ) (g rest : List ℕ) → has_break g ≡ false → is_gap g ≡ true → tabs_fit column (at k) g rest ≡ true → IsClear (column - k) g rest
-blanks_gap column k [] rest n w h = grind (arith, take_none)
+blanks_gap column k [] rest n w h = grind (arith, take-nil)
 blanks_gap column k (c ∷ g) rest n w h = grind (arith, and_parts, tabbed_gap, same_break, same_blank, blank_more, blanks_gap column (suc k) g rest)
 
 broken_gap : (column : ℕ) (x : Spot) (g rest : List ℕ) → is_gap g ≡ true → has_break g ≡ true → tabs_fit column x g rest ≡ true → IsClear column (last_line g) rest
 broken_gap column x [] rest w b h = absurd (cc b)
-broken_gap column x (c ∷ g) rest w b h = grind (arith, and_parts, same_break, last_first, or_true, last_whole, none_before, blanks_gap, broken_gap column (past_spot column x c) g rest)
+broken_gap column x (c ∷ g) rest w b h = grind (arith, and_parts, same_break, last_first, or_true, last_whole, blanks_gap, broken_gap column (past_spot column x c) g rest)
 
 -- ---- the dash
 
@@ -248,25 +229,13 @@ pub record PlainFits (ctx : Context) (p : Position) (piece gap rest : List ℕ) 
   pub dash : (ctx.flow && has_dash_before_flow piece (gap ++ rest)) ≡ false
   pub clear : is_gap gap ≡ true → has_break gap ≡ true → (is_at_comment_or_end rest ≡ true) ⊎ (has_tab_within ctx.indent (last_line gap) ≡ false)
 
-starts_deep : (ctx : Context) (a : List ℕ) (p : Position) → starts ctx a p ≡ Ok tt → ctx.flow ≡ true → ctx.indent ≤ p.col
-unfolding starts
-starts_deep ctx a p h f = grind (arith, at)
-
 of_passed : (ctx : Context) (p : Position) (text piece gap rest : List ℕ) → text ≡ piece ++ (gap ++ rest) → (ctx.flow ≡ true → ctx.indent ≤ p.col) → Passed ctx.indent ctx.flow in_text false text rest → PlainFits ctx p piece gap rest
 of_passed ctx p text piece gap rest cut deep w =
     let same : w.passed ≡ piece ++ gap = append_cancel_right w.passed (piece ++ gap) rest (sym w.cut ∙ (cut ∙ sym (append_assoc piece gap rest))) in
-    let tabs : tabs_fit ctx.indent in_text (piece ++ gap) rest ≡ true = rw (sym same) w.tabs_are in
-    let dashes : dashes_fit ctx.flow false (piece ++ gap) rest ≡ true = rw (sym same) w.dashes_are in
-    let after : (y : Spot) × (tabs_fit ctx.indent y gap rest ≡ true) = gap_spot ctx.indent in_text piece gap rest tabs in
-    record {
-      deep = deep;
-      lines = lines_fit ctx.indent in_text piece gap rest tabs;
-      dash = no_last_dash ctx.flow false piece gap rest dashes;
-      clear = λ white breaks. broken_gap ctx.indent after.0 gap rest white breaks after.1;
-    }
+    grind (arith, deep, w, gap_spot ctx.indent in_text piece gap rest, lines_fit ctx.indent in_text piece gap rest, no_last_dash ctx.flow false piece gap rest, broken_gap ctx.indent)
 
 pub plain_fits : (ctx : Context) (p : Position) (text piece gap : List ℕ) (r : Read Plain) → begins_solid text ≡ true → text ≡ piece ++ (gap ++ r.rest) → plain ctx text p ≡ Ok r → PlainFits ctx p piece gap r.rest
-unfolding plain
+unfolding plain starts
 plain_fits ctx p [] piece gap r begins cut e = absurd (cc begins)
 plain_fits ctx p (c ∷ a) piece gap r begins cut e = by (starts ctx (c ∷ a) p) refl e
   where
@@ -280,5 +249,5 @@ plain_fits ctx p (c ∷ a) piece gap r begins cut e = by (starts ctx (c ∷ a) p
     ran (Err g) f h = absurd (cc h)
 
     by : (x : Result (Unit {0}) Fault) → starts ctx (c ∷ a) p ≡ x → and_then x (λ _. plain_from ctx p (c ∷ a) (record { mode = first; position = p; folded = nothing })) ≡ Ok r → PlainFits ctx p piece gap r.rest
-    by (Ok u) f h = of_passed ctx p (c ∷ a) piece gap r.rest cut (starts_deep ctx (c ∷ a) p f) (ran (run (turn ctx p) (c ∷ a) (record { mode = first; position = p; folded = nothing })) refl h)
+    by (Ok u) f h = of_passed ctx p (c ∷ a) piece gap r.rest cut (grind (arith, at)) (ran (run (turn ctx p) (c ∷ a) (record { mode = first; position = p; folded = nothing })) refl h)
     by (Err g) f h = absurd (cc h)

@@ -1,39 +1,29 @@
 -- Anchors, aliases and tags: what holds between two fetches holds after them.
-use Rattle.proof_scanner.proofs.Common.{Arrives, Entry, FlowLevel, Holds, Key, List, NameKind, None, Option, Position, ScannerState, Site, Tok, [], anchor_name, anchor_token, another, ap, arith, begins_free_line, false, fetch_anchor, fetch_tag, gives_node, in_flow, is_empty, is_renewed, least_for, mark_of, node_start, not, on_held, previous_by, push, read, refl, seen, shown_position, sym, true, unled, went, ℕ, ◌∙◌, ◌∷◌, ◌≡◌}
+use Rattle.proof_scanner.proofs.Common.{Arrives, Entry, FlowLevel, Holds, Key, List, NameKind, None, Option, Position, ScannerState, Site, Tok, [], anchor_name, anchor_token, another, arith, false, fetch_anchor, fetch_tag, gives_node, in_flow, is_empty, mark_of, node_start, not, on_held, push, read, refl, seen, true, unled, went, ℕ, ◌∙◌, ◌∷◌, ◌≡◌, allow_key}
 use Rattle.model_scanner.specs.Tag as tags
-use Rattle.proof_scanner.proofs.Sound.Steps.{Onward, IsToken, allowed_past, ArrivesBy, awaits_kept, deep_for, IsDeep, IsRead, node_read, Read, reads_before_none, same_flow, saved_is, site_of, site_then, state_after, with_entries}
+use Rattle.proof_scanner.proofs.Sound.Steps.{Onward, IsToken, ArrivesBy, awaits_kept, deep_for, IsDeep, IsRead, node_read, reads_before_none, same_flow, saved_is, site_of, site_then, with_entries}
 use Rattle.proof_scanner.proofs.Cut.Pieces.Names.{IsProperty, name_property}
 use Rattle.proof_scanner.proofs.Cut.Pieces.Tags.{tag_property}
+use Rattle.proof_scanner.proofs.Sound.Common.{saved_keys}
 
 -- ---- properties
 
--- the tokens of properties and aliases
-abbrev pub IsPropertyToken : Tok → Type 0
-IsPropertyToken tok = IsToken tok gives_node [] another (λ _ _. true) (λ _ _ _. true) (λ _ _ b. b)
-
--- ---- the step
-
--- what was read, for the general step
-abbrev pub property_read : (t : ScannerState) (tok : Tok) (rest : List ℕ) (end : Position) → IsProperty (in_flow t.held) tok t.held.position t.rest rest end → Read
-property_read t tok rest end r = record { tok = tok; piece = r.first ∷ r.more; gap = []; rest = rest; end = end; indents = t.held.indents; indent = t.held.indent; leading = false; allowed = false; adjacent = t.held.adjacent_value_at }
-
-pub property_is_read : (text : List ℕ) (t : ScannerState) (tok : Tok) (rest : List ℕ) (end : Position) (r : IsProperty (in_flow t.held) tok t.held.position t.rest rest end) → IsPropertyToken tok → IsDeep t.held →
-    (fs : List FlowLevel) (ks : List (Option Key)) (es : List Entry) → t.held.flow ≡ fs → (a : ArrivesBy text t fs ks es) → IsRead t None fs a.site a.line es a.separation (property_read t tok rest end r)
-property_is_read text t tok rest end r k deep fs ks es flow a =
-    let x : Site = site_of t fs a.site in
-    let reads = reads_before_none t (state_after t None (property_read t tok rest end r)) (site_then t fs a.site (property_read t tok rest end r)) (r.first ∷ r.more) rest [] refl r.cut refl refl refl refl r.end_is refl k.previous
-    a.blocks_are (k.awaits (not (is_empty fs)) x.blocks x.awaits rest ∙ a.awaits_is) a.are_levels a.was_adjacent (refl, refl, refl) in
-    let piece_is = r.is_piece (seen (with_entries a.site a.line es) x a.separation) None refl (ap not ((grind arith) ∙ sym (same_flow t.held.key_allowed (is_renewed a.site.before a.separation) fs ks es a.are_entries) ∙ sym (ap is_empty flow))) in
-    let allowed : false ≡ allowed_past None (not (is_empty fs)) (previous_by tok) [] = rw k.previous (grind arith) in
-    let quiet : begins_free_line (previous_by tok) [] ≡ false = rw k.previous refl in
-    let shown : (y : Site) → shown_position y (r.first ∷ r.more) tok rest ≡ y.position = λ y. k.shown y (r.first ∷ r.more) rest in
-    assumption (reads, k.act, k.begun, shown, piece_is, deep_for (not (is_empty fs)) tok x (k.least x) (rw (a.blocks_are, a.awaits_is) (grind arith)), k.lines (least_for tok x) (r.first ∷ r.more), k.precedes (not (is_empty fs)) x.blocks (r.first ∷ r.more) rest, allowed, ap not r.in_line, quiet)
-
 -- After a property or an alias what holds between fetches holds.
-property_stands : (text : List ℕ) (t : ScannerState) (tok : Tok) (rest : List ℕ) (end : Position) → IsProperty (in_flow t.held) tok t.held.position t.rest rest end → IsPropertyToken tok → IsDeep t.held → Arrives text t →
+property_stands : (text : List ℕ) (t : ScannerState) (tok : Tok) (rest : List ℕ) (end : Position) → IsProperty (in_flow t.held) tok t.held.position t.rest rest end →
+    IsToken tok gives_node [] another (λ _ _. true) (λ _ _ _. true) (λ _ _ b. b) → IsDeep t.held → Arrives text t →
     Onward text t.rest (on_held (λ s. push t.held.position tok (unled s)) (record { rest = rest; held = record (node_start t.held) { position = end } }))
-property_stands text t tok rest end r k deep a =
-    rw (saved_is t.held) (node_read text t None (property_read t tok rest end r) deep a (property_is_read text t tok rest end r k deep))
+property_stands text t tok rest end r k deep arrives = rw (saved_is t.held) (node_read text t u None tok (r.first ∷ r.more) [] deep arrives is_read)
+  where
+    u : ScannerState
+    u = on_held (λ s. push t.held.position tok (unled s)) (record { rest = rest; held = record (allow_key false (record t.held { keys = saved_keys t.held })) { position = end } })
+
+    is_read : (fs : List FlowLevel) (ks : List (Option Key)) (es : List Entry) → t.held.flow ≡ fs → (a : ArrivesBy text t fs ks es) →
+        IsRead t u None fs a.site a.line es a.separation tok (r.first ∷ r.more) []
+    is_read fs ks es flow a =
+        let x : Site = site_of t fs a.site in
+        let reads = reads_before_none t u (site_then t fs a.site (r.first ∷ r.more) tok rest) (r.first ∷ r.more) rest [] refl r.cut refl refl refl refl r.end_is refl k.previous
+        a.blocks_are (k.awaits (not (is_empty fs)) x.blocks x.awaits rest ∙ a.awaits_is) a.are_levels a.was_adjacent (refl, refl, refl) in
+        grind (arith, reads, k, deep_for, same_flow, r.is_piece (seen (with_entries a.site a.line es) x a.separation) None refl, r.in_line)
 
 -- ---- anchors, aliases and tags
 

@@ -1,10 +1,10 @@
 -- The elements of a quoted body by their characters, and the lines that are left of one from a column on.
+use Rattle.std.proofs.Math.Seq.{take-nil}
 use Rattle.proof_scanner.proofs.Common.{sym, ◌∙◌, Bool, Element, Lines, List, None, Option, Some, Spelled, [], ap, arith, begins_with, blank, blanks_before, break_further, content, double_quoted_element, double_quoted_value, element_of, elements, eqb-true, escape, escape_by, escaped_break, escapes, false, folded_elements, has_more, has_tab_within, if◌then◌else◌, is_empty, length, line, line_break, lines_fit, lookup, nat_le, nat_lt, not, numeric_escape, numeric_escapes, plain_element, quote_of, refl, same_blank, same_break, single_quoted_element, single_quoted_value, suc, true, value_of, without_last, ℕ, ◌&&◌, ◌++◌, ◌+◌, ◌-◌, ◌==◌, ◌||◌, ◌∷◌, ◌≡◌}
 use Rattle.defs_text.specs.Classes as classes
 use Rattle.defs_text.specs.FlowScalar.{last_line}
 use Rattle.yaml_chars.specs.Class.{is_break, is_blank}
 use Rattle.proof_lexers.proofs.Quoted.Turns.{spelled}
-use Rattle.proof_scanner.proofs.Sound.LastLines.{take_none, none_before}
 
 -- ---- elements by their characters
 
@@ -73,10 +73,10 @@ lines_from k column e (last_line l) = fits_from k column (not (e && is_empty l))
 lines_from k column e (line l escaped ls) = fits_from k column (has_more l || escaped) (blanks_before l) && lines_fit column escaped ls
 
 pub lines_here : (column : ℕ) (e : Bool) (ls : Lines) → lines_from 0 column e ls ≡ lines_fit column e ls
-lines_here column e a = grind (arith, none_before)
+lines_here column e a = grind arith
 
 pub empty_here : (k column : ℕ) → fits_from k column false [] ≡ true
-empty_here k column = rw (take_none (column - k)) refl
+empty_here k column = rw (take-nil (column - k)) refl
 
 -- ---- a body
 

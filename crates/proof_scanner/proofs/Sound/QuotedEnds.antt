@@ -1,5 +1,5 @@
 -- What the scanner checks after a quoted scalar: the line holds no more, or goes on as it may.
-use Rattle.proof_scanner.proofs.Common.{Bool, Err, Fault, Holds, List, Ok, Position, Result, ScannerState, SkipTabs, Yes, [], after, and_parts, ap, append_assoc, arith, begins_with, both_hold, chained, check_after_quoted, either, eqb-true, false, goes_on_quoted, has_break, has_no_nul, in_flow, is_at_line_end, is_blank, is_blanks, is_blanks_and_comment, is_break, is_breakz, is_nul, is_on_line, is_separation, leading, line_is_done, may_follow_quoted, no_nul_after, not, or_right, peek, position_after, position_past, quoted_may_end, refl, refused, skip_spaces, space, sym, true, went, ℕ, ◌&&◌, ◌++◌, ◌<◌, ◌==◌, ◌||◌, ◌∙◌, ◌∷◌, ◌≡◌, ◌≤◌, nat_tests}
+use Rattle.proof_scanner.proofs.Common.{Bool, Err, Fault, Holds, List, Ok, Position, Result, ScannerState, SkipTabs, Yes, [], after, and_parts, ap, append_assoc, arith, begins_with, both_hold, chained, check_after_quoted, either, eqb-true, false, goes_on_quoted, has_break, has_no_nul, in_flow, is_at_line_end, is_blank, is_blanks, is_blanks_and_comment, is_break, is_breakz, is_nul, is_on_line, is_separation, leading, line_is_done, may_follow_quoted, no_nul_after, not, or_right, peek, position_after, position_past, quoted_may_end, refl, refused, skip_spaces, space, sym, true, went, ℕ, ◌++◌, ◌<◌, ◌==◌, ◌∙◌, ◌∷◌, ◌≡◌, ◌≤◌, nat_tests}
 use Rattle.yaml_chars.specs.Class as model_classes
 use Rattle.proof_lexers.specs.PlainEnds as plains
 use Rattle.proof_scanner.proofs.Cut.Passes.{Spaced, spaces_skipped}
@@ -38,11 +38,7 @@ blanks_and_comment (c ∷ s) next f h = grind (arith, blanks_and_comment s next)
 -- before what does not end the line it is blanks alone
 pub blanks_alone : (in_comment : Bool) (s next : List ℕ) → is_separation in_comment s next ≡ true → plains.has_break s ≡ false → is_at_line_end next ≡ false → (in_comment ≡ false) × (is_blanks s ≡ true)
 blanks_alone a [] next f h e = grind arith
-blanks_alone true (c ∷ s) next f h e = grind (arith, blanks_alone true s next)
-blanks_alone false (c ∷ s) next f h e = (refl, by (is_blank c) (is_break c) (c == 35) f h (λ n g i. blanks_alone n s next g i e))
-  where
-    by : (b k n : Bool) → ((b || k || n) && is_separation n s next) ≡ true → (k || plains.has_break s) ≡ false → ((n : Bool) → is_separation n s next ≡ true → plains.has_break s ≡ false → (n ≡ false) × (is_blanks s ≡ true)) → (b && is_blanks s) ≡ true
-    by b a n f h d = grind arith
+blanks_alone a (c ∷ s) next f h e = grind (arith, blanks_alone true s next, blanks_alone false s next)
 
 -- up to the line's end
 pub leading_line : (s next : List ℕ) → plains.has_break s ≡ false → is_at_line_end next ≡ true → has_no_nul next ≡ true → leading is_on_line (s ++ next) ≡ s
@@ -90,12 +86,9 @@ may_end_by : (flow : Bool) (p : Position) (piece s rest : List ℕ) (here : Posi
 unfolding model_classes.is_break
 may_end_by flow p piece s rest here in_line none f h no_hash is follows = grind (arith, nat_tests, eqb-true, is_done, at_end_of, blanks_alone, not_at_end, or_right, after_blanks, some)
   where
-    same : (p.line == here.line) ≡ true → has_break piece ≡ false
-    same e = grind (arith, same_line, eqb-true, on_one_line)
-
     some : (r : List ℕ) → is_breakz (peek r) ≡ false → may_follow_quoted flow (p.line == here.line) (peek r) ≡ true → goes_on_quoted flow piece (after is_blank r) ≡ true
     some [] e k = absurd (cc e)
-    some (c ∷ r) e k = let q = comes_by flow piece p.line here.line c r same k e in rw q.1 q.0
+    some (c ∷ r) e k = let q = comes_by flow piece p.line here.line c r (grind (arith, same_line, eqb-true, on_one_line)) k e in rw q.1 q.0
 
 -- blanks and a comment were skipped after a piece, and what stands there may follow a quoted scalar
 pub record Checked (piece : List ℕ) (t u : ScannerState) : Type 0 where
@@ -109,12 +102,7 @@ checks p piece t u in_line none is s no_hash follows =
     let cut : t.rest ≡ g ++ u.rest = s.is_rest ∙ sym (append_assoc s.blanks s.comment u.rest) in
     let here : u.held.position ≡ position_after (position_after p piece (g ++ u.rest)) g u.rest = ap (λ h. h.position) s.is_held ∙ ap (λ q. position_after q g u.rest) (is ∙ ap (λ r. position_after p piece r) cut) in
     let same_flow : in_flow u.held ≡ in_flow t.held = ap in_flow s.is_held in
-    record {
-      spaces = s;
-      may_end = rw cut
-          (may_end_by (in_flow t.held) p piece g u.rest u.held.position in_line (no_nul_after g u.rest (rw (sym cut) none)) s.is_filled s.no_break (rw (sym cut) no_hash)
-          here (rw (sym same_flow) follows));
-    }
+    record { spaces = s; may_end = grind (arith, cut, here, same_flow, no_nul_after g u.rest, may_end_by (in_flow t.held) p piece g u.rest u.held.position in_line) }
 
 pub quoted_checked : (p : Position) (piece : List ℕ) (t : ScannerState) → ends_in_line piece ≡ true → has_no_nul t.rest ≡ true → t.held.position ≡ position_after p piece t.rest → Holds (Checked piece t) (check_after_quoted p.line t)
 unfolding check_after_quoted

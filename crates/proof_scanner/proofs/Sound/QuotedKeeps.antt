@@ -1,11 +1,10 @@
 -- Quoted scalars: what holds between two fetches holds after them.
-use Rattle.proof_scanner.proofs.Common.{Arrives, Bool, Context, Entry, FlowLevel, HasNoTabs, Held, Holds, IsPiece, IsQuotedRead, Key, List, None, Ok, Option, Position, Quotes, ScannerState, Site, Some, Tok, [], adjacent_here, allow_key, and_parts, ap, append_assoc, append_cancel_right, are_single, arith, begins_with, between, both_hold, chained, columns, context, element_of, ends_before, false, fetch_flow_scalar, gives_node, go_on, has_break, has_no_nul, has_open_level, in_flow, inr, is_break, is_empty, is_nul, least_column, no_nul_after, not, not-true, on_held, position_after, position_append, push, quote_of, quoted, quoted_lines_fit, quoted_may_end, quoted_scalar, quoted_style, read, read_as, refl, skip_to_next_token, subst, sym, true, unled, value_of, went, ℕ, ◌&&◌, ◌++◌, ◌-◌, ◌||◌, ◌∙◌, ◌∷◌, ◌≡◌, ◌≤◌, eqb-true, nat_tests}
-use Rattle.defs_token.specs.Account.{Account as PieceAccount}
+use Rattle.proof_scanner.proofs.Common.{Arrives, Bool, Context, Entry, FlowLevel, HasNoTabs, Held, Holds, IsQuotedRead, Key, List, None, Ok, Option, Position, Quotes, ScannerState, Site, Some, Tok, [], adjacent_here, allow_key, and_parts, ap, append_assoc, append_cancel_right, are_single, arith, between, both_hold, chained, columns, context, element_of, ends_before, false, fetch_flow_scalar, gives_node, go_on, has_break, has_no_nul, has_open_level, in_flow, inr, is_break, is_empty, is_nul, least_column, no_nul_after, not, on_held, position_after, position_append, push, quote_of, quoted, quoted_lines_fit, quoted_may_end, quoted_scalar, quoted_style, read, read_as, refl, skip_to_next_token, subst, sym, true, unled, value_of, went, ℕ, ◌&&◌, ◌++◌, ◌-◌, ◌||◌, ◌∙◌, ◌∷◌, ◌≡◌, ◌≤◌, eqb-true, nat_tests}
 use Rattle.model_scanner.specs.Machine as machine
 use Rattle.proof_lexers.specs.PlainEnds as plains
 use Rattle.proof_lexers.proofs.Quoted.ScanEnds.{scans_end}
 use Rattle.proof_scanner.proofs.Cut.Pieces.Quoted.{some_chars}
-use Rattle.proof_scanner.proofs.Sound.Steps.{ArrivesBy, Checked, Cleared, Exact, IsAt, IsDeep, IsRead, IsToken, Onward, Read, break_append, deep_for, ends_in_line, exact, least_is, next_of, node_read, not_before_after, on_one_line, quoted_checked, same_has_break, saved_is, saved_keys, separation_append, site_of, site_then, skip_clears, some_levels, unbroken}
+use Rattle.proof_scanner.proofs.Sound.Steps.{ArrivesBy, Checked, Cleared, Exact, IsAt, IsDeep, IsRead, IsToken, Onward, break_append, deep_for, ends_in_line, exact, least_is, node_read, not_before_after, on_one_line, quoted_checked, same_has_break, saved_is, saved_keys, separation_append, site_of, site_then, skip_clears, some_levels, unbroken}
 use Rattle.proof_scanner.proofs.Cut.Scalars.{adjacent_quoted}
 use Rattle.proof_lexers.proofs.Bridges.{or_false}
 use Rattle.proof_scanner.proofs.Sound.QuotedBreaks.{same_limit}
@@ -36,20 +35,13 @@ quoted_as quotes ctx p more x none e =
 -- a quote is no break
 pub in_line : (single : Bool) (body : List ℕ) → ends_in_line (piece_of single body) ≡ true
 unfolding is_break
-in_line single body = last (quote_of single) (quote_of single) body (grind arith)
+in_line single body = last (quote_of single) body
   where
-    last : (c q : ℕ) (r : List ℕ) → not (is_break q) ≡ true → ends_in_line (c ∷ (r ++ q ∷ [])) ≡ true
-    last c q [] h = h
-    last c q (d ∷ r) h = last d q r h
+    last : (c : ℕ) (r : List ℕ) → ends_in_line (c ∷ (r ++ quote_of single ∷ [])) ≡ true
+    last c [] = grind arith
+    last c (d ∷ r) = last d r
 
 -- ---- its token
-
--- the token of a quoted scalar
-abbrev pub IsQuotedToken : (single : Bool) → Tok → Type 0
-IsQuotedToken single tok = IsToken tok gives_node [] quoted_scalar (λ column piece. quoted_lines_fit column (element_of single) piece) quoted_may_end (λ _ _ b. b)
-
-piece_is : (a : PieceAccount) (quotes : Quotes) (body next value : List ℕ) → value_of (are_single quotes) body ≡ Some value → ends_before (are_single quotes) next ≡ true → IsPiece a (piece_of (are_single quotes) body) next None a.position (Tok.scalar (quoted_style quotes) value)
-piece_is a b d e g is i = grind (arith, not-true, begins_with)
 
 -- ---- the step
 
@@ -70,7 +62,7 @@ module _ (text : List ℕ) (quotes : Quotes) (t : ScannerState) (a : Arrives tex
   abbrev pub least : ℕ
   least = least_column (columns t.held.indent t.held.indents) (has_open_level t.held.indents)
 
-  k : IsQuotedToken (are_single quotes) tok
+  k : IsToken tok gives_node [] quoted_scalar (λ column piece. quoted_lines_fit column (element_of (are_single quotes)) piece) quoted_may_end (λ _ _ b. b)
   k = grind arith
 
   module _ (v : ScannerState) (c : Checked piece closed v) where
@@ -101,22 +93,15 @@ module _ (text : List ℕ) (quotes : Quotes) (t : ScannerState) (a : Arrives tex
       at_token : is_empty w.rest ≡ false → IsAt quoted_scalar least gap w.held
       at_token some = rw (sym (append_cancel_right z.passed b.separation w.rest (sym z.cut ∙ b.cut))) (z.clear some)
 
-      end_is : end ≡ position_after (position_after t.held.position piece (gap ++ w.rest)) gap w.rest
-      end_is = ap (λ p. position_after p gap w.rest) (q.end_is ∙ ap (λ r. position_after t.held.position piece r) (c.spaces.is_rest ∙ (sym (append_assoc c.spaces.blanks c.spaces.comment v.rest) ∙ (ap (λ r. spaces ++ r) b.cut ∙ sym (append_assoc spaces b.separation w.rest)))))
+      next_is : x.rest ≡ gap ++ w.rest
+      next_is = c.spaces.is_rest ∙ (sym (append_assoc c.spaces.blanks c.spaces.comment v.rest) ∙ (ap (λ r. spaces ++ r) b.cut ∙ sym (append_assoc spaces b.separation w.rest)))
 
-      abbrev d : Read
-      d = record {
-        tok = tok;
-        piece = piece;
-        gap = gap;
-        rest = w.rest;
-        end = end;
-        indents = t.held.indents;
-        indent = t.held.indent;
-        leading = b.is_leading;
-        allowed = allowed_then;
-        adjacent = end.index;
-      }
+      end_is : end ≡ position_after (position_after t.held.position piece (gap ++ w.rest)) gap w.rest
+      end_is = ap (λ p. position_after p gap w.rest) (q.end_is ∙ ap (λ r. position_after t.held.position piece r) next_is)
+
+      -- the scanner after it
+      abbrev u : ScannerState
+      u = record { rest = w.rest; held = push t.held.position tok (record closed.held { position = end; leading = b.is_leading; key_allowed = allowed_then; adjacent_value_at = end.index }) }
 
       leads : is_empty t.held.indents ≡ false → is_empty w.rest ≡ false → b.is_leading ≡ has_break gap
       leads i some = sym (ap (λ h. h.leading) held_is) ∙ (at_token some).leading_is (ap (λ h. is_empty h.indents) held_is ∙ i)
@@ -136,35 +121,22 @@ module _ (text : List ℕ) (quotes : Quotes) (t : ScannerState) (a : Arrives tex
         abbrev fl : Bool
         fl = not (is_empty fs)
 
-        no_tabs : HasNoTabs (site_then t fs r.site d) gap w.rest
-        no_tabs = grind (arith, k, or_false, (k.awaits fl at.blocks at.awaits (next_of d)), (ap (λ bs. least_column bs at.awaits) r.blocks_are ∙ ap (λ y. least_column (columns t.held.indent t.held.indents) y) r.awaits_is), at_token)
+        least_here : least_column at.blocks at.awaits ≡ least
+        least_here = ap (λ bs. least_column bs at.awaits) r.blocks_are ∙ ap (λ y. least_column (columns t.held.indent t.held.indents) y) r.awaits_is
 
-        is_read : IsRead t None fs r.site r.line es r.separation d
-        is_read = grind (
-          arith,
-          nat_tests,
-          eqb-true,
-          (c.spaces.is_rest ∙ (sym (append_assoc c.spaces.blanks c.spaces.comment v.rest) ∙ (ap (λ r. spaces ++ r) b.cut ∙ sym (append_assoc spaces b.separation w.rest)))),
-          (separation_append false spaces b.separation w.rest (rw (sym b.cut) c.spaces.is_filled) b.is_filled),
-          end_is,
-          (k.awaits fl at.blocks at.awaits (next_of d)),
-          no_tabs,
-          k,
-          leads,
-          some_levels,
-          adjacent_quoted,
-          piece_is,
-          deep_for,
-          (ap (λ bs. least_column bs at.awaits) r.blocks_are ∙ ap (λ y. least_column (columns t.held.indent t.held.indents) y) r.awaits_is),
-          (ap (λ f. not (is_empty f)) flow),
-          or_false,
-          (break_append spaces b.separation ∙ (ap (λ y. y || has_break b.separation) no_break ∙ sym (same_has_break b.separation))),
-          one_line_of,
-        )
+        no_tabs : HasNoTabs (site_then t fs r.site piece tok (gap ++ w.rest)) gap w.rest
+        no_tabs = grind (arith, k, or_false, k.awaits fl at.blocks at.awaits (gap ++ w.rest), least_here, at_token)
+
+        is_read : IsRead t u None fs r.site r.line es r.separation tok piece gap
+        is_read =
+            let filled = separation_append false spaces b.separation w.rest (rw (sym b.cut) c.spaces.is_filled) b.is_filled in
+            let breaks = break_append spaces b.separation ∙ (ap (λ y. y || has_break b.separation) no_break ∙ sym (same_has_break b.separation)) in
+            let awaits_then = k.awaits fl at.blocks at.awaits (gap ++ w.rest) in
+            let inside = ap (λ f. not (is_empty f)) flow in
+            grind (arith, nat_tests, eqb-true, next_is, end_is, awaits_then, no_tabs, k, leads, some_levels, adjacent_quoted, deep_for, least_here, inside, or_false, one_line_of, filled, breaks)
 
       node : Onward text t.rest (on_held (λ s. push t.held.position tok (adjacent_here s)) w)
-      node = rw held_is
-          (node_read text t None d deep a is_read)
+      node = rw held_is (node_read text t u None tok piece gap deep a is_read)
 
 -- `'` or `"`
 pub quoted_keeps : (text : List ℕ) (quotes : Quotes) (t : ScannerState) (more : List ℕ) → t.rest ≡ quote_of (are_single quotes) ∷ more → IsDeep t.held → Arrives text t → Holds (Onward text t.rest) (fetch_flow_scalar quotes t)

@@ -1,6 +1,6 @@
 -- What was read from one state to another: a piece at a site, and a separation after it; and what the scanner holds then that no key decides.
 use Rattle.proof_scanner.proofs.Common.{Account, AreEntries, AreLevels, AreNumbered, Before, Bool, FlowLevel, HasNoTabs, IsAdjacent, IsCarriedOn, IsLeading, IsLine, IsOpenOutside, IsReadOn, Key, KnowsKey, List, MayChoose, Option, Position, Previous, ScannerState, Site, SoFar, Stands, another, arith, before_by, before_past, begins_free_line, begins_line, chosen, columns, false, flow_collection, has_no_break, has_no_nul, has_open_level, is_empty, is_renewed, is_separation, is_waiting, length, no_nul_after, not, ap, length-append, ◌<◌, other, outside_key, position_after, suc, tokens_up_to, true, ℕ, ◌++◌, ◌≡◌, ◌≤◌, ◌⊎◌, eqb-true, nat_tests, chained, tried, Holds, Result, Fault, Held, ◌>>=◌, with_held}
-use Rattle.proof_scanner.proofs.Sound.Common.{adjacent_other, index_after, none_indents, not_none, stands_by}
+use Rattle.proof_scanner.proofs.Sound.Common.{adjacent_other, index_after, not_none, stands_by}
 
 -- What a step leaves is known, if it goes on, with what else is so.
 pub exactly : {A B C : Type 0} {x : A} {P : B → Type 0} {r : Result A Fault} (k : A → Result B Fault) → Holds (λ u. (u ≡ x) × C) r → (C → Holds P (k x)) → Holds P (r >>= k)
@@ -45,14 +45,11 @@ pub record Onward (text before : List ℕ) (u : ScannerState) : Type 0 where
   pub stands : Stands text u
   pub less : length u.rest < length before
 
-filled : (piece : List ℕ) → is_empty piece ≡ false → 0 < length piece
-filled piece h = grind arith
-
 pub stands_so : (text : List ℕ) (t u : ScannerState) (piece next gap : List ℕ) (gs : List FlowLevel) (ls : List (Option Key)) (base : Account) → has_no_nul t.rest ≡ true → t.held.started ≡ true → t.held.ended ≡ false →
     Reads t u base.site piece next gap → StandsThen text u gs ls base gap → Onward text t.rest u
 stands_so text t u piece next gap gs ls base clean started going r g = record {
   stands = grind (arith, no_nul_after, stands_by);
-  less = let first = ap length r.cut in let second = ap length r.is_rest in let n = length-append piece next in let m = length-append gap u.rest in omega (arith, first, second, n, m, filled piece r.is_solid);
+  less = let first = ap length r.cut in let second = ap length r.is_rest in let n = length-append piece next in let m = length-append gap u.rest in omega (arith, first, second, n, m, not_none piece r.is_solid);
 }
 
 -- ---- what is the same for many pieces
@@ -71,7 +68,7 @@ quiet_before before q gap rest a h = grind arith
 pub reads_in_line : (t u : ScannerState) (y : Site) (piece next gap : List ℕ) → is_empty piece ≡ false → t.rest ≡ piece ++ next → next ≡ gap ++ u.rest → is_separation false gap u.rest ≡ true → has_no_break gap ≡ true → u.held.position ≡ position_after y.position gap u.rest →
     u.held.leading ≡ false → (y.before ≡ another) ⊎ (y.before ≡ flow_collection) → y.blocks ≡ columns u.held.indent u.held.indents → y.awaits ≡ has_open_level u.held.indents → AreLevels u.held.indent u.held.indents →
     (is_empty u.held.flow ≡ false → IsAdjacent (before_past (before_by y.before) gap) u.held.position u.held.adjacent_value_at u.rest) → u.held.adjacent_value_at ≤ u.held.position.index → (u.held.started ≡ t.held.started) × (u.held.ended ≡ t.held.ended) → Reads t u y piece next gap
-reads_in_line t u y piece next gap solid cut is_rest fills a place leads before columns_are awaits levels adjacent less same = grind (arith, quiet_before, none_indents)
+reads_in_line t u y piece next gap solid cut is_rest fills a place leads before columns_are awaits levels adjacent less same = grind (arith, quiet_before)
 
 -- the same, where no colon may stand next to the piece
 pub reads_before_none : (t u : ScannerState) (y : Site) (piece next gap : List ℕ) → is_empty piece ≡ false → t.rest ≡ piece ++ next → next ≡ gap ++ u.rest → is_separation false gap u.rest ≡ true → has_no_break gap ≡ true →

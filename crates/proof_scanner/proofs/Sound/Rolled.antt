@@ -1,5 +1,5 @@
 -- Where a block collection begins, and where the value of an entry is awaited: the levels of indentation, and the columns of the block collections.
-use Rattle.proof_scanner.proofs.Common.{AreCollections, AreLevels, Bool, Held, Indent, IsNotRight, IsTopLevel, List, Option, Position, Tok, Token, [], ap, arith, columns, deepen, drop_open, drop_open_level, false, has_open_level, if◌then◌else◌, in_block, in_flow, innermost, is_deeper, is_empty, level, nat_le, nat_lt, opened, placed, refl, roll_indent, roll_one_col_indent, subst, sym, token, top_needs_block_end, true, ℕ, ◌+◌, ◌-◌, ◌<◌, ◌∙◌, ◌∷◌, ◌≡◌, ◌≤◌, eqb-true}
+use Rattle.proof_scanner.proofs.Common.{AreCollections, AreLevels, Held, Indent, IsNotRight, List, Option, Position, Tok, Token, [], arith, columns, deepen, drop_open, drop_open_level, false, has_open_level, if◌then◌else◌, in_block, in_flow, innermost, is_deeper, is_empty, nat_le, nat_lt, opened, placed, refl, roll_indent, roll_one_col_indent, sym, token, top_needs_block_end, true, ℕ, ◌+◌, ◌∷◌, ◌≡◌, ◌≤◌, eqb-true, nat_tests, nat_tests}
 
 -- a column is deeper than the innermost collection just where it is deeper than its level
 pub deeper_is : (col i : ℕ) (ds : List Indent) → AreCollections i ds → is_deeper col (columns i ds) ≡ nat_lt i (col + 1)
@@ -15,63 +15,27 @@ pub record RollsTo (col : ℕ) (number : Option ℕ) (t : Token) (s u : Held) : 
   pub are_levels : AreLevels indent indents
   pub is_top : s.indent ≤ col + 1 → top_needs_block_end indents ≡ true
 
-deepened : (col : ℕ) (number : Option ℕ) (t : Token) (s : Held) → AreCollections s.indent s.indents → s.indent ≤ col + 1 → RollsTo col number t s (deepen col number t s)
-unfolding deepen
-deepened col number t s a low = by (nat_lt s.indent (col + 1)) refl
-  where
-    bs : List ℕ
-    bs = columns s.indent s.indents
-
-    by : (b : Bool) → nat_lt s.indent (col + 1) ≡ b → RollsTo col number t s (if b then record s { indents = level s.indent true ∷ s.indents; indent = col + 1; tokens = placed number t s.tokens } else s)
-    by true e =
-        let deeper : true ≡ is_deeper col bs = sym (deeper_is col s.indent s.indents a ∙ e) in
-        record {
-          indents = level s.indent true ∷ s.indents;
-          indent = col + 1;
-          is_held = ap (λ b. record s { indents = level s.indent true ∷ s.indents; indent = col + 1; tokens = (if b then placed number t s.tokens else s.tokens) }) deeper;
-          columns_are = ap (λ n. n ∷ bs) (omega arith) ∙ ap (λ b. if b then col ∷ bs else bs) deeper;
-          are_levels = (grind (arith, e), a);
-          is_top = λ h. refl;
-        }
-    by false e = let deeper : is_deeper col (columns s.indent s.indents) ≡ false = deeper_is col s.indent s.indents a ∙ e in grind (arith, deeper, e)
-
--- an open level is one column deeper than a collection whose column is that of the piece
-open_goes_on : (col : ℕ) (number : Option ℕ) (t : Token) (s : Held) (d : Indent) (ds : List Indent) → s.indents ≡ d ∷ ds → d.needs_block_end ≡ false → AreLevels s.indent (d ∷ ds) → IsNotRight (innermost (columns d.indent ds)) col → col + 1 < s.indent →
-    RollsTo col number t s (deepen col number t s)
-unfolding deepen
-open_goes_on col number t s d ds e no_end l right high = rw stays (grind (arith, not_deeper, stays, high))
-  where
-    stays : nat_lt s.indent (col + 1) ≡ false
-    stays = grind (arith, high)
-
-    not_deeper : false ≡ is_deeper col (columns s.indent s.indents)
-    not_deeper = sym (ap (is_deeper col) (ap (columns s.indent) e ∙ ap (λ b. if b then (s.indent - 1) ∷ columns d.indent ds else columns d.indent ds) no_end) ∙ (deeper_is col d.indent ds l.1 ∙ (let h = (subst (λ b. IsTopLevel b s.indent d.indent ds) no_end l.0).0 in grind (arith, h, high))))
-
--- ---- a collection begins
-
--- an open level that goes before it
-rolls_past : (col : ℕ) (number : Option ℕ) (t : Token) (s : Held) (i : ℕ) (ds : List Indent) (u : Held) → columns i ds ≡ columns s.indent s.indents → s.indent ≡ i + 1 → RollsTo col number t (record s { indent = i; indents = ds }) u → RollsTo col number t s u
-rolls_past col number t s i ds u same more r = grind arith
+-- levels that are all collections; on them none is open
+pub all_close : (i : ℕ) (ds : List Indent) → AreCollections i ds → AreLevels i ds × (has_open_level ds ≡ false)
+all_close i ds a = grind arith
 
 -- outside flow
 pub rolls_to : (col : ℕ) (number : Option ℕ) (tok : Tok) (p : Position) (s : Held) → in_flow s ≡ false → AreLevels s.indent s.indents → IsNotRight (innermost (columns s.indent s.indents)) col →
     RollsTo col number (token p tok) s (roll_indent col number tok p s)
-unfolding roll_indent drop_open_level
-rolls_to col number tok p s out levels right = rw out (on (nat_le s.indent (col + 1)) refl s.indents refl levels right)
+unfolding roll_indent drop_open_level deepen
+rolls_to col number tok p s out levels right = rw out (all _ (by s.indents refl levels right))
   where
-    t : Token
-    t = token p tok
+    Facts : Held → Type 0
+    Facts u =
+        (u ≡ record s { indents = u.indents; indent = u.indent; tokens = (if is_deeper col (columns s.indent s.indents) then placed number (token p tok) s.tokens else s.tokens) }) ×
+        (columns u.indent u.indents ≡ opened col (columns s.indent s.indents)) × AreLevels u.indent u.indents × (s.indent ≤ col + 1 → top_needs_block_end u.indents ≡ true)
 
-    low : (d : Indent) (ds : List Indent) (b : Bool) → s.indents ≡ d ∷ ds → d.needs_block_end ≡ b → AreLevels s.indent (d ∷ ds) → s.indent ≤ col + 1 → RollsTo col number t s (deepen col number t (if b then s else record s { indent = d.indent; indents = ds }))
-    low d ds true e f l h = grind (arith, deepened, t)
-    low d ds false e f l h =
-        let first : IsTopLevel false s.indent d.indent ds = subst (λ b. IsTopLevel b s.indent d.indent ds) f l.0 in
-        let more : s.indent ≡ d.indent + 1 = first.0 in
-        rolls_past col number t s d.indent ds _ (sym (ap (columns s.indent) e ∙ ap (λ b. if b then (s.indent - 1) ∷ columns d.indent ds else columns d.indent ds) f)) more
-        (deepened col number t (record s { indent = d.indent; indents = ds }) l.1 (omega (arith, h, more)))
+    all : (u : Held) → Facts u → RollsTo col number (token p tok) s u
+    all u f = record { indents = u.indents; indent = u.indent; is_held = f.0; columns_are = f.1; are_levels = f.2; is_top = f.3 }
 
-    on : (b : Bool) → nat_le s.indent (col + 1) ≡ b → (ds : List Indent) → s.indents ≡ ds → AreLevels s.indent ds → IsNotRight (innermost (columns s.indent ds)) col → RollsTo col number t s (deepen col number t (if b then drop_open s ds else s))
-    on a e b f l r = grind (arith, deepened, t, low, eqb-true, open_goes_on)
+    by : (ds : List Indent) → s.indents ≡ ds → AreLevels s.indent ds → IsNotRight (innermost (columns s.indent ds)) col → Facts (deepen col number (token p tok) (if nat_le s.indent (col + 1) then drop_open s ds else s))
+    by [] e l r = grind (arith, nat_tests, eqb-true)
+    by (d ∷ ds) e l r = grind (arith, nat_tests, eqb-true, deeper_is col s.indent (d ∷ ds), deeper_is col d.indent ds l.1, all_close d.indent ds l.1)
 
 -- ---- the value of an entry is awaited
 

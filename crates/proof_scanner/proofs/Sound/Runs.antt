@@ -1,5 +1,5 @@
 -- A run keeps what each fetch keeps; at its end the tokens are those of a row.
-use Rattle.proof_scanner.proofs.Common.{Fares, FetchKeeps, IsRead, List, Ok, Reaches, ScannerState, Stands, TokensAreOfARow, ap, begins, false, fetch, fetch_stream_start, has_no_nul, here, over, refl, start, subst, sym, there, true, ℕ, ◌∙◌, ◌≡◌, arith, goes}
+use Rattle.proof_scanner.proofs.Common.{Fares, FetchKeeps, IsRead, List, Ok, Reaches, ScannerState, Stands, TokensAreOfARow, ap, begins, false, fetch, fetch_stream_start, has_no_nul, here, over, refl, start, subst, there, true, ℕ, ◌≡◌, arith, goes}
 use Rattle.proof_scanner.proofs.Sound.Starts.{stream_started}
 
 pub first_fetch : (text : List ℕ) → fetch (start text) ≡ Ok (fetch_stream_start (start text))
@@ -7,9 +7,7 @@ unfolding fetch
 first_fetch text = refl
 
 fared : FetchKeeps → (text : List ℕ) → has_no_nul text ≡ true → (t u : ScannerState) → t.held.ended ≡ false → fetch t ≡ Ok u → Fares text t → Fares text u
-fared kept text nul t u going e (begins b) =
-    let same : Ok (fetch_stream_start (start text)) ≡ Ok u = sym (first_fetch text) ∙ (ap fetch (sym b) ∙ e) in
-    goes (subst (λ x. Stands text x) (cc same) (stream_started text nul))
+fared kept text nul t u going e (begins b) = goes (subst (λ x. Stands text x) (cc (first_fetch text, ap fetch b, e)) (stream_started text nul))
 fared kept text nul t u going e (goes s) = kept text t u nul s e
 fared kept text nul t u going e (over f r n) = absurd (cc (going, f))
 

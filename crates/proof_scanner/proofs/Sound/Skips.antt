@@ -1,8 +1,7 @@
 -- What the model skips between tokens leaves no TAB in the indentation of the next one.
 use Rattle.std.proofs.lemmas.List.{length-append}
-use Rattle.proof_scanner.proofs.Common.{At, Bool, Err, Fault, Gap, Held, Holds, List, Ok, Previous, Result, ScannerState, [], and_parts, ap, append-nil, append_assoc, arith, begins_line, between, comment, eqb-true, false, has_tab_within, if◌then◌else◌, inl, inr, is_at_comment_or_end, is_before_indent, is_cr_lf, is_empty, last_line, length, moved, no_hash, or-false, or-true, past_line, refl, refused, same_break, skip, subst, suc, tab_line, true, weakened, went, ℕ, ◌&&◌, ◌++◌, ◌==◌, ◌||◌, ◌∙◌, ◌∷◌, ◌≡◌, ◌⊎◌}
+use Rattle.proof_scanner.proofs.Common.{TabInBlockIndentation, At, Bool, Err, Fault, Gap, Held, Holds, List, Ok, Previous, Result, ScannerState, [], and_parts, ap, append-nil, append_assoc, arith, begins_line, between, comment, eqb-true, false, has_tab_within, if◌then◌else◌, is_at_comment_or_end, is_before_indent, is_cr_lf, is_empty, last_line, length, moved, no_hash, or-false, or-true, past_line, refl, refused, same_break, skip, subst, suc, tab_line, true, weakened, went, ℕ, ◌&&◌, ◌++◌, ◌==◌, ◌||◌, ◌∷◌, ◌≡◌, ◌⊎◌}
 use Rattle.yaml_chars.specs.Class.{is_break, is_blank}
-use Rattle.yaml_tokens.specs.declared.problem.Problem.TheVariants as problem
 use Rattle.defs_text.specs.Classes as classes
 use Rattle.proof_scanner.proofs.Sound.LastLines.{break_append, last_more, tab_within_more}
 
@@ -60,7 +59,7 @@ module _ (before : Previous) (least : ℕ) where
   -- ---- each character
 
   pub no_end : (c : ℕ) (a : List ℕ) → is_break c ≡ false → (c == 35) ≡ false → is_at_comment_or_end (c ∷ a) ≡ false
-  no_end c a e f = rw (same_break c, e, f) refl
+  no_end c a e f = grind (arith, same_break)
 
   -- How something is told of the way to the next token, with what was passed before: it goes on over each character, and holds where the way ends; and what is known of a line that a TAB indents.
   pub record SkipsBy (Q : (g a : List ℕ) → Held → Result ScannerState Fault → Type 0) (Tabbed : List ℕ → Type 0) : Type 0 where
@@ -69,7 +68,7 @@ module _ (before : Previous) (least : ℕ) where
     pub arrives : (g a : List ℕ) (c : ℕ) (s : Held) → IsAt g s → Q g (c ∷ a) s (Ok (record { rest = c ∷ a; held = s }))
     pub tab : (g : List ℕ) (c : ℕ) (s : Held) → is_break c ≡ false → ((c == 9) && is_before_indent s) ≡ true → IsLeast s → IsAt g s → Tabbed (g ++ c ∷ [])
     pub blank : (g : List ℕ) (c : ℕ) → is_break c ≡ false → Tabbed g → Tabbed (g ++ c ∷ [])
-    pub fails : (g a : List ℕ) (c : ℕ) (s : Held) → Tabbed g → Q g (c ∷ a) s (Err (At problem.TabInBlockIndentation s.position))
+    pub fails : (g a : List ℕ) (c : ℕ) (s : Held) → Tabbed g → Q g (c ∷ a) s (Err (At TabInBlockIndentation s.position))
 
   module _ (Q : (g a : List ℕ) → Held → Result ScannerState Fault → Type 0) (Tabbed : List ℕ → Type 0) (w : SkipsBy Q Tabbed) where
     abbrev Tells : List ℕ → Type 0
@@ -77,31 +76,20 @@ module _ (before : Previous) (least : ℕ) where
 
     broken : (m : Gap) (g a : List ℕ) (c : ℕ) (s : Held) → is_break c ≡ true → IsLeast s → Tells a → Q g (c ∷ a) s (skip m (c ∷ a) s)
     unfolding skip
-    broken m g a c s e l ih = rw e (by (is_cr_lf c a) refl)
-      where
-        by : (b : Bool) → is_cr_lf c a ≡ b → Q g (c ∷ a) s (skip between a (if b then moved s else past_line s))
-        by true f = w.further g a c s (moved s) _ (omega arith) (ih between (g ++ c ∷ []) (moved s) l (inl (feed_next c a f)))
-        by false f = w.further g a c s (past_line s) _ (omega arith) (ih between (g ++ c ∷ []) (past_line s) l (inr (at_line g c s e)))
+    broken m g a c s e l ih = rw e (grind (arith, w.further g a c s (moved s), w.further g a c s (past_line s), feed_next c a, at_line g c s e, ih between (g ++ c ∷ []) (moved s) l, ih between (g ++ c ∷ []) (past_line s) l))
 
     between_by : (g a : List ℕ) (c : ℕ) (s : Held) → is_break c ≡ false → IsLeast s → IsPassed Tabbed between g s (c ∷ a) → Tells a → Q g (c ∷ a) s (skip between (c ∷ a) s)
     unfolding skip
-    between_by g a c s e l h ih = rw e (by ((c == 9) && is_before_indent s) (is_blank c) (c == 35) refl refl refl)
+    between_by g a c s e l h ih =
+        let hash : Held = record (moved s) { leading = false } in
+        let tabbed = ih tab_line (g ++ c ∷ []) (moved s) l in
+        let next = ih between (g ++ c ∷ []) (moved s) l in
+        let noted = ih comment (g ++ c ∷ []) hash l in
+        let on = w.further g a c s hash in
+        rw e (grind (arith, eqb-true, and_parts (c == 9) (is_before_indent s), at, w.tab g c s e, w.arrives g a c s, at_blank g c s, same_break c, no_hash c, w.further g a c s (moved s), on, tabbed, next, noted))
       where
         at : (c == 35) ≡ false → IsAt g s
-        at f = from h
-          where
-            from : IsPassed Tabbed between g s (c ∷ a) → IsAt g s
-            from (inl x) = absurd (cc (x, no_end c a e f))
-            from (inr x) = x
-
-        by : (t b x : Bool) → ((c == 9) && is_before_indent s) ≡ t → is_blank c ≡ b → (c == 35) ≡ x → Q g (c ∷ a) s
-            (if t then skip tab_line a (moved s) else (if b then skip between a (moved s) else (if x then skip comment a (record (moved s) { leading = false }) else Ok (record { rest = c ∷ a; held = s }))))
-        by true b x f i k =
-            let q = and_parts (c == 9) (is_before_indent s) f in
-            w.further g a c s (moved s) _ (omega arith) (ih tab_line (g ++ c ∷ []) (moved s) l (w.tab g c s e f l (at (let i : c ≡ 9 = eqb-true c 9 q.0 in rw i refl))))
-        by false true x f i k = w.further g a c s (moved s) _ (omega arith) (ih between (g ++ c ∷ []) (moved s) l (inr (at_blank g c s (same_break c ∙ e) f l (at (no_hash c i)))))
-        by false false true f i k = w.further g a c s (record (moved s) { leading = false }) _ (omega arith) (ih comment (g ++ c ∷ []) (record (moved s) { leading = false }) l tt)
-        by false false false f i k = w.arrives g a c s (at k)
+        at f = grind (arith, no_end c a e f)
 
     comment_by : (g a : List ℕ) (c : ℕ) (s : Held) → is_break c ≡ false → IsLeast s → Tells a → Q g (c ∷ a) s (skip comment (c ∷ a) s)
     unfolding skip
@@ -109,12 +97,7 @@ module _ (before : Previous) (least : ℕ) where
 
     tab_by : (g a : List ℕ) (c : ℕ) (s : Held) → is_break c ≡ false → IsLeast s → Tabbed g → Tells a → Q g (c ∷ a) s (skip tab_line (c ∷ a) s)
     unfolding skip
-    tab_by g a c s e l h ih = rw e (by (is_blank c) (c == 35))
-      where
-        by : (b x : Bool) → Q g (c ∷ a) s (if b then skip tab_line a (moved s) else (if x then skip comment a (moved s) else Err (At problem.TabInBlockIndentation s.position)))
-        by true x = w.further g a c s (moved s) _ (omega arith) (ih tab_line (g ++ c ∷ []) (moved s) l (w.blank g c e h))
-        by false true = w.further g a c s (moved s) _ (omega arith) (ih comment (g ++ c ∷ []) (moved s) l tt)
-        by false false = w.fails g a c s h
+    tab_by g a c s e l h ih = rw e (grind (arith, w.fails g a c s h, w.blank g c e h, w.further g a c s (moved s), ih tab_line (g ++ c ∷ []) (moved s) l, ih comment (g ++ c ∷ []) (moved s) l))
 
     one_by : (m : Gap) (g a : List ℕ) (c : ℕ) (s : Held) (b : Bool) → is_break c ≡ b → IsLeast s → IsPassed Tabbed m g s (c ∷ a) → Tells a → Q g (c ∷ a) s (skip m (c ∷ a) s)
     one_by m g a c s b e l h ih = grind (arith, broken, between_by, comment_by, tab_by)

@@ -1,18 +1,15 @@
 -- Where a text ends: no open key is one, and the stream's end and those of the block collections stand where the row has them.
-use Rattle.yaml_tokens.specs.declared.problem.Problem.TheVariants as problem
+use Rattle.proof_scanner.proofs.Sound.Rolled.{all_close}
 use Rattle.std.proofs.lemmas.List.{append-nil}
-use Rattle.proof_scanner.proofs.Common.{Account, AreAround, AreCollections, AreEntries, AreLevels, Arrives, At, Bool, Completes, Entry, FlowLevel, Had, HasHad, Held, Holds, Indent, IsRead, IsTopLevel, Key, Levels, Line, List, MayChoose, Option, Position, ScannerState, Site, Step, Token, [], ap, append_assoc, arith, block_end, blocks, checked, chosen, cleared, columns, ended_at, ends_at, ends_here, ends_with_stream, entries_by, false, fetch_stream_end, has_required, have_no_key, if◌then◌else◌, in_flow, is_empty, is_keyed, is_renewed, is_waiting, length, may_end, nat_lt, next_line, not, not-true, not_ended, outside_key, pop, position_after, put, refl, replicate, site_here, stream_position, subst, suc, sym, tokens_at_end, tokens_up_to, tried, true, unroll_indent, unrolled, went, with_keys, ℕ, ◌++◌, ◌-◌, ◌<◌, ◌∙◌, ◌∷◌, ◌≡◌, ◌≤◌}
+use Rattle.proof_scanner.proofs.Common.{KeyExpected, if◌then◌else◌, [], Account, AreAround, AreCollections, AreEntries, AreLevels, Arrives, At, Bool, Completes, Entry, FlowLevel, Held, Holds, Indent, IsRead, Key, Line, List, MayChoose, Option, Position, ScannerState, Site, Step, Token, ap, append_assoc, arith, block_end, blocks, checked, chosen, cleared, columns, ended_at, ends_at, ends_here, ends_with_stream, entries_by, false, fetch_stream_end, has_required, have_no_key, in_flow, is_empty, is_renewed, is_waiting, length, may_end, nat_lt, next_line, not, not-true, not_ended, outside_key, pop, position_after, put, refl, replicate, site_here, stream_position, suc, sym, tokens_at_end, tokens_up_to, tried, true, unroll_indent, unrolled, went, with_keys, ℕ, ◌++◌, ◌∙◌, ◌∷◌, ◌≡◌, ◌≤◌, IsNotRight, innermost, end_level}
 use Rattle.proof_scanner.proofs.Cut.Documents.{unroll_keeps}
 use Rattle.proof_scanner.proofs.Sound.Completed.{completed_at_end}
 use Rattle.proof_scanner.proofs.Cut.Unrolls.{unrolled_in_flow}
 
 -- ---- no key waits
 
-had_no_key : (k : Option Key) (h : Had) → HasHad k h → is_keyed h ≡ false
-had_no_key a h e = grind arith
-
 around_no_key : (fs : List FlowLevel) (ks : List (Option Key)) (es : List Entry) → AreAround fs ks es → have_no_key es ≡ true
-around_no_key (f ∷ fs) (k ∷ ks) (e ∷ es) a = rw (had_no_key k e.had a.1, around_no_key fs ks es a.2) refl
+around_no_key (f ∷ fs) (k ∷ ks) (e ∷ es) a = grind (arith, around_no_key fs ks es)
 around_no_key fs ks es a = grind arith
 
 pub entries_no_key : (allowed again : Bool) (fs : List FlowLevel) (ks : List (Option Key)) (es : List Entry) → AreEntries allowed again fs ks es → have_no_key es ≡ true
@@ -32,36 +29,17 @@ none_put d p ws last bs l es [] ts h n = refl
 none_put d p ws last bs l [] (k ∷ ks) ts h n = grind arith
 none_put d p ws last bs l (e ∷ es) (k ∷ ks) ts h n = grind (arith, none_put (suc d) p ws last bs l es ks ts h)
 
--- ---- positions
-
-pub same_line_start : (p : Position) → next_line p ≡ stream_position p
-same_line_start p = grind arith
-
 -- ---- the ends of block collections
 
 -- that many ends
 abbrev pub ends_of : ℕ → Position → List Token
 ends_of n p = replicate n (put p block_end)
 
-pub positive : (n i : ℕ) → n < i → nat_lt 0 i ≡ true
-positive n i h = grind arith
-
--- no level is left then
-abbrev pub none_left : Position → ℕ → List Indent → List Token → Levels
-none_left p i ds ts = record { indent = 0; indents = []; tokens = ts ++ ends_of (length (columns i ds)) p }
-
-ended_more : (p : Position) (i : ℕ) (ds : List Indent) (ts : List Token) → none_left p i ds (ts ++ put p block_end ∷ []) ≡ record { indent = 0; indents = []; tokens = ts ++ ends_of (suc (length (columns i ds))) p }
-ended_more p i ds ts = ap (λ (x : List Token). record { indent = 0; indents = []; tokens = x }) (append_assoc ts (put p block_end ∷ []) (ends_of (length (columns i ds)) p))
-
-all_collections : (p : Position) (i : ℕ) (ds : List Indent) (ts : List Token) → AreCollections i ds → unrolled 0 p i ds ts ≡ none_left p i ds ts
-unfolding unrolled
-all_collections p i [] ts a = rw (a, append-nil) refl
-all_collections p i (d ∷ ds) ts a = rw (positive d.indent i a.1, a.0) (all_collections p d.indent ds (ts ++ put p block_end ∷ []) a.2 ∙ ended_more p d.indent ds ts)
-
 -- all levels end at the stream's end, each collection with its token
-pub all_levels : (p : Position) (i : ℕ) (ds : List Indent) (ts : List Token) → AreLevels i ds → unrolled 0 p i ds ts ≡ none_left p i ds ts
+pub all_levels : (p : Position) (i : ℕ) (ds : List Indent) (ts : List Token) → AreLevels i ds → unrolled 0 p i ds ts ≡ record { indent = 0; indents = []; tokens = ts ++ ends_of (length (columns i ds)) p }
 unfolding unrolled
-all_levels p i b ts a = grind (arith, all_collections, positive, ended_more)
+all_levels p i [] ts a = rw (a, append-nil) refl
+all_levels p i (d ∷ ds) ts a = grind (arith, append_assoc, all_levels p d.indent ds (end_level d.needs_block_end p ts) (all_close d.indent ds a.1).0)
 
 -- whether no collection is deeper than a column
 abbrev pub NoneDeeper : (column : ℕ) → List ℕ → Type 0
@@ -79,28 +57,13 @@ below : (m i : ℕ) (ds : List Indent) → AreCollections i ds → i ≤ suc m �
 below m i [] a h = tt
 below m i (d ∷ ds) a h = rw a.0 (omega (arith, h), below m d.indent ds a.2 (omega (arith, h, a.1)))
 
--- whether the innermost collection is not deeper than a column
-abbrev FirstIsNot : (column : ℕ) → List ℕ → Type 0
-FirstIsNot col [] = Unit {0}
-FirstIsNot col (n ∷ ns) = n ≤ col
-
-first_going_on : (col : ℕ) (bs : List ℕ) → FirstIsNot col (not_ended col bs)
+first_going_on : (col : ℕ) (bs : List ℕ) → IsNotRight (innermost (not_ended col bs)) col
 first_going_on col [] = tt
 first_going_on col (n ∷ ns) = grind (arith, first_going_on col ns)
 
-collections_below : (col i : ℕ) (ds : List Indent) → AreCollections i ds → FirstIsNot col (columns i ds) → NoneDeeper col (columns i ds)
-collections_below col i [] a f = tt
-collections_below col i (d ∷ ds) a f =
-    let first : i - 1 ≤ col = subst (λ b. FirstIsNot col (if b then (i - 1) ∷ columns d.indent ds else columns d.indent ds)) a.0 f in
-    below col i (d ∷ ds) a (omega (arith, first))
-
-levels_below : (col i : ℕ) (ds : List Indent) → AreLevels i ds → FirstIsNot col (columns i ds) → NoneDeeper col (columns i ds)
+levels_below : (col i : ℕ) (ds : List Indent) → AreLevels i ds → IsNotRight (innermost (columns i ds)) col → NoneDeeper col (columns i ds)
 levels_below col i [] a f = tt
-levels_below col i (d ∷ ds) a f = by d.needs_block_end a.0 f
-  where
-    by : (b : Bool) → IsTopLevel b i d.indent ds → FirstIsNot col (if b then (i - 1) ∷ columns d.indent ds else columns d.indent ds) → NoneDeeper col (if b then (i - 1) ∷ columns d.indent ds else columns d.indent ds)
-    by true h g = (g, below col d.indent ds a.1 (omega (arith, h, g)))
-    by false h g = collections_below col d.indent ds a.1 g
+levels_below col i (d ∷ ds) a f = grind (arith, below col d.indent ds a.1)
 
 pub shorter : (col : ℕ) (bs : List ℕ) → length (not_ended col bs) ≤ length bs
 shorter col [] = omega arith
@@ -118,11 +81,9 @@ ends_split end (n ∷ ns) h = by (nat_lt end.col n) refl (λ k. ends_split end n
     by a e later k = grind (arith, shorter, none_ends)
 
 -- the same by the levels of indentation that the scanner holds
-pub ends_by_levels : (end : Position) (bs : List ℕ) (i : ℕ) (ds : List Indent) → AreLevels i ds → not_ended end.col bs ≡ columns i ds → ends_with_stream end bs ≡ ends_at end bs (not_ended end.col bs) ++ ends_of (length (columns i ds)) (stream_position end)
-ends_by_levels end bs i ds a e =
-    let first : FirstIsNot end.col (columns i ds) = rw (sym e) (first_going_on end.col bs) in
-    ends_split end bs (rw e (levels_below end.col i ds a first)) ∙
-    ap (λ x. ends_at end bs (not_ended end.col bs) ++ ends_of (length x) (stream_position end)) e
+pub ends_by_levels : (end : Position) (bs : List ℕ) (i : ℕ) (ds : List Indent) → AreLevels i ds → not_ended end.col bs ≡ columns i ds →
+    ends_with_stream end bs ≡ ends_at end bs (not_ended end.col bs) ++ ends_of (length (columns i ds)) (stream_position end)
+ends_by_levels end bs i ds a e = rw (sym e) (ends_split end bs (rw e (levels_below end.col i ds a (rw (sym e) (first_going_on end.col bs)))))
 
 -- ---- the stream's end
 
@@ -140,8 +101,7 @@ at_end text t a e required =
     let ends : may_end a.base ≡ true = rw (a.no_key, plain) refl in
     let last : a.separation ++ t.rest ≡ a.separation = ap (λ x. a.separation ++ x) e ∙ append-nil a.separation in
     let own : Completes text a.separation a.base (λ ws z. tokens_up_to a.base t.held.keys a.tokens ws z) =
-    rw (sym (none_chosen t.held.keys a.base))
-    (rw (sym last) (a.completes true false [] (outside_free a.base.entries t.held.keys t.held.position t.rest required))) in
+    rw (sym (none_chosen t.held.keys a.base)) (rw (sym last) (a.completes true false [] (outside_free a.base.entries t.held.keys t.held.position t.rest required))) in
     let whole : IsRead text (tokens_up_to a.base t.held.keys a.tokens [] a.separation ++ tokens_at_end (position_after a.base.site.position a.separation []) a.base.site.blocks a.base.entries) =
     completed_at_end text a.separation a.base (λ ws z. tokens_up_to a.base t.held.keys a.tokens ws z) (rw (sym e) a.is_filled) ends own in
     let put_none : tokens_up_to a.base t.held.keys a.tokens [] a.separation ≡ a.tokens = none_put 0 a.base.site.position [] a.separation a.base.site.blocks a.base.line a.base.entries t.held.keys a.tokens a.no_key plain in
@@ -160,14 +120,10 @@ at_stream_end h = record h { position = next_line h.position; keys = cleared h.k
 pub same_flow : (allowed again : Bool) (fs : List FlowLevel) (ks : List (Option Key)) (es : List Entry) → AreEntries allowed again fs ks es → is_empty fs ≡ is_empty es
 same_flow allowed again a ks es b = grind arith
 
-in_flow_too : (h : Held) (ts : List Token) (bs : List ℕ) (e : Entry) (es : List Entry) → in_flow h ≡ true → h.tokens ≡ ts → (ended_at (unroll_indent 0 (at_stream_end h))).tokens ≡ ts ++ tokens_at_end h.position bs (e ∷ es)
-in_flow_too h ts bs e es within tokens = grind (arith, unrolled_in_flow, not-true, same_line_start)
-
 last_tokens : (h : Held) (ts : List Token) (x : Site) (es : List Entry) → is_empty h.flow ≡ is_empty es → AreLevels h.indent h.indents → h.tokens ≡ ts ++ ends_here (not (is_empty h.flow)) h.position x.blocks →
     (site_here (not (is_empty h.flow)) h.position x).blocks ≡ columns h.indent h.indents → (ended_at (unroll_indent 0 (at_stream_end h))).tokens ≡ ts ++ tokens_at_end h.position x.blocks es
-last_tokens h ts x [] e levels tokens blocks = grind (arith, unrolled_outside, same_line_start, append_assoc, ends_by_levels, ends_here, columns)
-last_tokens h ts x (y ∷ es) e levels tokens blocks =
-    in_flow_too h ts x.blocks y es (ap not e) (subst (λ b. h.tokens ≡ ts ++ ends_here (not b) h.position x.blocks) e tokens ∙ append-nil ts)
+last_tokens h ts x [] e levels tokens blocks = grind (arith, unrolled_outside, append_assoc, ends_by_levels, ends_here, columns)
+last_tokens h ts x (y ∷ es) e levels tokens blocks = grind (arith, unrolled_in_flow, not-true, append-nil)
 
 -- At the text's end the stream ends, unless a key must still come to its colon, and the tokens are those of a row of the text.
 pub stream_ended : (text : List ℕ) (t : ScannerState) → Arrives text t → t.rest ≡ [] →
@@ -175,7 +131,7 @@ pub stream_ended : (text : List ℕ) (t : ScannerState) → Arrives text t → t
 unfolding fetch_stream_end
 stream_ended text t a e =
     let same : ((unroll_indent 0 (at_stream_end t.held)).position ≡ next_line t.held.position) × ((unroll_indent 0 (at_stream_end t.held)).started ≡ t.held.started) = unroll_keeps 0 (at_stream_end t.held) in
-    tried t _ (checked (has_required t.held.keys) (At problem.KeyExpected (next_line t.held.position)) (λ none. went (
+    tried t _ (checked (has_required t.held.keys) (At KeyExpected (next_line t.held.position)) (λ none. went (
       refl,
       rw (last_tokens t.held a.tokens a.base.site a.base.entries (same_flow t.held.key_allowed (is_renewed a.base.site.before a.separation) t.held.flow t.held.keys a.base.entries a.are_entries) a.are_levels a.tokens_are a.blocks_are)
           (at_end text t a e none),

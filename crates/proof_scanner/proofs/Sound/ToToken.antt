@@ -1,5 +1,5 @@
 -- The way to the next token, or to the text's end, keeps what holds between two fetches, with the separation up to there.
-use Rattle.proof_scanner.proofs.Common.{Site, AreEntries, BeginsButForKey, Bool, HasNoTabs, Holds, IsAdjacent, IsLine, IsLive, IsOpenHere, IsOpenOutside, IsReadOn, IsTakenBy, Key, KnowsKey, Line, List, None, Option, Position, Previous, ScannerState, SoFar, Some, Stands, [], after_separation, ap, append_assoc, append_cancel_right, arith, before_by, before_past, begins_free_line, begins_separation, between, both_hold, chosen, false, follows_plain, has_no_nul, in_flow, inl, inr, is_at_comment_or_end, is_empty, is_indented_by_spaces, is_one_of, is_separation, least_column, not, or-false, or-true, outside_key, plain_scalar, position_after, position_append, refl, skip_to_next_token, subst, sym, tokens_up_to, true, weakened, went, ℕ, ◌&&◌, ◌++◌, ◌==◌, ◌||◌, ◌∙◌, ◌∷◌, ◌≡◌, ◌≤◌, IsCarriedOn, IsLeading, MayChoose}
+use Rattle.proof_scanner.proofs.Common.{Site, AreEntries, BeginsButForKey, Bool, HasNoTabs, Holds, IsAdjacent, IsLine, IsLive, IsOpenHere, IsOpenOutside, IsReadOn, IsTakenBy, Key, KnowsKey, Line, List, None, Option, Position, Previous, ScannerState, SoFar, Some, Stands, [], after_separation, ap, append_assoc, append_cancel_right, arith, before_by, before_past, begins_free_line, begins_separation, between, both_hold, chosen, false, follows_plain, has_no_nul, in_flow, is_at_comment_or_end, is_empty, is_indented_by_spaces, is_one_of, is_separation, least_column, not, or-false, outside_key, plain_scalar, position_after, position_append, refl, skip_to_next_token, subst, sym, tokens_up_to, true, weakened, went, ℕ, ◌&&◌, ◌++◌, ◌==◌, ◌||◌, ◌∙◌, ◌∷◌, ◌≡◌, ◌≤◌, IsCarriedOn, IsLeading, MayChoose}
 use Rattle.proof_lexers.specs.PlainEnds as plain_ends
 use Rattle.proof_lexers.proofs.Separation.EachSeparation.{no_nul_after}
 use Rattle.proof_scanner.proofs.Sound.Steps.{Cleared, Exact, IsAt, IsIn, Spaced, column_after, exact, free_line_append, goes_on, index_after, known_past, last_whole, least_is, live_before_it, may_before, no_comment_in_last, not_before_after, read_on_append, renewed_alike, same_has_break, separation_append, skip_clears, skip_stays, stands_by, unbroken}
@@ -18,7 +18,7 @@ is_in text t s begins = grind (arith, no_comment_in_last, column_after, last_who
 
 among : (f p : List ℕ) (c : ℕ) → (c == 35) ≡ true → is_one_of (f ++ c ∷ p) 35 ≡ true
 among [] p c h = grind arith
-among (d ∷ f) p c h = rw (among f p c h) (or-true (35 == d))
+among (d ∷ f) p c h = grind (arith, among f p c)
 
 -- where a separation was passed, it is none that follows a plain scalar without a comment
 no_plain : (b : Previous) (q : Position) (f g rest rest2 : List ℕ) → rest ≡ g ++ rest2 → IsReadOn b q f rest → begins_separation rest ≡ true → begins_separation rest2 ≡ false → is_separation false g rest2 ≡ true → follows_plain b (f ++ g) ≡ false
@@ -50,12 +50,7 @@ module _ (text : List ℕ) (t u : ScannerState) (s : Stands text t) (begins : be
   Now = after_separation t.held e.is_leading e.separation u.rest
 
   tabs : HasNoTabs s.base.site (s.separation ++ e.separation) u.rest
-  tabs = by (is_empty u.rest) refl
-    where
-      by : (x : Bool) → is_empty u.rest ≡ x → HasNoTabs s.base.site (s.separation ++ e.separation) u.rest
-      by true h = inl (grind arith)
-      by false h = inr (indented_after s.base.site.before s.base.site.blocks s.base.site.awaits (s.separation ++ e.separation)
-          (no_plain s.base.site.before s.base.site.position s.separation e.separation t.rest u.rest e.cut s.read_on begins e.solid e.is_filled) (at h).spaced)
+  tabs = grind (arith, indented_after s.base.site.before s.base.site.blocks s.base.site.awaits (s.separation ++ e.separation), no_plain s.base.site.before s.base.site.position s.separation e.separation t.rest u.rest e.cut s.read_on begins e.solid e.is_filled, at)
 
   -- a key that may be one now might be one before
   live : (x : Key) → IsLive x (position_after t.held.position e.separation u.rest) u.rest → IsLive x t.held.position t.rest

@@ -1,12 +1,12 @@
 -- A colon that ends no key: what holds where it begins holds between two fetches after it.
-use Rattle.proof_scanner.proofs.Common.{Account, [], allow_key, another, ap, append-nil, append_assoc, AreLevels, arith, Arrives, At, before_by, before_past, begin_keyless_mapping, begin_keyless_value, begin_pair, begins_free_line, begun_outside, Bool, chained, check_value_space, checked, chosen, colon_may_precede, columns, ends_at, entries_by, Entry, entry_by, false, Fault, fetch_value, first_account, FlowLevel, gives_colon, has_open_level, Held, Holds, if◌then◌else◌, in_flow, Indent, inl, innermost, inr, insert, insert_key, inside, is_adjacent, is_break, is_deeper, is_empty, is_in_column, is_near, is_value, is_value_indicator, IsEntryOf, IsLive, IsNotRight, Key, length, length-append, Line, line_past, List, MayChoose, None, not, not-false, not_ended, Ok, on_held, opened, opens_pair, Option, Outside, outside_key, pair_past, pair_position, paired, past, placed, pop, Position, position_after, push, put, put_key, refl, Result, roll_indent, roll_one_col_indent, ScannerState, settled, Site, site_at, site_here, Some, spelled, start_if, Step, subst, suc, sym, taken, takes_pair, Tok, Token, token, tokens_at, tokens_of_step, tokens_up_to, top_key, tried, true, try_held, waits, went, with_held, with_keys, with_top, ℕ, ◌++◌, ◌==◌, ◌>>=◌, ◌||◌, ◌∙◌, ◌∷◌, ◌≡◌, ◌≤◌, KeysBefore, keys_before, line_grows}
+use Rattle.proof_scanner.proofs.Common.{ValueNotAllowed, [], if◌then◌else◌, Account, allow_key, another, ap, append-nil, append_assoc, AreLevels, arith, Arrives, At, before_by, before_past, begin_keyless_mapping, begin_keyless_value, begin_pair, begins_free_line, Bool, chained, check_value_space, checked, chosen, colon_may_precede, columns, ends_at, entries_by, Entry, entry_by, false, Fault, fetch_value, first_account, FlowLevel, gives_colon, has_open_level, Held, Holds, in_flow, Indent, inl, innermost, inr, insert, insert_key, is_adjacent, is_break, is_deeper, is_empty, is_near, is_value, is_value_indicator, IsEntryOf, IsLive, IsNotRight, Key, length, length-append, Line, List, None, not, not-false, not_ended, Ok, on_held, opened, opens_pair, Option, Outside, outside_key, pair_past, pair_position, paired, past, placed, pop, Position, position_after, push, put, put_key, refl, Result, roll_indent, roll_one_col_indent, ScannerState, settled, Site, site_at, site_here, Some, spelled, Step, subst, suc, sym, taken, takes_pair, Tok, Token, token, tokens_at, tokens_of_step, tokens_up_to, top_key, tried, true, try_held, waits, went, with_held, with_keys, ℕ, ◌++◌, ◌==◌, ◌>>=◌, ◌||◌, ◌∙◌, ◌∷◌, ◌≡◌, ◌≤◌, KeysBefore, keys_before, line_grows, free, AreNumbered, is_required, keyed}
 use Rattle.model_scanner.specs.declared.level.FlowLevel.TheVariants.{Pair as InPair}
 use Rattle.model_scanner.specs.Block.{value_of}
-use Rattle.proof_scanner.proofs.Sound.Steps.{exactly, held_exactly, Onward, all_go_on, among, by_sides, with_sides, ArrivesBy, begun_after, ends_outside, fewer, first_among, first_not_right, goes_inside, goes_of, is_written, IsDeep, key_longer, keyless, keys_along, keys_first, line_free, line_taken, low_enough, no_waiting, not_before_after, not_before_then, numbered_around, numbered_more, opens_none, opens_one, OpensOne, Outer, outer_completes, outer_then, past_one, past_step, read_outside, Reads, reads_before_none, rolls_to, RollsTo, some_levels, started_tokens, steps_in_flow, tokens_before, value_is, weaker, with_entries, with_start, line_rest_in_line, same_in_line}
+use Rattle.proof_scanner.proofs.Sound.Steps.{exactly, held_exactly, Onward, among, by_sides, with_sides, ArrivesBy, begun_after, ends_outside, first_not_right, goes_inside, goes_of, is_written, IsDeep, key_longer, keyless, keys_along, line_free, line_taken, low_enough, no_waiting, not_before_after, not_before_then, numbered_around, numbered_more, opens_none, opens_one, OpensOne, Outer, outer_completes, outer_then, past_one, past_step, read_outside, Reads, reads_before_none, rolls_to, RollsTo, some_levels, steps_in_flow, tokens_before, value_is, weaker, with_entries, with_start, line_rest_in_line, same_in_line}
 use Rattle.proof_scanner.proofs.Sound.ColonSpaces.{colon_gap, colon_spaced, gap_is, past_colon, past_gap}
 use Rattle.proof_scanner.proofs.Sound.Questions.{pair_level}
 use Rattle.model_scanner.specs.State.{after}
-use Rattle.yaml_tokens.specs.declared.problem.Problem.TheVariants as problem
+use Rattle.proof_scanner.proofs.Sound.Common.{keys_own}
 
 -- ---- where a colon is an indicator
 
@@ -40,40 +40,32 @@ colon_reads t more ds i ts allowed fs ks y cut here before columns_are awaits le
 
 -- ---- outside flow
 
-pub keyless_stands : (text more : List ℕ) (t : ScannerState) (a : ArrivesBy text t [] (None ∷ []) []) → t.rest ≡ 58 ∷ more → t.held.key_allowed ≡ true → colon_may_precede more ≡ true →
-    is_value_indicator false (is_adjacent (before_past (before_by a.site.before) a.separation)) more ≡ true → (i : ℕ) (ds : List Indent) → columns i ds ≡ opened t.held.position.col (columns t.held.indent t.held.indents) → AreLevels i ds → has_open_level ds ≡ true →
-    Onward text t.rest (colon_end t more ds i (with_start Tok.block_mapping_start t) true [] (None ∷ []))
-keyless_stands text more t a e allowed apart ind i ds columns_are levels awaits =
-    read_outside text t (colon_end t more ds i (with_start Tok.block_mapping_start t) true [] (None ∷ [])) a (58 ∷ []) more (colon_gap more) Tok.value (begun_after t.held.position a.site.blocks) _ refl
-    (colon_reads t more ds i (with_start Tok.block_mapping_start t) true [] (None ∷ []) _ e refl refl (ap (opened t.held.position.col) a.blocks_are ∙ sym columns_are) (sym awaits) levels a.was_adjacent)
-    (record { line_is = (inl refl, refl, tt); no_key = refl; flow_is = refl; keys_are = refl }) (record {
-      is_piece = (refl, ind);
-      stands = rw (a.is_indented (ap is_empty e), apart) refl;
-      after_is = ap (λ l. line_past (is_in_column t.held.position.col bs) t.held.position bs gives_colon false l) (line_free t.held.key_allowed t.rest a.line_here allowed a.line_is);
-      begun = refl;
-      begins_none = refl;
-      tokens_are = ap (λ cs. (if is_deeper t.held.position.col cs then placed None (token t.held.position Tok.block_mapping_start) t.held.tokens else t.held.tokens) ++ put t.held.position Tok.value ∷ []) (sym a.blocks_are) ∙
-          (started_tokens (is_deeper t.held.position.col bs) t.held.tokens a.tokens (ends_at t.held.position a.site.blocks bs) t.held.position Tok.block_mapping_start (put t.held.position Tok.value) a.tokens_are ∙
-          ap (λ l. a.tokens ++ ((ends_at t.held.position a.site.blocks bs ++ begun_outside (is_deeper t.held.position.col bs) t.held.position t.held.position gives_colon false (Some l)) ++ (put t.held.position Tok.value ∷ []))) (sym (line_free t.held.key_allowed t.rest a.line_here allowed a.line_is)));
-    })
-  where
-    bs : List ℕ
-    bs = not_ended t.held.position.col a.site.blocks
-
 pub keyless_outside : (text more : List ℕ) (t : ScannerState) (a : ArrivesBy text t [] (None ∷ []) []) → t.rest ≡ 58 ∷ more → colon_may_precede more ≡ true → is_value_indicator false (is_adjacent (before_past (before_by a.site.before) a.separation)) more ≡ true → IsDeep t.held →
     Holds (Onward text t.rest) (value_by more t [] (None ∷ []))
 unfolding begin_keyless_value begin_keyless_mapping
 keyless_outside text more t a e apart ind deep =
-    exactly _ (held_exactly (record { rest = past_gap more; held = at_value more t [] (None ∷ []) })
-    (exactly _ (checked (not t.held.key_allowed) (At problem.ValueNotAllowed t.held.position) (λ f. went (m.is_held, not-false t.held.key_allowed f))) (λ allowed. went (ap (λ v. allow_key (not (in_flow v)) v) l.is_held, allowed)))) (λ allowed. went
-    (keyless_stands text more t a e allowed apart ind l.indent l.indents (l.columns_are ∙ m.columns_are) l.are_levels l.awaits))
+    exactly _ (held_exactly (record { rest = past_gap more; held = h })
+    (exactly _ (checked (not t.held.key_allowed) (At ValueNotAllowed p) (λ f. went (m.is_held, not-false t.held.key_allowed f))) (λ allowed. went (ap (λ v. allow_key (not (in_flow v)) v) l.is_held, allowed)))) (λ allowed. went
+    (read_outside text t _ a (58 ∷ []) more (colon_gap more) Tok.value (begun_after p a.site.blocks) _ refl
+    (colon_reads t more l.indents l.indent (with_start Tok.block_mapping_start t) true [] (None ∷ []) _ e refl refl
+    (ap (opened p.col) a.blocks_are ∙ sym (l.columns_are ∙ m.columns_are)) (sym l.awaits) l.are_levels a.was_adjacent)
+    (record { line_is = (inl refl, refl, tt); no_key = refl; flow_is = refl; keys_are = refl }) (grind (arith, append_assoc, append-nil, is_free, a.is_indented (ap is_empty e)))))
   where
+    p : Position
+    p = t.held.position
+
+    bs : List ℕ
+    bs = not_ended p.col a.site.blocks
+
+    is_free : t.held.key_allowed ≡ true → a.line_here ≡ free
+    is_free allowed = line_free t.held.key_allowed t.rest a.line_here allowed a.line_is
+
     h : Held
     h = at_value more t [] (None ∷ [])
 
     -- the level of a mapping, if one begins
-    m : RollsTo t.held.position.col None (token t.held.position Tok.block_mapping_start) h (roll_indent t.held.position.col None Tok.block_mapping_start t.held.position h)
-    m = rolls_to t.held.position.col None Tok.block_mapping_start t.held.position h refl a.are_levels (first_not_right t.held.position.col t.held.indent t.held.indents a.are_levels deep)
+    m : RollsTo p.col None (token p Tok.block_mapping_start) h (roll_indent p.col None Tok.block_mapping_start p h)
+    m = rolls_to p.col None Tok.block_mapping_start p h refl a.are_levels (first_not_right p.col t.held.indent t.held.indents a.are_levels deep)
 
     rolled : Held
     rolled = record h { indents = m.indents; indent = m.indent; tokens = with_start Tok.block_mapping_start t }
@@ -92,62 +84,38 @@ valued_entry e = record { kind = e.kind; pair = pair_past (takes_pair e.kind e.p
 pub single_is : (f : FlowLevel) (fs : List FlowLevel) (k : Option Key) (e : Entry) → IsEntryOf f k e → takes_pair e.kind e.pair ≡ opens_pair (f ∷ fs)
 single_is f fs k e h = grind arith
 
--- the tokens with the start of a single pair, if one begins
-abbrev pub with_pair : (single : Bool) → (more : List ℕ) → ScannerState → List Token
-with_pair single more t = (if single then t.held.tokens ++ token (pair_position (past t.held.position) more) Tok.flow_mapping_start ∷ [] else t.held.tokens)
-
--- what stands after it, with its account
-pub keyless_within : (text more : List ℕ) (t : ScannerState) (f : FlowLevel) (fs : List FlowLevel) (ks : List (Option Key)) (e : Entry) (es : List Entry) (a : ArrivesBy text t (f ∷ fs) (None ∷ ks) (e ∷ es)) → t.rest ≡ 58 ∷ more → colon_may_precede more ≡ true →
-    is_value_indicator true (is_adjacent (before_past (before_by a.site.before) a.separation)) more ≡ true → IsDeep t.held →
-    Onward text t.rest (colon_end t more t.held.indents t.held.indent (with_pair (opens_pair (f ∷ fs)) more t) false (pair_level InPair f ∷ fs) (None ∷ ks))
-unfolding is_break
-keyless_within text more t f fs ks e es a cut apart ind deep =
-    goes_inside text t (colon_end t more t.held.indents t.held.indent (with_pair (opens_pair (f ∷ fs)) more t) false (pair_level InPair f ∷ fs) (None ∷ ks)) f (pair_level InPair f) fs None ks e (valued_entry e) es a (58 ∷ []) more Tok.value (colon_gap more)
-    (colon_reads t more t.held.indents t.held.indent (with_pair (opens_pair (f ∷ fs)) more t) false (pair_level InPair f ∷ fs) (None ∷ ks) _ cut refl refl a.blocks_are a.awaits_is a.are_levels a.was_adjacent)
-    (record {
-      flow_is = refl;
-      keys_are = refl;
-      entry_is = grind arith;
-      has_had = (inr refl, refl);
-      in_line = refl;
-      begun = refl;
-      is_piece = (refl, ind);
-      stands = rw (a.is_indented (ap is_empty cut), low_enough text t f fs (None ∷ ks) (e ∷ es) a deep, apart) refl;
-      entry_past = λ xs. (grind arith);
-      colons = λ n p ws last. refl;
-      tokens_are = (grind (arith, append_assoc)) ∙ (ap (λ q. a.tokens ++ (start_if (opens_pair (f ∷ fs)) (pair_position q more) Tok.flow_mapping_start ++ (put t.held.position Tok.value ∷ []))) (sym (past_one t.held.position 58 more refl)) ∙
-          (ap (λ b. a.tokens ++ (start_if b (pair_position (position_after t.held.position (58 ∷ []) more) more) Tok.flow_mapping_start ++ (put t.held.position Tok.value ∷ []))) (sym (single_is f fs None e a.are_entries.0)) ∙ ap (λ x. a.tokens ++ (x ++ (put t.held.position Tok.value ∷ []))) (sym (grind arith))));
-    })
-
 pub keyless_inside : (text more : List ℕ) (t : ScannerState) (f : FlowLevel) (fs : List FlowLevel) (ks : List (Option Key)) (e : Entry) (es : List Entry) (a : ArrivesBy text t (f ∷ fs) (None ∷ ks) (e ∷ es)) → t.rest ≡ 58 ∷ more → colon_may_precede more ≡ true →
     is_value_indicator true (is_adjacent (before_past (before_by a.site.before) a.separation)) more ≡ true → IsDeep t.held → Holds (Onward text t.rest) (value_by more t (f ∷ fs) (None ∷ ks))
-unfolding begin_keyless_value begin_keyless_mapping
+unfolding begin_keyless_value begin_keyless_mapping is_break
 keyless_inside text more t f fs ks e es a cut apart ind deep =
-    chained {P = λ w. w ≡ record { rest = past_gap more; held = (record t.held { flow = pair_level InPair f ∷ fs; keys = None ∷ ks; position = pair_position (past t.held.position) more; leading = false; key_allowed = false; tokens = with_pair (opens_pair (f ∷ fs)) more t }) }}
+    chained {P = λ w. w ≡ record { rest = past_gap more; held = (record t.held { flow = pair_level InPair f ∷ fs; keys = None ∷ ks; position = pair_position (past t.held.position) more; leading = false; key_allowed = false; tokens = ts }) }}
     (tried (record { rest = past_gap more; held = at_value more t (f ∷ fs) (None ∷ ks) }) _ (grind (arith, went, opens_none)) (λ s d. ap (λ y. record { rest = past_gap more; held = y }) d)) (λ w d.
-    went (subst (λ z. Onward text t.rest (on_held (push t.held.position Tok.value) z)) (sym d) (keyless_within text more t f fs ks e es a cut apart ind deep)))
+    went (subst (λ z. Onward text t.rest (on_held (push t.held.position Tok.value) z)) (sym d)
+    (goes_inside text t _ f (pair_level InPair f) fs None ks e (valued_entry e) es a (58 ∷ []) more Tok.value (colon_gap more)
+    (colon_reads t more t.held.indents t.held.indent ts false (pair_level InPair f ∷ fs) (None ∷ ks) _ cut refl refl a.blocks_are a.awaits_is a.are_levels a.was_adjacent)
+    (grind (arith, append_assoc, past_one, single_is, tokens_before, a.is_indented (ap is_empty cut), low_enough text t f fs (None ∷ ks) (e ∷ es) a deep)))))
+  where
+    -- the tokens with the start of a single pair, if one begins
+    ts : List Token
+    ts = (if opens_pair (f ∷ fs) then t.held.tokens ++ token (pair_position (past t.held.position) more) Tok.flow_mapping_start ∷ [] else t.held.tokens)
 
 -- ---- a colon that ends the key that is open: what holds where it begins holds between two fetches after it
 
 -- ---- outside flow
-
--- the key, and the start of its mapping where that begins, before the tokens of its number
-abbrev pub with_key : (begins : Bool) → (start : Token) → Key → List Token → List Token
-with_key begins start k ts = (if begins then placed (Some k.number) start (insert ts k.number (token k.position Tok.key)) else insert ts k.number (token k.position Tok.key))
 
 module _ (text more : List ℕ) (t : ScannerState) (k : Key) (a : ArrivesBy text t [] (Some k ∷ []) []) (e : t.rest ≡ 58 ∷ more) (apart : colon_may_precede more ≡ true) (ind : is_value_indicator false (is_adjacent (before_past (before_by a.site.before) a.separation)) more ≡ true) where
   abbrev x : Site
   x = site_here false t.held.position a.site
 
   same_site : site_at false a.site a.separation (58 ∷ []) Tok.value more ≡ x
-  same_site = ap (λ q. site_here false q a.site) (sym (a.position_is ∙ ap (λ y. position_after a.site.position a.separation y) e))
+  same_site = grind (arith, a.position_is, e)
 
   live : IsLive k t.held.position t.rest
   live = ((a.is_near refl).0, (ap is_empty e))
 
   -- no collection ends here
   same_blocks : not_ended t.held.position.col a.site.blocks ≡ a.site.blocks
-  same_blocks = all_go_on t.held.position.col k.position.col a.site.blocks (a.is_open.1 live).column_is ((not_before_then k.position a.site.position t.held.position (weaker k.position a.site.position a.is_open.0) (rw a.position_is (not_before_after a.site.position a.separation t.rest))).1 live.0)
+  same_blocks = grind (arith, live, a, not_before_then k.position a.site.position t.held.position, weaker, not_before_after a.site.position a.separation t.rest)
 
   -- no line begins before the colon, and it is near
   quiet : (begins_free_line a.site.before a.separation ≡ false) × (is_near k.position t.held.position ≡ true)
@@ -157,8 +125,11 @@ module _ (text more : List ℕ) (t : ScannerState) (k : Key) (a : ArrivesBy text
   abbrev pub held_key : Held
   held_key = record (at_value more t [] (Some k ∷ [])) { tokens = insert t.held.tokens k.number (token k.position Tok.key) }
 
+  -- the key, and the start of its mapping where that begins, before the tokens of its number
   abbrev pub now : List Token
-  now = with_key (is_deeper k.position.col (columns t.held.indent t.held.indents)) (token t.held.position Tok.block_mapping_start) k t.held.tokens
+  now =
+      let keyed : List Token = insert t.held.tokens k.number (token k.position Tok.key) in
+      (if is_deeper k.position.col (columns t.held.indent t.held.indents) then placed (Some k.number) (token t.held.position Tok.block_mapping_start) keyed else keyed)
 
   pub rolled : RollsTo k.position.col (Some k.number) (token t.held.position Tok.block_mapping_start) held_key (roll_indent k.position.col (Some k.number) Tok.block_mapping_start t.held.position held_key)
   rolled = rolls_to k.position.col (Some k.number) Tok.block_mapping_start t.held.position held_key refl a.are_levels (subst (λ bs. IsNotRight (innermost bs) k.position.col) (sym same_blocks ∙ a.blocks_are) (a.is_open.1 live).column_is)
@@ -172,31 +143,25 @@ module _ (text more : List ℕ) (t : ScannerState) (k : Key) (a : ArrivesBy text
   abbrev pub keyed_end : ScannerState
   keyed_end = colon_end t more awaiting.indents awaiting.indent now false [] (None ∷ [])
 
-  tokens_alike : keyed_end.held.tokens ≡
-      put_key (is_deeper k.position.col a.site.blocks) (put t.held.position Tok.block_mapping_start) k.number k.position a.tokens ++ ((ends_at t.held.position a.site.blocks (not_ended t.held.position.col a.site.blocks) ++ []) ++ (put t.held.position Tok.value ∷ []))
-  tokens_alike = grind (arith, (sym same_blocks ∙ a.blocks_are), (a.tokens_are ∙ (ap (λ bs. a.tokens ++ ends_at t.held.position a.site.blocks bs) same_blocks ∙ (ap (λ x. a.tokens ++ x) (grind arith) ∙ append-nil a.tokens))), same_blocks)
-
   abbrev outside_after : Outside
   outside_after = record { line = taken; blocks = opened k.position.col x.blocks }
 
   -- the key goes in before the tokens of its number
   keyed_tokens : (ws : List Step) (last : List ℕ) → spelled ws last ≡ more →
       (let w : Step = keyless a.separation (58 ∷ []) Tok.value in tokens_up_to (Outer a.site (waits k.position)) (Some k ∷ []) a.tokens (w ∷ ws) last ++ tokens_of_step (Outer a.site (waits k.position)) w ws last ≡ keyed_end.held.tokens)
-  keyed_tokens ws last h = grind (arith, quiet, (a.position_is ∙ ap (λ y. position_after a.site.position a.separation y) e), tokens_alike)
+  keyed_tokens ws last h = grind (arith, quiet, (a.position_is ∙ ap (λ y. position_after a.site.position a.separation y) e), (sym same_blocks ∙ a.blocks_are), (a.tokens_are ∙ (ap (λ bs. a.tokens ++ ends_at t.held.position a.site.blocks bs) same_blocks ∙ (ap (λ x. a.tokens ++ x) (grind arith) ∙ append-nil a.tokens))), same_blocks)
 
-  pub keyed_stands : Onward text t.rest keyed_end
-  keyed_stands =
-      ends_outside text t keyed_end (Some k) a (58 ∷ []) more (colon_gap more) Tok.value outside_after x refl
+  pub keyed_outside : Holds (Onward text t.rest) (value_by more t [] (Some k ∷ []))
+  unfolding insert_key begin_pair
+  keyed_outside =
+      subst (λ r. Holds (Onward text t.rest) r) (sym (grind arith)) (went {x = keyed_end}
+      (ends_outside text t keyed_end (Some k) a (58 ∷ []) more (colon_gap more) Tok.value outside_after x refl
       (colon_reads t more awaiting.indents awaiting.indent now false [] (None ∷ []) _ e refl refl (ap (opened k.position.col) a.blocks_are ∙ sym (awaiting.columns_are ∙ rolled.columns_are)) (sym awaiting.awaits) awaiting.are_levels a.was_adjacent)
       (record { line_is = (inr refl, sym (ap not (gap_is more).2), tt); no_key = refl; flow_is = refl; keys_are = refl })
       (is_written text a.site a.separation (58 ∷ []) more Tok.value x same_site true false (waits k.position) (waits k.position) outside_after (grind (arith, (ap is_empty e), quiet, no_waiting))) refl
       (λ strict. goes_of strict text more (outer_then text a.site a.separation (58 ∷ []) more Tok.value x same_site outside_after) keyed_end.held.tokens refl refl
       (outer_completes text a.site a.separation (58 ∷ []) more Tok.value x same_site true false (waits k.position) (waits k.position) outside_after (tokens_up_to (Outer a.site (waits k.position)) (Some k ∷ []) a.tokens) (λ ws last. keyed_end.held.tokens) (grind (arith, (ap is_empty e), quiet, no_waiting)) keyed_tokens
-      (rw (sym e) (a.completes true true [] live))))
-
-  pub keyed_outside : Holds (Onward text t.rest) (value_by more t [] (Some k ∷ []))
-  unfolding insert_key begin_pair
-  keyed_outside = subst (λ r. Holds (Onward text t.rest) r) (sym (grind arith)) (went keyed_stands)
+      (rw (sym e) (a.completes true true [] live))))))
 
 -- ---- in flow
 
@@ -206,64 +171,37 @@ module _ (text more : List ℕ) (t : ScannerState) (f : FlowLevel) (fs : List Fl
   abbrev pub in_pair : (single : Bool) → List Token
   in_pair single = put_key single (put (pair_position (past t.held.position) more) Tok.flow_mapping_start) k.number k.position t.held.tokens
 
-  abbrev pub held_pair : FlowLevel → Held
-  held_pair g = record t.held { flow = pair_level InPair g ∷ fs; keys = None ∷ ks; position = pair_position (past t.held.position) more; leading = false; key_allowed = false; tokens = in_pair (opens_pair (g ∷ fs)) }
-
-  closed : (h : Held) → in_flow h ≡ true → record (roll_one_col_indent h) { keys = with_top None (roll_one_col_indent h).keys; key_allowed = false } ≡ record h { keys = with_top None h.keys; key_allowed = false }
-  closed h inside = ap {A = Held} {B = Held} (λ v. record v { keys = with_top None v.keys; key_allowed = false }) (opens_none h inside)
-
   -- a single pair's key stands on the colon's line
   pair_begun : (g : FlowLevel) → k.position.line ≤ t.held.position.line →
-      Holds (λ y. (y ≡ held_pair g) × ((not (opens_pair (g ∷ fs)) || (k.position.line == t.held.position.line)) ≡ true)) (insert_key k t.held.position (opens_pair (g ∷ fs)) (at_value more t (g ∷ fs) (Some k ∷ ks)))
+      Holds (λ y. (y ≡ record t.held { flow = pair_level InPair g ∷ fs; keys = None ∷ ks; position = pair_position (past t.held.position) more; leading = false; key_allowed = false; tokens = in_pair (opens_pair (g ∷ fs)) }) × ((not (opens_pair (g ∷ fs)) || (k.position.line == t.held.position.line)) ≡ true)) (insert_key k t.held.position (opens_pair (g ∷ fs)) (at_value more t (g ∷ fs) (Some k ∷ ks)))
   unfolding insert_key begin_pair roll_indent
-  pair_begun a h = grind (arith, chained, checked, went, closed)
+  pair_begun a h = grind (arith, chained, checked, went, opens_none)
 
   abbrev pub inner_after : ScannerState
   inner_after = colon_end t more t.held.indents t.held.indent (in_pair (opens_pair (f ∷ fs))) false (pair_level InPair f ∷ fs) (None ∷ ks)
-
-  -- the tokens of the row, at a colon's end
-  abbrev key_in : Bool → Position → (next : List ℕ) → List Token → List Token
-  key_in single q next ts = put_key single (put (pair_position q next) Tok.flow_mapping_start) k.number k.position ts
-
-  abbrev own : List Token
-  own = put t.held.position Tok.value ∷ []
-
-  inner_alike : key_in (takes_pair x.kind x.pair) (position_after (position_after a.site.position a.separation (58 ∷ more)) (58 ∷ []) more) more a.tokens ++ (put (position_after a.site.position a.separation (58 ∷ more)) Tok.value ∷ []) ≡ inner_after.held.tokens
-  unfolding is_break
-  inner_alike =
-      ap (λ q. key_in (takes_pair x.kind x.pair) (position_after q (58 ∷ []) more) more a.tokens ++ (put q Tok.value ∷ [])) (sym (a.position_is ∙ ap (λ y. position_after a.site.position a.separation y) e)) ∙
-      (ap (λ b. key_in b (position_after t.held.position (58 ∷ []) more) more a.tokens ++ own) (single_is f fs (Some k) x a.are_entries.0) ∙ ap (λ q. key_in (opens_pair (f ∷ fs)) q more a.tokens ++ own) (past_one t.held.position 58 more refl) ∙
-      ap (λ ts. key_in (opens_pair (f ∷ fs)) (past t.held.position) more ts ++ own) (sym (tokens_before text t f fs (Some k) ks x es a)))
 
   inner_tokens : (cs : List Bool) (l : Line) (ws : List Step) (last : List ℕ) → spelled ws last ≡ more →
       (let w : Step = keyless a.separation (58 ∷ []) Tok.value in let ys : List Entry = entry_by true (Some k) x ∷ entries_by (pop cs) ks es in
       tokens_up_to (with_entries a.site l ys) (Some k ∷ ks) a.tokens (w ∷ ws) last ++ tokens_at a.site (site_here true (position_after a.site.position a.separation (58 ∷ spelled ws last)) a.site) w ws last l ys ≡
       with_keys 1 (past_step a.site.position w ws last) ws last a.site.blocks l (entries_by (pop cs) ks es) ks inner_after.held.tokens)
+  unfolding is_break
   inner_tokens cs l ws last h =
       let w : Step = keyless a.separation (58 ∷ []) Tok.value in
       let ys : List Entry = entries_by (pop cs) ks es in
-      let first : List ℕ → List Token = λ r. key_in (takes_pair x.kind x.pair) (position_after (position_after a.site.position a.separation (58 ∷ r)) (58 ∷ []) r) r a.tokens in
-      let put_in : List Token = first (spelled ws last) in
       let shown : List Token = put (position_after a.site.position a.separation (58 ∷ spelled ws last)) Tok.value ∷ [] in
-      let many : length a.tokens ≤ length put_in = key_longer (takes_pair x.kind x.pair) (put (pair_position (past_step a.site.position w ws last) (spelled ws last)) Tok.flow_mapping_start) k.number k.position a.tokens in
-      sym (keys_first 1 a.site.position (w ∷ ws) last a.site.blocks l ys ks put_in shown (fewer (length a.tokens) (length put_in) ks many (first_among (length a.tokens) (Some k) ks (among (length a.tokens) (Some k ∷ ks) a.are_numbered)).1)) ∙
-      (keys_along (λ m. suc m) (λ m. suc m) (λ m. refl) (λ m. refl) 0 a.site.position (past_step a.site.position w ws last) w ws last (λ m. refl) a.site.blocks l ys ks (put_in ++ shown) ∙
-      ap (λ ts. with_keys 1 (past_step a.site.position w ws last) ws last a.site.blocks l ys ks ts) (ap (λ r. first r ++ (put (position_after a.site.position a.separation (58 ∷ r)) Tok.value ∷ [])) h ∙ inner_alike))
+      let own = keys_own 0 a.site.position (w ∷ ws) last a.site.blocks l (entry_by true (Some k) x) ys (Some k) ks a.tokens shown (among (length a.tokens) (Some k ∷ ks) a.are_numbered) in
+      let along = keys_along (λ m. suc m) (λ m. suc m) (λ m. refl) (λ m. refl) 0 a.site.position (past_step a.site.position w ws last) w ws last (λ m. refl) a.site.blocks l ys ks in
+      let shared = tokens_before text t f fs (Some k) ks x es a in
+      grind (arith, a.position_is, e, h, single_is f fs (Some k) x a.are_entries.0, past_one t.held.position 58 more refl, shared, own, along)
 
   pub inner_stands : (not (opens_pair (f ∷ fs)) || (k.position.line == t.held.position.line)) ≡ true → Onward text t.rest inner_after
   unfolding is_break
   inner_stands its_line =
+      let numbered : AreNumbered (length inner_after.held.tokens) ks =
+      numbered_more (length a.tokens) (length inner_after.held.tokens) ks (grind (arith, key_longer, tokens_before, length-append)) (numbered_around (length a.tokens) (Some k) ks a.are_numbered) in
       steps_in_flow text t inner_after f fs (Some k) ks x es a (58 ∷ []) more Tok.value (None ∷ ks) (valued_entry x ∷ es) (pair_level InPair f ∷ fs) (colon_gap more)
-      (colon_reads t more t.held.indents t.held.indent (in_pair (opens_pair (f ∷ fs))) false (pair_level InPair f ∷ fs) (None ∷ ks) _ e refl refl a.blocks_are a.awaits_is a.are_levels a.was_adjacent) (record {
-        flow_is = refl;
-        keys_are = refl;
-        one_each = a.one_each;
-        same_key = refl;
-        are_entries = ((grind arith), (inr refl, refl), a.are_entries.2);
-        line_is = line_taken text t f fs (Some k) ks x es a;
-        are_numbered = (tt, numbered_more (length a.tokens) (length inner_after.held.tokens) ks (grind (arith, key_longer, tokens_before, length-append)) (numbered_around (length a.tokens) (Some k) ks a.are_numbered));
-        in_line = λ _ _. refl;
-      }) (record {
+      (colon_reads t more t.held.indents t.held.indent (in_pair (opens_pair (f ∷ fs))) false (pair_level InPair f ∷ fs) (None ∷ ks) _ e refl refl a.blocks_are a.awaits_is a.are_levels a.was_adjacent)
+      (grind (arith, single_is, line_taken text t f fs (Some k) ks x es a, numbered)) (record {
         is_piece = (refl, ind);
         stands = rw (a.is_indented (ap is_empty e), low_enough text t f fs (Some k ∷ ks) (x ∷ es) a deep, apart) refl;
         choice = λ cs. true;
@@ -280,7 +218,7 @@ module _ (text more : List ℕ) (t : ScannerState) (f : FlowLevel) (fs : List Fl
 
 pub key_before : (text : List ℕ) (t : ScannerState) (f : FlowLevel) (fs : List FlowLevel) (k : Key) (ks : List (Option Key)) (x : Entry) (es : List Entry) → ArrivesBy text t (f ∷ fs) (Some k ∷ ks) (x ∷ es) → is_empty t.rest ≡ false →
     k.position.line ≤ t.held.position.line
-key_before text t f fs k ks x es a some = by (outside_key es ks) refl
+key_before text t f fs k ks x es a some = by (outside_key es ks) (is_required (outside_key es ks)) refl refl
   where
     b : Account
     b = chosen false (true ∷ []) (Some k ∷ ks) (with_entries a.site a.line (x ∷ es))
@@ -288,21 +226,15 @@ key_before text t f fs k ks x es a some = by (outside_key es ks) refl
     early : KeysBefore b → k.position.line ≤ t.held.position.line
     early h = let there = ap (λ q. q.line) a.position_is in let grows = line_grows a.site.position a.separation t.rest in omega (arith, h.0, there, grows)
 
-    may : (y : Option Key) → outside_key es ks ≡ y → MayChoose true false y t.held.position t.rest → k.position.line ≤ t.held.position.line
-    may y i h =
-        let g = (a.completes true false (true ∷ []) (rw i h)).0 in
+    by : (y : Option Key) (c : Bool) → outside_key es ks ≡ y → is_required y ≡ c → k.position.line ≤ t.held.position.line
+    by y false i e =
+        let g = (a.completes true false (true ∷ []) (rw i (grind arith))).0 in
         early (keys_before (Some first_account) g.steps (a.separation ++ t.rest) b g.leads tt)
-
-    by : (y : Option Key) → outside_key es ks ≡ y → k.position.line ≤ t.held.position.line
-    by None i = may None i tt
-    by (Some z) i = by_must z.required refl
-      where
-        by_must : (c : Bool) → z.required ≡ c → k.position.line ≤ t.held.position.line
-        by_must false e = may (Some z) i e
-        by_must true e =
-            let g = a.carries (true ∷ []) z i e refl some in
-            let first = keys_before (Some first_account) g.begins.steps (spelled g.steps (a.separation ++ t.rest)) g.account g.begins.leads tt in
-            early (keys_before (Some (record g.account { line = taken })) g.steps (a.separation ++ t.rest) b g.leads first)
+    by None true i e = absurd (cc e)
+    by (Some z) true i e =
+        let g = a.carries (true ∷ []) z i e refl some in
+        let first = keys_before (Some first_account) g.begins.steps (spelled g.steps (a.separation ++ t.rest)) g.account g.begins.leads tt in
+        early (keys_before (Some (record g.account { line = taken })) g.steps (a.separation ++ t.rest) b g.leads first)
 
 -- ---- the function of the model that reads a colon: what holds where it begins holds between two fetches after it
 

@@ -1,10 +1,10 @@
 -- Spaces, breaks and comments after a `?`: what the model reads there is all of them, and no TAB is among them but in comments.
-use Rattle.proof_scanner.proofs.Common.{At, Bool, Err, Fault, HasPassed, Held, Holds, List, Ok, Result, ScannerState, [], after_separation, and_false, and_parts, ap, append_cancel_right, arith, begins_white_space, begins_with, begins_with_space_or_break, both_hold, eqb-true, false, has_break, has_no_break, has_tab_before_piece, if◌then◌else◌, inr, is_at_gap, is_blank, is_blank_or_end, is_break, is_nul, is_one_of, is_separation, last_line, moved, no_break_hash, not, or_true, refl, refused, same_break, skip_yaml_whitespace, slice_index, sym, true, weakened, went, white, white_end, ℕ, ◌&&◌, ◌++◌, ◌==◌, ◌||◌, ◌∙◌, ◌∷◌, ◌≡◌, ◌⊎◌}
+use Rattle.proof_scanner.proofs.Sound.QuotedEnds.{always}
+use Rattle.proof_scanner.proofs.Common.{WhitespaceExpected, At, Bool, Err, HasPassed, Held, Holds, List, ScannerState, [], after_separation, and_false, and_parts, ap, append_cancel_right, arith, begins_white_space, begins_with, begins_with_space_or_break, both_hold, eqb-true, false, has_break, has_no_break, has_tab_before_piece, if◌then◌else◌, inr, is_at_gap, is_blank, is_blank_or_end, is_break, is_nul, is_one_of, is_separation, last_line, no_break_hash, not, or_true, refl, refused, same_break, skip_yaml_whitespace, slice_index, sym, true, weakened, went, white, ℕ, ◌++◌, ◌==◌, ◌||◌, ◌∙◌, ◌∷◌, ◌≡◌, ◌⊎◌, inl}
 use Rattle.yaml_chars.specs.Class as class
 use Rattle.model_scanner.specs.Space.{at_break}
 use Rattle.proof_scanner.proofs.Cut.Passes.{white_passed}
 use Rattle.proof_scanner.proofs.Sound.LastLines.{last_first}
-use Rattle.yaml_tokens.specs.declared.problem.Problem.TheVariants as problem
 
 -- whether a character outside comments belongs to it
 abbrev pub goes_over : ℕ → Bool
@@ -65,17 +65,7 @@ feed_after c a s e = grind (arith, feed, and_parts, or_true)
 white_read : (in_comment found : Bool) (a : List ℕ) (s : Held) → Holds (IsPastWhite in_comment s.leading a) (white in_comment found a s)
 unfolding white is_break
 white_read b found [] s = grind (arith, went, refused)
-white_read i found (c ∷ a) s = of i (class.is_break c) (c == 32) (c == 35) refl refl refl (λ i f u. white_read i f a u)
-  where
-    more : (i : Bool) (u : ScannerState) → is_break c ≡ false → IsPastWhite i s.leading a u → (u.rest ≡ past_white i a) × (u.held.leading ≡ (s.leading || has_break (c ∷ white_of i a)))
-    more i u e h = (h.0, h.1 ∙ ap (λ b. s.leading || not (not b && has_no_break (white_of i a))) (sym e))
-
-    stay : (u : ScannerState) → goes_over c ≡ false → (u.rest ≡ c ∷ a) × (u.held.leading ≡ (s.leading || false)) → IsPastWhite false s.leading (c ∷ a) u
-    stay u e h = rw e h
-
-    of : (i x y z : Bool) → class.is_break c ≡ x → (c == 32) ≡ y → (c == 35) ≡ z → ((j : Bool) → ((f : Bool) (u : Held) → Holds (IsPastWhite j u.leading a) (white j f a u))) →
-        Holds (IsPastWhite i s.leading (c ∷ a)) (if x then white false true a (at_break c a s) else (if i then white true found a (moved s) else (if y then white false true a (moved s) else (if z then white true found a (moved s) else white_end found (c ∷ a) s))))
-    of a b y z e f g h = grind (arith, same_break, weakened, feed_after, or_true, more, no_break_hash, eqb-true, stay, went, refused)
+white_read i found (c ∷ a) s = grind (arith, same_break, weakened, feed_after, or_true, no_break_hash, eqb-true, went, refused, white_read true found a, white_read false true a, white_read true true a)
 
 -- The state after spaces, breaks and comments.
 abbrev pub past_white_space : ScannerState → ScannerState
@@ -91,12 +81,7 @@ white_exactly t = weakened exactly (both_hold (white_passed t) (white_read false
         let p = q.0 in
         let k = q.1 in
         let same : p.separation ≡ white_of false t.rest = append_cancel_right p.separation (white_of false t.rest) u.rest (sym p.cut ∙ (white_cut false t.rest ∙ ap (λ r. white_of false t.rest ++ r) (sym k.0))) in
-        let leads : p.is_leading ≡ (t.held.leading || has_break (white_of false t.rest)) = sym (ap (λ (v : ScannerState). v.held.leading) p.is_state) ∙ k.1 in (
-          p.is_state ∙ (ap (λ b. after_separation t.held b p.separation u.rest) leads ∙
-              (ap (λ f. after_separation t.held (t.held.leading || has_break (white_of false t.rest)) f u.rest) same ∙
-              ap (λ r. after_separation t.held (t.held.leading || has_break (white_of false t.rest)) (white_of false t.rest) r) k.0)),
-          ap (λ f. is_separation false f (past_white false t.rest)) (sym same) ∙ (ap (λ r. is_separation false p.separation r) (sym k.0) ∙ p.is_filled),
-        )
+        grind (arith, p, k, same)
 
 -- no TAB is among them but in comments
 pub no_tab_in : (in_comment : Bool) (a : List ℕ) → has_tab_before_piece in_comment (white_of in_comment a) ≡ false
@@ -107,7 +92,7 @@ no_tab_in false (c ∷ r) = grind (arith, and_false, eqb-true, no_tab_in (c == 3
 
 -- Neither a space nor a break stands there, and that is refused.
 pub record IsMissed (more : List ℕ) (s : Held) : Type 0 where
-  pub is_refused : white false false more s ≡ Err (At problem.WhitespaceExpected s.position)
+  pub is_refused : white false false more s ≡ Err (At WhitespaceExpected s.position)
   pub no_space : begins_with 32 more ≡ false
   pub ends : begins_white_space more ≡ false
 
@@ -120,9 +105,6 @@ white_or_missed b s gap = grind (arith, same_break, or_true)
 pub white_first : (more : List ℕ) (s : Held) → is_at_gap more ≡ true → Holds (λ u. begins_with_space_or_break more ≡ true) (white false false more s)
 white_first more s gap = by (white_or_missed more s gap)
   where
-    anyway : (r : Result ScannerState Fault) → begins_with_space_or_break more ≡ true → Holds (λ u. begins_with_space_or_break more ≡ true) r
-    anyway (Ok u) h = went h
-    anyway (Err f) h = refused
-
     by : (begins_with_space_or_break more ≡ true) ⊎ IsMissed more s → Holds (λ u. begins_with_space_or_break more ≡ true) (white false false more s)
-    by a = grind (arith, anyway, refused)
+    by (inl h) = always _ (λ u. h)
+    by (inr m) = rw m.is_refused refused
