@@ -81,6 +81,28 @@ window_leaves (Many b) k ps rank count a digested w = record {
   below = narrowed_below k (joined b.value) ps rank count a digested w;
 }
 
+-- the key in the middle of what is left is not the key: what is left before it, and after it
+module _ {m : Tree → ℕ} {k : Tree} {rs : List ℕ} {ps : Pairs} (a : AreRanked m rs ps) {rank count : ℕ} (l : AreLeft m k rs ps rank count) (half : ℕ) {r : ℕ}
+    (at : r ≡ rank + half) (h : half < count) where
+  by_key : key_cmp m k (key_of_rank rs ps r) ≡ tree_cmp k (key_of_rank rs ps r)
+  by_key = same_digest m k (key_of_rank rs ps r) (l.same r (omega arith) (omega arith))
+
+  pub left_before : tree_cmp k (key_of_rank rs ps r) ≡ Less → AreLeft m k rs ps rank half
+  left_before e = record {
+    within = omega (arith, l.within);
+    above = l.above;
+    same = λ s f g. l.same s f (omega arith);
+    below = λ s f g. below_from_on rs ps a k r (by_key ∙ e) s (omega arith) g;
+  }
+
+  pub left_after : (next rest : ℕ) → next ≡ r + 1 → rest ≡ count - (half + 1) → tree_cmp k (key_of_rank rs ps r) ≡ Greater → AreLeft m k rs ps next rest
+  left_after next rest n c e = record {
+    within = omega (arith, l.within);
+    above = λ s f. above_up_to rs ps a k r (omega (arith, l.within)) (by_key ∙ e) s (omega arith);
+    same = λ s f g. l.same s (omega arith) (omega arith);
+    below = λ s f g. l.below s (omega arith) g;
+  }
+
 -- ---- pairs come, go and move
 
 pub digests_next : (ms rs : List ℕ) (ps : Pairs) (at m x : ℕ) → length ms ≡ length rs → at ≤ length rs → AreDigests ms rs ps → m ≡ digest (key_at ps x) → AreDigests (insert ms at m) (insert rs at x) ps

@@ -38,49 +38,47 @@ digits_shared a b h = from (binary_digits (a + b)) (least_exponent (a + b))
     from zero r = let low : a + b < 2 ^ 0 = r.0 in absurd (omega arith)
     from (suc k) r = either k r.0 (cases_lt a (2 ^ k))
 
--- a search that began at the count `first` and may count so many has come to stand between low and high; what it may still
--- count is kept in mind
+-- So many comparisons were made at first, and now; what is left by halves may cost no more than so many in all.
+pub record IsCounting (first most now left : ℕ) : Type 0 where
+  pub counted : first ≤ now
+  pub within : now + binary_digits left ≤ first + most
+
+pub counting_more : {first most now left : ℕ} (later rest : ℕ) → IsCounting first most now left → 0 < left → rest ≤ left / 2 → later ≡ now + 1
+    → IsCounting first most later rest
+counting_more {left = left} later rest i some half more = record { counted = omega (arith, i.counted); within = omega (arith, i.within, halved rest left some half) }
+
+-- a search that counts so has come to stand between low and high
 pub record IsSearch (f : ℕ → ℕ) (n most m first now low high : ℕ) : Type 0 where
   pub halving : IsHalving f n m low high
-  pub counted : first ≤ now
-  pub within : now + binary_digits (high - low) ≤ first + most
+  pub counting : IsCounting first most now (high - low)
 
 abbrev pub middle : ℕ → ℕ → ℕ
 middle low high = low + (high - low) / 2
 
-pub middle_within : {f : ℕ → ℕ} {n most m first now low high : ℕ} → IsSearch f n most m first now low high → low < high → middle low high < n
-middle_within i test = omega (arith, i.halving.within, test)
+module _ {f : ℕ → ℕ} {n most m first now low high : ℕ} (i : IsSearch f n most m first now low high) (test : low < high) where
+  pub middle_within : middle low high < n
+  middle_within = omega (arith, i.halving.within)
 
--- where the number in the middle is below, the search goes on after it
-pub search_after : {f : ℕ → ℕ} {n most m first now later low high d : ℕ} {b : Bool} → IsSearch f n most m first now low high → low < high
-    → b ≡ nat_lt d m → b ≡ true → d ≡ f (middle low high) → later ≡ now + 1 → IsSearch f n most m first later (middle low high + 1) high
-search_after {f} {n} {most} {m} {first} {now} {later} {low} {high} {d} i test order is got count =
-    let less : d < m = ltb-true d m (sym order ∙ is) in
-    let fewer = halved (high - (middle low high + 1)) (high - low) (omega (arith, test)) (omega (arith, test)) in
-    record {
-      halving = record {
-        ordered = omega (arith, test);
-        within = i.halving.within;
-        below = λ k e. let same : k ≡ middle low high = omega arith in omega (arith, ap f same, got, less);
-        from = i.halving.from;
-      };
-      counted = omega (arith, i.counted, count);
-      within = omega (arith, i.within, count, fewer);
-    }
+  module _ {later d : ℕ} {b : Bool} (order : b ≡ nat_lt d m) (got : d ≡ f (middle low high)) (count : later ≡ now + 1) where
+    -- where the number in the middle is below, the search goes on after it
+    pub search_after : b ≡ true → IsSearch f n most m first later (middle low high + 1) high
+    search_after is =
+        let less : d < m = ltb-true d m (sym order ∙ is) in
+        record {
+          halving = record {
+            ordered = omega arith;
+            within = i.halving.within;
+            below = λ k e. let same : k ≡ middle low high = omega arith in omega (arith, ap f same);
+            from = i.halving.from;
+          };
+          counting = counting_more later (high - (middle low high + 1)) i.counting (omega arith) (omega arith) count;
+        }
 
--- where it is not, the search goes on before it
-pub search_before : {f : ℕ → ℕ} {n most m first now later low high d : ℕ} {b : Bool} → IsSearch f n most m first now low high → low < high
-    → b ≡ nat_lt d m → b ≡ false → d ≡ f (middle low high) → later ≡ now + 1 → IsSearch f n most m first later low (middle low high)
-search_before {f} {n} {most} {m} {first} {now} {later} {low} {high} {d} i test order is got count =
-    let more : m ≤ d = ltb-false d m (sym order ∙ is) in
-    let fewer = halved (middle low high - low) (high - low) (omega (arith, test)) (omega (arith, test)) in
-    record {
-      halving = record {
-        ordered = omega (arith, test);
-        within = omega (arith, test, i.halving.within);
-        below = i.halving.below;
-        from = λ h. omega (arith, got, more);
-      };
-      counted = omega (arith, i.counted, count);
-      within = omega (arith, i.within, count, fewer);
-    }
+    -- where it is not, the search goes on before it
+    pub search_before : b ≡ false → IsSearch f n most m first later low (middle low high)
+    search_before is =
+        let more : m ≤ d = ltb-false d m (sym order ∙ is) in
+        record {
+          halving = record { ordered = omega arith; within = omega (arith, i.halving.within); below = i.halving.below; from = λ h. omega arith };
+          counting = counting_more later (middle low high - low) i.counting (omega arith) (omega arith) count;
+        }

@@ -32,10 +32,9 @@ next_spot a b o h = grind arith
 pub next_rank : (k : Kept) (b o : ℕ) → rank_at k (record { block = b; offset = o + 1 }) ≡ rank_at k (record { block = b; offset = o }) + 1
 next_rank a b o = grind arith
 
-pub place_inside : (k : Kept) (s : Spot) → HasPlace k s → rank_at k s < length (places k)
-place_inside (Few ps) s h = h
-place_inside (Many x) s h = omega (arith, rank_inside x.value s.block s.offset h.1, length-map (joined x.value) place_of_entry)
-
-pub offset_inside : (k : Kept) (s : Spot) → HasPlace k s → s.offset < length (places k)
-offset_inside (Few ps) s h = h
-offset_inside (Many x) s h = omega (arith, rank_inside x.value s.block s.offset h.1, length-map (joined x.value) place_of_entry)
+pub place_inside : (k : Kept) (s : Spot) → HasPlace k s → (rank_at k s < length (places k)) × (s.offset < length (places k))
+place_inside (Few ps) s h = (h, h)
+place_inside (Many x) s h =
+    let inside = rank_inside x.value s.block s.offset h.1 in
+    let all = length-map (joined x.value) place_of_entry in
+    (omega arith, omega arith)

@@ -50,31 +50,26 @@ pub digest_in : (bs : List (List Entry)) (i j : ℕ) → i < length bs → j < l
 digest_in bs i j h g = number_in (λ e. e.digest) bs i j h g
 
 -- what is read at a spot
-pub block_read : (xs bs : List (List Entry)) (i : ℕ) (b : List Entry) → xs ≡ bs → i < length bs → b ≡ get_or xs i b → b ≡ get_or bs i []
-block_read xs bs i b v h e = e ∙ ap (λ ys. get_or ys i b) v ∙ get_or_default bs i b [] h
+pub block_read : {xs bs : List (List Entry)} {i : ℕ} {b : List Entry} → xs ≡ bs → i < length bs → b ≡ get_or xs i b → b ≡ get_or bs i []
+block_read {bs = bs} {i = i} {b = b} v h e = e ∙ ap (λ ys. get_or ys i b) v ∙ get_or_default bs i b [] h
 
-pub spot_digest : (xs bs : List (List Entry)) (i j d : ℕ) (b : List Entry) → xs ≡ bs → i < length bs → b ≡ get_or xs i b → j < length b
-    → d ≡ digest_at b j
-    → digest_at (joined bs) (start bs i + j) ≡ d
-spot_digest xs bs i j d b v h e g is =
-    let read = block_read xs bs i b v h e in
-    digest_in bs i j h (omega (arith, g, ap length read)) ∙ sym (is ∙ ap (λ b. digest_at b j) read)
+module _ {xs bs : List (List Entry)} {i : ℕ} {b : List Entry} (v : xs ≡ bs) (h : i < length bs) (e : b ≡ get_or xs i b) where
+  pub spot_digest : (j : ℕ) {d : ℕ} → j < length b → d ≡ digest_at b j → digest_at (joined bs) (start bs i + j) ≡ d
+  spot_digest j g is =
+      let read = block_read v h e in
+      digest_in bs i j h (omega (arith, ap length read)) ∙ sym (is ∙ ap (λ b. digest_at b j) read)
 
--- after the last entry of a block comes the first of the next
-pub next_digest : (xs bs : List (List Entry)) (i j d : ℕ) (b c : List Entry) → xs ≡ bs → AreFilled bs → i + 1 < length bs
-    → b ≡ get_or xs i b → length b ≡ j
-    → c ≡ get_or xs (i + 1) c → d ≡ digest_at c 0 → digest_at (joined bs) (start bs i + j) ≡ d
-next_digest xs bs i j d b c v a h e end f is =
-    let next = start_next bs i (i + 1) (omega arith) in
-    let read = ap length (block_read xs bs i b v (omega arith) e) in
-    let some : 0 < length c = omega (arith, a (i + 1) h, ap length (block_read xs bs (i + 1) c v h f)) in
-    ap (digest_at (joined bs)) (omega (arith, next, read, end)) ∙ spot_digest xs bs (i + 1) 0 d c v h f some is
+  -- after the last block there are no entries
+  pub last_block : length bs ≡ suc i → start bs i + length b ≡ length (joined bs)
+  last_block last = omega (arith, ap length (block_read v h e), start_next bs i (suc i) refl, start_all bs (suc i) (omega arith))
 
--- after the last block there are no entries
-pub last_block : (xs bs : List (List Entry)) (i : ℕ) (b : List Entry) → xs ≡ bs → length bs ≡ suc i → b ≡ get_or xs i b
-    → start bs i + length b ≡ length (joined bs)
-last_block xs bs i b v h e =
-    omega (arith, ap length (block_read xs bs i b v (omega arith) e), start_next bs i (suc i) refl, start_all bs (suc i) (omega arith))
+  -- after the last entry of a block comes the first of the next
+  pub next_digest : {d : ℕ} {c : List Entry} → AreFilled bs → i + 1 < length bs → c ≡ get_or xs (i + 1) c → d ≡ digest_at c 0
+      → digest_at (joined bs) (start bs i + length b) ≡ d
+  next_digest {d} {c} a next f is =
+      let other = block_read v next f in
+      ap (digest_at (joined bs)) (omega (arith, start_next bs i (i + 1) (omega arith), ap length (block_read v h e)))
+      ∙ digest_in bs (i + 1) 0 next (a (i + 1) next) ∙ sym (is ∙ ap (λ b. digest_at b 0) other)
 
 -- ---- a change of one block
 
@@ -265,7 +260,7 @@ pub halved_made : (xs ys : List (List Entry)) (i n h : ℕ) (upper whole lower :
 halved_made xs ys i n h upper whole lower e l put u w low =
     ap (λ zs. set zs i lower) put
     ∙ set_before xs i n lower upper e l
-    ∙ ap (λ b. insert (set xs i b) n upper) (low ∙ ap (take h) (block_read ys (insert xs n upper) i whole put (omega (arith, l, e, length-insert xs n upper (omega (arith, l, e)))) w ∙ get_before xs i n upper [] (omega (arith, e)) l))
+    ∙ ap (λ b. insert (set xs i b) n upper) (low ∙ ap (take h) (block_read put (omega (arith, l, e, length-insert xs n upper (omega (arith, l, e)))) w ∙ get_before xs i n upper [] (omega (arith, e)) l))
     ∙ ap (insert (set xs i (take h (get_or xs i []))) n) u
 
 pub lent_back : {X : Type 0} (n : ℕ) (xs ys : List X) → length xs ≡ n → take n (xs ++ drop (length xs) ys) ≡ xs

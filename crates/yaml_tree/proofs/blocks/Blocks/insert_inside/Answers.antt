@@ -15,7 +15,7 @@ invariant_of-self-2 c =
     let s = c.args.spot in
     let counted = subst (AreCounted xs) (sym c.as_mut_slice.ensures.value) c.self.invariant in
     let inside : s.block < length xs = omega (arith, c.requires.block, ap length c.self.view_is) in
-    let read = block_read xs xs s.block _ refl inside c.index_mut.ensures.value in
+    let read = block_read refl inside c.index_mut.ensures.value in
     let longer = ap length ((c.in_ok-insert.ensures {u = tt}).ok ∙ ap (λ b. insert b s.offset c.args.entry) read) in
     let more = length-insert (get_or xs s.block []) s.offset c.args.entry (omega (arith, c.requires.spot.1, ap (λ bs. length (get_or bs s.block [])) c.self.view_is)) in
     let kept = lent_back c.self.inside.starts.len c.raise.new.starts c.self.inside.starts.items (omega (arith, c.raise.ensures.count, c.as_mut_slice.ensures.len)) in
@@ -27,6 +27,6 @@ pub returns-clause-ok : goal.returns-clause-ok
 returns-clause-ok c =
     let bs = c.args.self.now in
     let s = c.args.spot in
-    let read = block_read c.self.inside.blocks.items bs s.block _ c.self.view_is c.requires.block c.index_mut.ensures.value in
+    let read = block_read c.self.view_is c.requires.block c.index_mut.ensures.value in
     ap joined (ap (set c.self.inside.blocks.items s.block) ((c.in_ok-insert.ensures {u = tt}).ok ∙ ap (λ b. insert b s.offset c.args.entry) read) ∙ ap (λ xs. set xs s.block (insert (get_or bs s.block []) s.offset c.args.entry)) c.self.view_is)
     ∙ joined_insert bs s.block s.offset c.args.entry c.requires.block c.requires.spot.1

@@ -17,7 +17,7 @@ invariant_of-self c =
     let counted = subst (AreCounted xs) (sym c.as_mut_slice.ensures.value) c.self.invariant in
     let inside : s.block < length xs = omega (arith, c.requires.taken.0, ap length c.self.view_is) in
     let size = ap (λ ys. length (get_or ys s.block [])) c.self.view_is in
-    let read = block_read xs xs s.block _ refl inside c.index_mut.ensures.value in
+    let read = block_read refl inside c.index_mut.ensures.value in
     let shorter = ap length (c.remove.ensures ∙ ap (λ b. remove b s.offset) read) in
     let less = length-remove (get_or xs s.block []) s.offset (omega (arith, c.requires.taken.1, size)) in
     let kept = lent_back c.self.inside.starts.len c.lower.new.starts c.self.inside.starts.items (omega (arith, c.lower.ensures.count, c.as_mut_slice.ensures.len)) in
@@ -29,6 +29,6 @@ pub returns : goal.returns
 returns c =
     let bs = c.args.self.now in
     let s = c.args.spot in
-    let read = block_read c.self.inside.blocks.items bs s.block _ c.self.view_is c.requires.taken.0 c.index_mut.ensures.value in
+    let read = block_read c.self.view_is c.requires.taken.0 c.index_mut.ensures.value in
     ap joined (ap (set c.self.inside.blocks.items s.block) (c.remove.ensures ∙ ap (λ b. remove b s.offset) read) ∙ ap (λ xs. set xs s.block (remove (get_or bs s.block []) s.offset)) c.self.view_is)
     ∙ joined_remove bs s.block s.offset c.requires.taken.0 c.requires.taken.1

@@ -8,7 +8,7 @@ subtract_blocks-requires c =
     let xs = c.self.inside.blocks.items in
     let i = c.args.block in
     let inside : i < length xs = omega (arith, c.requires.block, ap length c.self.view_is) in
-    let upper = (c.in_ok-upper.ensures {u = tt}) ∙ ap (drop c.args.half) (block_read xs xs i _ refl inside c.index.ensures) in
+    let upper = (c.in_ok-upper.ensures {u = tt}) ∙ ap (drop c.args.half) (block_read refl inside c.index.ensures) in
     let made = halved_made xs c.insert.new.self.items i (i + 1) c.args.half c.in_ok-upper.upper c.index_mut.result.now c.truncate.new.self (omega arith) inside (c.in-Ok.ensures.items ∙ ap (λ ys. insert ys (c.args.block + 1) c.in_ok-upper.upper) c.reserve.ensures.items) upper c.index_mut.ensures.value c.truncate.ensures in
     let grown = rw (c.as_slice.ensures.value, c.reserve.ensures.items, ← c.as_mut_slice.ensures.value) at c.grow.ensures.same in
     λ g h k. let least = can_subtract xs c.as_mut_slice.result.now i (i + 1) c.args.half (i / 16 + 1) grown refl (omega arith) inside g h k in
@@ -20,7 +20,7 @@ invariant_of-self-2 c =
     let i = c.args.block in
     let h = c.args.half in
     let inside : i < length xs = omega (arith, c.requires.block, ap length c.self.view_is) in
-    let read = block_read xs xs i _ refl inside c.index.ensures in
+    let read = block_read refl inside c.index.ensures in
     let upper = (c.in_ok-upper.ensures {u = tt}) ∙ ap (drop h) read in
     let made = halved_made xs c.insert.new.self.items i (i + 1) h c.in_ok-upper.upper c.index_mut.result.now c.truncate.new.self (omega arith) inside (c.in-Ok.ensures.items ∙ ap (λ ys. insert ys (c.args.block + 1) c.in_ok-upper.upper) c.reserve.ensures.items) upper c.index_mut.ensures.value c.truncate.ensures in
     let grown = rw (c.as_slice.ensures.value, c.reserve.ensures.items, ← c.as_mut_slice.ensures.value) at c.grow.ensures.same in
@@ -36,7 +36,7 @@ returns-clause-ok c =
     let xs = c.self.inside.blocks.items in
     let i = c.args.block in
     let inside : i < length xs = omega (arith, c.requires.block, ap length c.self.view_is) in
-    let upper = (c.in_ok-upper.ensures {u = tt}) ∙ ap (drop c.args.half) (block_read xs xs i _ refl inside c.index.ensures) in
+    let upper = (c.in_ok-upper.ensures {u = tt}) ∙ ap (drop c.args.half) (block_read refl inside c.index.ensures) in
     halved_made xs c.insert.new.self.items i (i + 1) c.args.half c.in_ok-upper.upper c.index_mut.result.now c.truncate.new.self (omega arith) inside (c.in-Ok.ensures.items ∙ ap (λ ys. insert ys (c.args.block + 1) c.in_ok-upper.upper) c.reserve.ensures.items) upper c.index_mut.ensures.value c.truncate.ensures
     ∙ ap (λ ys. halved ys i (i + 1) c.args.half) c.self.view_is
 
