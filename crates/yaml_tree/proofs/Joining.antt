@@ -107,25 +107,21 @@ joined_without (b ∷ bs) (suc i) n h one e =
 -- ---- a block becomes two
 
 pub joined_halved : (bs : List (List Entry)) (i n h : ℕ) → n ≡ suc i → i < length bs → joined (halved bs i n h) ≡ joined bs
-joined_halved [] i n h e g = absurd (omega arith)
-joined_halved (b ∷ bs) i zero h e g = absurd (omega arith)
 joined_halved (b ∷ bs) zero (suc n) h e g = grind (arith, append_assoc (take h b) (drop h b) (joined bs), take-append-drop h b)
 joined_halved (b ∷ bs) (suc i) (suc n) h e g = grind (arith, joined_halved bs)
+joined_halved bs i n h e g = absurd (omega arith)
 
 pub start_halved : (bs : List (List Entry)) (i n h : ℕ) → n ≡ suc i → i < length bs → start (halved bs i n h) i ≡ start bs i
-start_halved [] i n h e g = absurd (omega arith)
-start_halved (b ∷ bs) i zero h e g = absurd (omega arith)
 start_halved (b ∷ bs) i (suc n) h e g = grind (arith, start_halved bs)
+start_halved bs i n h e g = absurd (omega arith)
 
 pub first_halved : (bs : List (List Entry)) (i n h : ℕ) → n ≡ suc i → i < length bs → get_or (halved bs i n h) i [] ≡ take h (get_or bs i [])
-first_halved [] i n h e g = absurd (omega arith)
-first_halved (b ∷ bs) i zero h e g = absurd (omega arith)
 first_halved (b ∷ bs) i (suc n) h e g = grind (arith, first_halved bs)
+first_halved bs i n h e g = absurd (omega arith)
 
 pub second_halved : (bs : List (List Entry)) (i n h : ℕ) → n ≡ suc i → i < length bs → get_or (halved bs i n h) n [] ≡ drop h (get_or bs i [])
-second_halved [] i n h e g = absurd (omega arith)
-second_halved (b ∷ bs) i zero h e g = absurd (omega arith)
 second_halved (b ∷ bs) i (suc n) h e g = grind (arith, second_halved bs)
+second_halved bs i n h e g = absurd (omega arith)
 
 pub length-halved : (bs : List (List Entry)) (i n h : ℕ) → n ≡ suc i → i < length bs → length (halved bs i n h) ≡ length bs + 1
 length-halved bs i n h e g = length-insert (set bs i (take h (get_or bs i []))) n (drop h (get_or bs i [])) (omega (arith, length-set bs i (take h (get_or bs i [])))) ∙ ap (λ m. m + 1) (length-set bs i (take h (get_or bs i [])))
@@ -245,14 +241,12 @@ edge_past es m j d h = record {
 -- ---- changes of a list of blocks
 
 pub set_before : (bs : List (List Entry)) (i n : ℕ) (b u : List Entry) → n ≡ suc i → i < length bs → set (insert bs n u) i b ≡ insert (set bs i b) n u
-set_before [] i n b u e h = absurd (omega arith)
-set_before (c ∷ bs) i zero b u e h = absurd (omega arith)
 set_before (c ∷ bs) i (suc n) b u e h = grind (arith, set_before bs)
+set_before bs i n b u e h = absurd (omega arith)
 
 pub get_before : (bs : List (List Entry)) (i n : ℕ) (u d : List Entry) → i < n → i < length bs → get_or (insert bs n u) i d ≡ get_or bs i d
-get_before [] i n u d e h = absurd (omega arith)
-get_before (c ∷ bs) i zero u d e h = absurd (omega arith)
 get_before (c ∷ bs) i (suc n) u d e h = grind (arith, get_before bs)
+get_before bs i n u d e h = absurd (omega arith)
 
 -- a block's upper half is put after it, and it keeps the lower one
 pub halved_made : (xs ys : List (List Entry)) (i n h : ℕ) (upper whole lower : List Entry) → n ≡ suc i → i < length xs → ys ≡ insert xs n upper

@@ -40,46 +40,43 @@ digested_without (Many b) ps r a h digested =
     (omega (arith, length-map (joined b.value) digest_of_entry, length-map (joined b.value) place_of_entry)) a h digested
 
 module _ (ys : List Yaml) (o n : Kept) (r : ℕ) (i : IsIndexed (items_view ys) o) where
-  us : List (Tree × Tree)
-  us = pairs_view ys
-
-  pub indexed_without : (k : Tree) (zs : List Yaml) → IsRank k (places o) us r → items_view zs ≡ flat (without k us)
+  pub indexed_without : (k : Tree) (zs : List Yaml) → IsRank k (places o) (pairs_view ys) r → items_view zs ≡ flat (without k (pairs_view ys))
       → places n ≡ map (closed_up (get_or (places o) r 0)) (remove (places o) r) → digests n ≡ remove (digests o) r → first_by n ≡ first_by o → IsIndexed (items_view zs) n
   indexed_without k zs at e f g order =
-      indexed_as zs (without k us) n e (AreDistinct-without k us i.hash.distinct)
-      (rw (order, f, ← remove_ranked i.hash k r at) (ranked_removed (places o) us r i.hash.ranked at.0))
-      (rw (f, g, ← remove_ranked i.hash k r at) (digested_without o us r i.hash.ranked at.0 i.digested))
+      indexed_as zs (without k (pairs_view ys)) n e (AreDistinct-without k (pairs_view ys) i.hash.distinct)
+      (rw (order, f, ← remove_ranked ys i.hash k r at) (ranked_removed (places o) (pairs_view ys) r i.hash.ranked at.0))
+      (rw (f, g, ← remove_ranked ys i.hash k r at) (digested_without o (pairs_view ys) r i.hash.ranked at.0 i.digested))
 
   -- ---- a pair is put at the end of a row that has none with its key
 
   module _ (key : Yaml) where
-    inserted : (rest : List Yaml) (value : Yaml) → items_view rest ≡ flat (without (view key) us)
-        → AreRanked (first_by n) (places n) (insert_pair (view key) (view value) us)
-        → AreDigests (digests n) (places n) (insert_pair (view key) (view value) us) → IsInserted ys (rest ++ key ∷ value ∷ []) key value n
+    inserted : (rest : List Yaml) (value : Yaml) → items_view rest ≡ flat (without (view key) (pairs_view ys))
+        → AreRanked (first_by n) (places n) (insert_pair (view key) (view value) (pairs_view ys))
+        → AreDigests (digests n) (places n) (insert_pair (view key) (view value) (pairs_view ys)) → IsInserted ys (rest ++ key ∷ value ∷ []) key value n
     inserted rest value e a g =
         let zs = rest ++ key ∷ value ∷ [] in
-        let vs = insert_pair (view key) (view value) us in
-        let seen = added rest (without (view key) us) e zs key value refl in
-        record { indexed = indexed_as zs vs n seen (AreDistinct_insert (view key) (view value) us i.hash.distinct) a g; pairs = pairs_from (items_view zs) vs seen }
+        let vs = insert_pair (view key) (view value) (pairs_view ys) in
+        let seen = added rest (without (view key) (pairs_view ys)) e zs key value refl in
+        record { indexed = indexed_as zs vs n seen (AreDistinct_insert (view key) (view value) (pairs_view ys) i.hash.distinct) a g; pairs = pairs_from (items_view zs) vs seen }
 
-    pub is_ready : IsRankGap (first_by o) (view key) (places o) us r → ((v : Tree) → AreRanked (first_by n) (places n) (us ++ (view key, v) ∷ []))
-        → ((v : Tree) → AreDigests (digests n) (places n) (us ++ (view key, v) ∷ [])) → IsReady ys key n
+    pub is_ready : IsRankGap (first_by o) (view key) (places o) (pairs_view ys) r → ((v : Tree) → AreRanked (first_by n) (places n) (pairs_view ys ++ (view key, v) ∷ []))
+        → ((v : Tree) → AreDigests (digests n) (places n) (pairs_view ys ++ (view key, v) ∷ [])) → IsReady ys key n
     is_ready gap ranked digested =
-        let none = gap_absent i.hash (view key) r gap in
+        let none = gap_absent ys i.hash (view key) r gap in
         record {
           away = none.unfound;
           inserted = λ value. inserted ys value (i.hash.even ∙ ap flat (sym none.same)) (rw none.same (ranked (view value))) (rw none.same (digested (view value)));
         }
 
-    pub is_ready_without : (p : ℕ) → IsRank (view key) (places o) us r → p ≡ get_or (places o) r 0 → places n ≡ map (moved_up p (length (places o))) (places o)
+    pub is_ready_without : (p : ℕ) → IsRank (view key) (places o) (pairs_view ys) r → p ≡ get_or (places o) r 0 → places n ≡ map (moved_up p (length (places o))) (places o)
         → digests n ≡ digests o → first_by n ≡ first_by o → IsReadyWithout ys p key n
     is_ready_without p at e moved same order =
-        let found = ranked_found i.hash (view key) r p at e in
+        let found = ranked_found ys i.hash (view key) r p at e in
         record {
           inside = found.inside;
           value = found.found;
           inserted = λ value. inserted (remove (remove ys (2 * p)) (2 * p)) value (found.rest _ refl)
-              (rw (order, moved, e, ← remove_ranked i.hash (view key) r at) (ranked_moved (places o) us r (view key) (view value) i.hash.ranked at))
-              (rw (moved, e, same, ← remove_ranked i.hash (view key) r at) (λ s g. i.digested s g
-              ∙ sym (ap digest (moved_key (places o) us r (view key) (view value) i.hash.ranked at s (omega (arith, g, digests_counted o))))));
+              (rw (order, moved, e, ← remove_ranked ys i.hash (view key) r at) (ranked_moved (places o) (pairs_view ys) r (view key) (view value) i.hash.ranked at))
+              (rw (moved, e, same, ← remove_ranked ys i.hash (view key) r at) (λ s g. i.digested s g
+              ∙ sym (ap digest (moved_key (places o) (pairs_view ys) r (view key) (view value) i.hash.ranked at s (omega (arith, g, digests_counted o))))));
         }

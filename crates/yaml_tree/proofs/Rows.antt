@@ -20,7 +20,7 @@ pub record IsFound (k : Tree) (ys : List Yaml) (p : ℕ) : Type 0 where
   pub found : (x : Yaml) → x ≡ get_or ys (2 * p + 1) x → Some (view x) ≡ lookup k (pairs_view ys)
   pub rest : (zs : List Yaml) → zs ≡ remove (remove ys (2 * p)) (2 * p) → items_view zs ≡ flat (without k (pairs_view ys))
 
-module _ {m : Tree → ℕ} {ys : List Yaml} {rs : List ℕ} (h : IsHash m (items_view ys) rs) where
+module _ {m : Tree → ℕ} (ys : List Yaml) {rs : List ℕ} (h : IsHash m (items_view ys) rs) where
   pub row_counted : length ys ≡ 2 * length rs
   row_counted = omega (arith, row_length ys (pairs_view ys) h.even, h.ranked.counted)
 
@@ -61,6 +61,6 @@ module _ {m : Tree → ℕ} {ys : List Yaml} {rs : List ℕ} (h : IsHash m (item
     gap_absent r gap = absent k (pairs_view ys) (gap_place r gap)
 
 -- the same of the place at a spot
-pub spot_at : {ys : List Yaml} {k : Kept} → IsIndexed (items_view ys) k → (s : Spot) (p : ℕ) → HasPlace k s → p ≡ get_or (places k) (rank_at k s) 0
+pub spot_at : (ys : List Yaml) {k : Kept} → IsIndexed (items_view ys) k → (s : Spot) (p : ℕ) → HasPlace k s → p ≡ get_or (places k) (rank_at k s) 0
     → IsAt ys (places k) (rank_at k s) p
-spot_at {k = k} i s p h e = ranked_at i.hash (rank_at k s) p (place_inside k s h).0 e
+spot_at ys {k = k} i s p h e = ranked_at ys i.hash (rank_at k s) p (place_inside k s h).0 e

@@ -35,16 +35,14 @@ start_remove_after (c ∷ bs) zero n h g = omega arith
 start_remove_after (c ∷ bs) (suc i) n h g = grind (arith, start_remove_after bs i)
 
 pub start_halved_before : (bs : List (List Entry)) (i n h k : ℕ) → n ≡ suc i → i < length bs → k ≤ i → start (halved bs i n h) k ≡ start bs k
-start_halved_before [] i n h k e g l = absurd (omega arith)
-start_halved_before (b ∷ bs) i zero h k e g l = absurd (omega arith)
 start_halved_before (b ∷ bs) i (suc n) h k e g l = grind (arith, start_halved_before bs)
+start_halved_before bs i n h k e g l = absurd (omega arith)
 
 -- a block that was after is one place on
 pub start_halved_after : (bs : List (List Entry)) (i n h k : ℕ) → n ≡ suc i → i < length bs → i < k → start (halved bs i n h) (suc k) ≡ start bs k
-start_halved_after [] i n h k e g l = absurd (omega arith)
-start_halved_after (b ∷ bs) i zero h k e g l = absurd (omega arith)
 start_halved_after (b ∷ bs) zero (suc n) h k e g l = grind (arith, ap length (take-append-drop h b), length-append (take h b) (drop h b))
 start_halved_after (b ∷ bs) (suc i) (suc n) h k e g l = grind (arith, start_halved_after bs)
+start_halved_after bs i n h k e g l = absurd (omega arith)
 
 pub start_map : (f : Entry → Entry) (bs : List (List Entry)) (n : ℕ) → start (map (map f) bs) n ≡ start bs n
 start_map f [] n = refl

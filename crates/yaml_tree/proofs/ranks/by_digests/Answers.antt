@@ -9,7 +9,7 @@ use Rattle.yaml_tree.proofs.ranks.by_digests.Goals as goal
 pub bounds-row-place : goal.bounds-row-place
 bounds-row-place c =
     let within : c.loop-rank.rank < length c.args.few.now = omega (arith, c.loop-rank-test.true, c.len-rank-end.ensures.count) in
-    omega (arith, (ranked_at c.requires.hash c.loop-rank.rank c.at-place.result within c.at-place.ensures.place).inside)
+    omega (arith, (ranked_at c.args.row.now c.requires.hash c.loop-rank.rank c.at-place.result within c.at-place.ensures.place).inside)
 
 pub end_of-offset-requires : goal.end_of-offset-requires
 end_of-offset-requires c = record {
@@ -42,7 +42,7 @@ loop-rank-preserved c =
     let rs = c.args.few.now in
     let ps = pairs_view c.args.row.now in
     let within : c.loop-rank.rank < length rs = omega (arith, c.loop-rank-test.true, c.len-rank-end.ensures.count) in
-    let key = (ranked_at c.requires.hash c.loop-rank.rank c.at-place.result within c.at-place.ensures.place).key _ c.index-row-place.is in
+    let key = (ranked_at c.args.row.now c.requires.hash c.loop-rank.rank c.at-place.result within c.at-place.ensures.place).key _ c.index-row-place.is in
     let seen = c.as_slice.ensures.value in
     let at = c.end_of-offset.result in
     let both = next es c.insert.new.self.items rs ps c.loop-rank.rank at (record { digest = c.digest-digest.result; place = c.at-place.result })

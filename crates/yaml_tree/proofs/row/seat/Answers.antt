@@ -15,19 +15,19 @@ returns-in-Ok-clause-ready_without c =
     let o = c.args.ranks.now.kept in
     let rank = rw c.as_slice.ensures.value at (c.in-Ok.ensures {u = tt}).found in
     let count : c.len-count.result / 2 ≡ length (places o) =
-    omega (arith, c.len-count.ensures, c.args.row.now.ok.0, row_counted c.requires.indexed.hash) in
+    omega (arith, c.len-count.ensures, c.args.row.now.ok.0, row_counted c.args.row.now.items c.requires.indexed.hash) in
     is_ready_without c.args.row.now.items o c.move_to_end.new.self.kept (rank_at o c.in-Ok.spot) c.requires.indexed c.args.key.now c.at-place.result rank c.at-place.ensures
     (c.move_to_end.ensures.places ∙ ap (λ n. map (moved_up c.at-place.result n) (places o)) count) c.move_to_end.ensures.digests c.move_to_end.ensures.order
 
 pub returns-in_err-reserve-in-Err-clause-away : goal.returns-in_err-reserve-in-Err-clause-away
 returns-in_err-reserve-in-Err-clause-away c =
     let gap = rw c.as_slice.ensures.value at (c.in-Err.ensures {u = tt}).missing in
-    always c.from_residual.result (gap_absent c.requires.indexed.hash (view c.args.key.now) (rank_at c.args.ranks.now.kept c.in-Err.gap.spot) gap).unfound
+    always c.from_residual.result (gap_absent c.args.row.now.items c.requires.indexed.hash (view c.args.key.now) (rank_at c.args.ranks.now.kept c.in-Err.gap.spot) gap).unfound
 
 pub returns-in_err-insert-in-Err-clause-away : goal.returns-in_err-insert-in-Err-clause-away
 returns-in_err-insert-in-Err-clause-away c =
     let gap = rw c.as_slice.ensures.value at (c.in-Err.ensures {u = tt}).missing in
-    always c.from_residual-in_err-insert-in-Err.result (gap_absent c.requires.indexed.hash (view c.args.key.now) (rank_at c.args.ranks.now.kept c.in-Err.gap.spot) gap).unfound
+    always c.from_residual-in_err-insert-in-Err.result (gap_absent c.args.row.now.items c.requires.indexed.hash (view c.args.key.now) (rank_at c.args.ranks.now.kept c.in-Err.gap.spot) gap).unfound
 
 pub returns-clause-ready : goal.returns-clause-ready
 returns-clause-ready c =

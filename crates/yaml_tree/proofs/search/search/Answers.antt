@@ -9,7 +9,7 @@ pub window-count-requires-clause-rising : goal.window-count-requires-clause-risi
 window-count-requires-clause-rising c = kept_digests_rise c.args.ranks.now.kept (pairs_view c.args.row.now) c.requires.hash.ranked c.requires.digested
 
 pub window-count-requires-clause-fits : goal.window-count-requires-clause-fits
-window-count-requires-clause-fits c = omega (arith, row_counted c.requires.hash)
+window-count-requires-clause-fits c = omega (arith, row_counted c.args.row.now c.requires.hash)
 
 pub loop-count-init : goal.loop-count-init
 loop-count-init c =
@@ -26,25 +26,25 @@ loop-count-init c =
     }
 
 pub advanced-middle-requires-clause-fits : goal.advanced-middle-requires-clause-fits
-advanced-middle-requires-clause-fits c = omega (arith, row_counted c.requires.hash)
+advanced-middle-requires-clause-fits c = omega (arith, row_counted c.args.row.now c.requires.hash)
 
 pub overflow_mul-place : goal.overflow_mul-place
 overflow_mul-place c =
-    let inside = (spot_at c.requires c.advanced-middle.result c.at-place.result c.advanced-middle.ensures.place c.at-place.ensures).inside in
+    let inside = (spot_at c.args.row.now c.requires c.advanced-middle.result c.at-place.result c.advanced-middle.ensures.place c.at-place.ensures).inside in
     search rules
 
 pub offset_bounds-row-place : goal.offset_bounds-row-place
 offset_bounds-row-place c =
-    let inside = (spot_at c.requires c.advanced-middle.result c.at-place.result c.advanced-middle.ensures.place c.at-place.ensures).inside in
+    let inside = (spot_at c.args.row.now c.requires c.advanced-middle.result c.at-place.result c.advanced-middle.ensures.place c.at-place.ensures).inside in
     search rules
 
 pub bounds-row-place : goal.bounds-row-place
-bounds-row-place c = omega (arith, (spot_at c.requires c.advanced-middle.result c.at-place.result c.advanced-middle.ensures.place c.at-place.ensures).inside)
+bounds-row-place c = omega (arith, (spot_at c.args.row.now c.requires c.advanced-middle.result c.at-place.result c.advanced-middle.ensures.place c.at-place.ensures).inside)
 
 pub loop-count-preserved-in-Less : goal.loop-count-preserved-in-Less
 loop-count-preserved-in-Less c =
     let i = c.loop-count.invariant in
-    let at = spot_at c.requires c.advanced-middle.result c.at-place.result c.advanced-middle.ensures.place c.at-place.ensures in
+    let at = spot_at c.args.row.now c.requires c.advanced-middle.result c.at-place.result c.advanced-middle.ensures.place c.at-place.ensures in
     let compared = c.compare.ensures.order ∙ ap (tree_cmp (probed c.plain-probe.result)) (at.key _ c.index-row-place.is) in
     record {
       spot = i.spot;
@@ -57,13 +57,13 @@ loop-count-preserved-in-Less c =
 pub overflow_add-low : goal.overflow_add-low
 overflow_add-low c =
     let inside = (place_inside c.args.ranks.now.kept c.advanced-middle.result c.advanced-middle.ensures.place).1 in
-    let low : c.advanced-middle.result.offset + 1 < 2 ^ 63 = omega (arith, row_counted c.requires.hash) in
+    let low : c.advanced-middle.result.offset + 1 < 2 ^ 63 = omega (arith, row_counted c.args.row.now c.requires.hash) in
     search rules
 
 pub loop-count-preserved : goal.loop-count-preserved
 loop-count-preserved c =
     let i = c.loop-count.invariant in
-    let at = spot_at c.requires c.advanced-middle.result c.at-place.result c.advanced-middle.ensures.place c.at-place.ensures in
+    let at = spot_at c.args.row.now c.requires c.advanced-middle.result c.at-place.result c.advanced-middle.ensures.place c.at-place.ensures in
     let compared = c.compare.ensures.order ∙ ap (tree_cmp (probed c.plain-probe.result)) (at.key _ c.index-row-place.is) in
     let rest = c.loop-count.count - (c.loop-count.count / 2 + 1) in
     record {
@@ -77,7 +77,7 @@ loop-count-preserved c =
 
 pub returns-in-Equal-clause-found : goal.returns-in-Equal-clause-found
 returns-in-Equal-clause-found c =
-    let at = spot_at c.requires c.advanced-middle.result c.at-place.result c.advanced-middle.ensures.place c.at-place.ensures in
+    let at = spot_at c.args.row.now c.requires c.advanced-middle.result c.at-place.result c.advanced-middle.ensures.place c.at-place.ensures in
     let compared = c.compare.ensures.order ∙ ap (tree_cmp (probed c.plain-probe.result)) (at.key _ c.index-row-place.is) in
     (at.ranked, sym (tree_tied _ _ (sym compared ∙ c.in-Equal.is)) ∙ c.plain-probe.ensures)
 

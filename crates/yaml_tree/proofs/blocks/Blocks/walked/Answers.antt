@@ -1,4 +1,4 @@
-use Rattle.yaml_tree.proofs.IndexCommon.{ap, arith, length, refl, ◌+◌, ◌<◌}
+use Rattle.yaml_tree.proofs.IndexCommon.{ap, arith, length, ◌+◌, ◌-◌, ◌<◌}
 use Rattle.yaml_tree.proofs.Joining.{block_read, start_next, not_past}
 use Rattle.yaml_tree.proofs.blocks.Blocks.walked.Goals as goal
 
@@ -27,7 +27,7 @@ loop-offset-preserved c =
     let tested = ap length (block_read c.self.view_is inside c.index.ensures) in
     let read = ap length (block_read c.self.view_is inside c.index-in-loop-offset.ensures) in
     let next = start_next bs i (i + 1) (omega arith) in
-    record { inside = not_past bs (i + 1) _ (omega (arith, c.requires.within)); at = omega arith }
+    record { inside = not_past bs (i + 1) (c.loop-offset.offset - c.len-offset.result) (omega (arith, c.requires.within)); at = omega arith }
 
 pub returns-clause-taken : goal.returns-clause-taken
 returns-clause-taken c =

@@ -7,30 +7,30 @@ use Rattle.yaml_tree.proofs.hash.Hash.back.Goals as goal
 pub overflow_mul-last : goal.overflow_mul-last
 overflow_mul-last c =
     let last : length c.args.self.now ≡ suc c.in_ok-last.last = search rules in
-    let inside : 2 * c.in_ok-last.last + 1 < vec_len c.self.inside.row = omega (arith, row_counted c.self.invariant.hash, ap length c.self.view_is) in
+    let inside : 2 * c.in_ok-last.last + 1 < vec_len c.self.inside.row = omega (arith, row_counted c.self.inside.row.items c.self.invariant.hash, ap length c.self.view_is) in
     search rules
 
 pub index-requires : goal.index-requires
 index-requires c =
     let last : length c.args.self.now ≡ suc c.in_ok-last.last = search rules in
-    omega (arith, row_counted c.self.invariant.hash, ap length c.self.view_is)
+    omega (arith, row_counted c.self.inside.row.items c.self.invariant.hash, ap length c.self.view_is)
 
 pub overflow_mul-last-2 : goal.overflow_mul-last-2
 overflow_mul-last-2 c =
     let last : length c.args.self.now ≡ suc c.in_ok-last.last = search rules in
-    let inside : 2 * c.in_ok-last.last + 1 < vec_len c.self.inside.row = omega (arith, row_counted c.self.invariant.hash, ap length c.self.view_is) in
+    let inside : 2 * c.in_ok-last.last + 1 < vec_len c.self.inside.row = omega (arith, row_counted c.self.inside.row.items c.self.invariant.hash, ap length c.self.view_is) in
     search rules
 
 pub overflow_add-last : goal.overflow_add-last
 overflow_add-last c =
     let last : length c.args.self.now ≡ suc c.in_ok-last.last = search rules in
-    let inside : 2 * c.in_ok-last.last + 1 < vec_len c.self.inside.row = omega (arith, row_counted c.self.invariant.hash, ap length c.self.view_is) in
+    let inside : 2 * c.in_ok-last.last + 1 < vec_len c.self.inside.row = omega (arith, row_counted c.self.inside.row.items c.self.invariant.hash, ap length c.self.view_is) in
     search rules
 
 pub index-requires-2 : goal.index-requires-2
 index-requires-2 c =
     let last : length c.args.self.now ≡ suc c.in_ok-last.last = search rules in
-    omega (arith, row_counted c.self.invariant.hash, ap length c.self.view_is)
+    omega (arith, row_counted c.self.inside.row.items c.self.invariant.hash, ap length c.self.view_is)
 
 pub returns : goal.returns
 returns c =

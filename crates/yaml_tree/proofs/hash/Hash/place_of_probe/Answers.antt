@@ -4,12 +4,12 @@ use Rattle.yaml_tree.proofs.hash.Hash.place_of_probe.Goals as goal
 
 pub returns-in-Ok-clause-place : goal.returns-in-Ok-clause-place
 returns-in-Ok-clause-place c =
-    rw (← c.self.view_is) (ranked_place c.self.invariant.hash (probed c.args.probe) (rank_at c.self.inside.ranks.kept c.in-Ok.spot) c.at.result
+    rw (← c.self.view_is) (ranked_place c.self.inside.row.items c.self.invariant.hash (probed c.args.probe) (rank_at c.self.inside.ranks.kept c.in-Ok.spot) c.at.result
     (rw c.as_slice.ensures.value at (c.in-Ok.ensures {u = tt}).found) c.at.ensures)
 
 pub returns-in-Err-clause-place : goal.returns-in-Err-clause-place
 returns-in-Err-clause-place c =
-    rw (← c.self.view_is) (gap_place c.self.invariant.hash (probed c.args.probe) (rank_at c.self.inside.ranks.kept c.in-Err.field-0.spot)
+    rw (← c.self.view_is) (gap_place c.self.inside.row.items c.self.invariant.hash (probed c.args.probe) (rank_at c.self.inside.ranks.kept c.in-Err.field-0.spot)
     (rw c.as_slice.ensures.value at (c.in-Err.ensures {u = tt}).missing))
 
 pub returns-in-Ok-clause-distinct : goal.returns-in-Ok-clause-distinct

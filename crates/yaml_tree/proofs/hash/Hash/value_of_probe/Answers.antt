@@ -7,16 +7,16 @@ returns-in_err-i-clause-value c = rw c.from_residual.ensures (sym (absent (probe
 
 pub overflow_mul-i : goal.overflow_mul-i
 overflow_mul-i c =
-    let inside : 2 * c.in_ok-i.i + 1 < vec_len c.self.inside.row = omega (arith, (placed c.self.invariant.hash (probed c.args.probe) c.in_ok-i.i (rw (← c.self.view_is) at (c.in_ok-i.ensures {u = tt}).place)).inside) in
+    let inside : 2 * c.in_ok-i.i + 1 < vec_len c.self.inside.row = omega (arith, (placed c.self.inside.row.items c.self.invariant.hash (probed c.args.probe) c.in_ok-i.i (rw (← c.self.view_is) at (c.in_ok-i.ensures {u = tt}).place)).inside) in
     search rules
 
 pub overflow_add-i : goal.overflow_add-i
 overflow_add-i c =
-    let inside : 2 * c.in_ok-i.i + 1 < vec_len c.self.inside.row = omega (arith, (placed c.self.invariant.hash (probed c.args.probe) c.in_ok-i.i (rw (← c.self.view_is) at (c.in_ok-i.ensures {u = tt}).place)).inside) in
+    let inside : 2 * c.in_ok-i.i + 1 < vec_len c.self.inside.row = omega (arith, (placed c.self.inside.row.items c.self.invariant.hash (probed c.args.probe) c.in_ok-i.i (rw (← c.self.view_is) at (c.in_ok-i.ensures {u = tt}).place)).inside) in
     search rules
 
 pub index-requires : goal.index-requires
-index-requires c = omega (arith, (placed c.self.invariant.hash (probed c.args.probe) c.in_ok-i.i (rw (← c.self.view_is) at (c.in_ok-i.ensures {u = tt}).place)).inside)
+index-requires c = omega (arith, (placed c.self.inside.row.items c.self.invariant.hash (probed c.args.probe) c.in_ok-i.i (rw (← c.self.view_is) at (c.in_ok-i.ensures {u = tt}).place)).inside)
 
 pub returns-clause-value : goal.returns-clause-value
-returns-clause-value c = rw (← c.self.view_is) ((placed c.self.invariant.hash (probed c.args.probe) c.in_ok-i.i (rw (← c.self.view_is) at (c.in_ok-i.ensures {u = tt}).place)).found _ c.index.ensures)
+returns-clause-value c = rw (← c.self.view_is) ((placed c.self.inside.row.items c.self.invariant.hash (probed c.args.probe) c.in_ok-i.i (rw (← c.self.view_is) at (c.in_ok-i.ensures {u = tt}).place)).found _ c.index.ensures)
