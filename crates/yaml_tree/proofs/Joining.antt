@@ -249,23 +249,21 @@ get_before (c ∷ bs) i (suc n) u d e h = grind (arith, get_before bs)
 get_before bs i n u d e h = absurd (omega arith)
 
 -- a block's upper half is put after it, and it keeps the lower one
-pub halved_made : (xs ys : List (List Entry)) (i n h : ℕ) (upper whole lower : List Entry) → n ≡ suc i → i < length xs → ys ≡ insert xs n upper
-    → upper ≡ drop h (get_or xs i []) → whole ≡ get_or ys i whole → lower ≡ take h whole → set ys i lower ≡ halved xs i n h
-halved_made xs ys i n h upper whole lower e l put u w low =
-    ap (λ zs. set zs i lower) put
-    ∙ set_before xs i n lower upper e l
-    ∙ ap (λ b. insert (set xs i b) n upper) (low ∙ ap (take h) (block_read put (omega (arith, l, e, length-insert xs n upper (omega (arith, l, e)))) w ∙ get_before xs i n upper [] (omega (arith, e)) l))
-    ∙ ap (insert (set xs i (take h (get_or xs i []))) n) u
+pub halved_made : (xs : List (List Entry)) {ys : List (List Entry)} (i h : ℕ) {upper whole lower : List Entry} → i < length xs → ys ≡ insert xs (i + 1) upper
+    → upper ≡ drop h (get_or xs i []) → whole ≡ get_or ys i whole → lower ≡ take h whole → set ys i lower ≡ halved xs i (i + 1) h
+halved_made xs {ys} i h {upper} {whole} {lower} l put u w low =
+    let next : i + 1 ≡ suc i = omega arith in
+    let read = block_read put (omega (arith, length-insert xs (i + 1) upper (omega arith))) w ∙ get_before xs i (i + 1) upper [] (omega arith) l in
+    rw (put, set_before xs i (i + 1) lower upper next l, low, read, u) refl
 
 pub lent_back : {X : Type 0} (n : ℕ) (xs ys : List X) → length xs ≡ n → take n (xs ++ drop (length xs) ys) ≡ xs
 lent_back n xs ys e = take_at xs (drop (length xs) ys) n e
 
 -- of a loop over all blocks that has come to its end
-pub all_lent : (f : List Entry → List Entry) (n len : ℕ) (xs ws ys : List (List Entry)) → length ys ≡ length ws → length ws ≡ len
-    → length ws ≤ n
-    → ys ≡ map f (take n ws) ++ drop n ws → ws ≡ xs → take len (ys ++ drop (length ys) xs) ≡ map f xs
-all_lent f n len xs ws ys l k h e is =
-    lent_back len ys xs (l ∙ k) ∙ e ∙ (λ i. map f (take_all n ws h i) ++ drop_all n ws h i) ∙ append-nil (map f ws) ∙ ap (map f) is
+pub all_lent : (f : List Entry → List Entry) (n : ℕ) {len : ℕ} {xs ws ys : List (List Entry)} → ys ≡ map f (take n ws) ++ drop n ws → length ys ≡ length ws
+    → length ws ≤ n → ws ≡ xs → len ≡ length xs → take len (ys ++ drop (length ys) xs) ≡ map f xs
+all_lent f n {len} {xs} {ws} {ys} e l h is k =
+    lent_back len ys xs (omega (arith, ap length is)) ∙ e ∙ (λ i. map f (take_all n ws h i) ++ drop_all n ws h i) ∙ append-nil (map f ws) ∙ ap (map f) is
 
 pub not_past : (bs : List (List Entry)) (i j : ℕ) → start bs i + j < length (joined bs) → i < length bs
 not_past bs i j h = grind (arith, cases_lt i (length bs), start_all)

@@ -15,11 +15,10 @@ returns-then-offset-len-clause-taken c =
 
 pub group_of-group-requires-clause-last : goal.group_of-group-requires-clause-last
 group_of-group-requires-clause-last c =
-    let starts = c.self.inside.starts.items in
     let n = length c.as_slice.result.now - 1 in
     let count = ap length c.as_slice.ensures.value in
-    let some = starts_some c.self.inside.blocks.items starts c.self.invariant.right in
-    let all = starts_all c.self.inside.blocks.items starts n c.self.invariant.right (omega arith) in
+    let some = starts_some c.self.invariant.right in
+    let all = starts_all n c.self.invariant.right (omega arith) in
     omega (arith, ap (λ ys. get_or ys n 0) c.as_slice.ensures.value, ap (λ bs. length (joined bs)) c.self.view_is, c.start.ensures, c.requires.within)
 
 pub walked-requires-clause-spot : goal.walked-requires-clause-spot
