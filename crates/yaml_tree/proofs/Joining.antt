@@ -1,5 +1,5 @@
 -- Blocks as one row: what is at a spot, and what a change of a block does to the row.
-use Rattle.yaml_tree.proofs.IndexCommon.{[], ap, append-nil, append_assoc, AreFilled, AreRising, arith, cases_lt, digest_at, drop, drop_all, Entry, get_or, get_or_default, halved, head_at, inl, inr, insert, insert-append_left, insert-append_right, insert_end, IsEdge, IsNarrowed, joined, length, length-append, length-drop, length-insert, length-map, length-set, length-take, List, map, map-append, number_at, refl, remove, remove-append_left, remove-append_right, set, start, suc, sym, take, take-append-drop, take_all, take_at, zero, ℕ, ◌++◌, ◌+◌, ◌-◌, ◌<◌, ◌∙◌, ◌∷◌, ◌≡◌, ◌≤◌, ◌⊎◌}
+use Rattle.yaml_tree.proofs.IndexCommon.{[], ap, append-nil, append_assoc, AreFilled, AreRising, arith, cases_lt, digest_at, drop, drop_all, Entry, get_or, get_or-insert_below, get_or_default, halved, head_at, inl, inr, insert, insert-append_left, insert-append_right, insert_end, IsEdge, IsNarrowed, joined, length, length-append, length-drop, length-insert, length-map, length-set, length-take, List, map, map-append, number_at, refl, remove, remove-append_left, remove-append_right, set, start, suc, sym, take, take-append-drop, take_all, take_at, zero, ℕ, ◌++◌, ◌+◌, ◌-◌, ◌<◌, ◌∙◌, ◌∷◌, ◌≡◌, ◌≤◌, ◌⊎◌}
 
 -- ---- entries by number
 
@@ -75,10 +75,8 @@ module _ {xs bs : List (List Entry)} {i : ℕ} {b : List Entry} (v : xs ≡ bs) 
 
 pub joined_insert : (bs : List (List Entry)) (i j : ℕ) (e : Entry) → i < length bs → j ≤ length (get_or bs i []) → joined (set bs i (insert (get_or bs i []) j e)) ≡ insert (joined bs) (start bs i + j) e
 joined_insert [] i j e h g = absurd (omega arith)
-joined_insert (b ∷ bs) zero j e h g = sym (insert-append_left b (joined bs) j e g) ∙ ap (λ n. insert (b ++ joined bs) n e) (omega arith)
-joined_insert (b ∷ bs) (suc i) j e h g =
-    ap (λ es. b ++ es) (joined_insert bs i j e (omega arith) g ∙ ap (λ n. insert (joined bs) n e) (omega arith))
-    ∙ sym (insert-append_right b (joined bs) (length b) (length b + start bs i + j) e refl (omega arith))
+joined_insert (b ∷ bs) zero j e h g = grind (arith, insert-append_left b (joined bs) j e)
+joined_insert (b ∷ bs) (suc i) j e h g = grind (arith, joined_insert bs i j e, insert-append_right b (joined bs) (length b) (length b + start bs i + j) e)
 
 pub joined_push : (bs : List (List Entry)) (e : Entry) (n : ℕ) → n ≡ length (joined bs) → joined (bs ++ (e ∷ []) ∷ []) ≡ insert (joined bs) n e
 joined_push bs e n h = at_end bs ∙ sym (insert_end (joined bs) e) ∙ ap (λ m. insert (joined bs) m e) (sym h)
@@ -89,20 +87,15 @@ joined_push bs e n h = at_end bs ∙ sym (insert_end (joined bs) e) ∙ ap (λ m
 
 pub joined_remove : (bs : List (List Entry)) (i j : ℕ) → i < length bs → j < length (get_or bs i []) → joined (set bs i (remove (get_or bs i []) j)) ≡ remove (joined bs) (start bs i + j)
 joined_remove [] i j h g = absurd (omega arith)
-joined_remove (b ∷ bs) zero j h g = sym (remove-append_left b (joined bs) j g) ∙ ap (remove (b ++ joined bs)) (omega arith)
-joined_remove (b ∷ bs) (suc i) j h g =
-    ap (λ es. b ++ es) (joined_remove bs i j (omega arith) g ∙ ap (remove (joined bs)) (omega arith))
-    ∙ sym (remove-append_right b (joined bs) (length b) (length b + start bs i + j) refl (omega arith))
+joined_remove (b ∷ bs) zero j h g = grind (arith, remove-append_left b (joined bs) j)
+joined_remove (b ∷ bs) (suc i) j h g = grind (arith, joined_remove bs i j, remove-append_right b (joined bs) (length b) (length b + start bs i + j))
 
 -- a block of one entry goes
 pub joined_without : (bs : List (List Entry)) (i n : ℕ) → i < length bs → length (get_or bs i []) ≡ 1 → n ≡ start bs i → joined (remove bs i) ≡ remove (joined bs) n
 joined_without [] i n h one e = absurd (omega arith)
-joined_without ([] ∷ bs) zero n h one e = absurd (omega arith)
 joined_without ((x ∷ []) ∷ bs) zero n h one e = ap (remove (x ∷ joined bs)) (sym e)
-joined_without ((x ∷ y ∷ b) ∷ bs) zero n h one e = absurd (omega arith)
-joined_without (b ∷ bs) (suc i) n h one e =
-    ap (λ es. b ++ es) (joined_without bs i (n - length b) (omega arith) one (omega (arith, e)))
-    ∙ sym (remove-append_right b (joined bs) (length b) n refl (omega (arith, e)))
+joined_without (b ∷ bs) (suc i) n h one e = grind (arith, joined_without bs i (n - length b), remove-append_right b (joined bs) (length b) n)
+joined_without (b ∷ bs) zero n h one e = absurd (omega arith)
 
 -- ---- a block becomes two
 
@@ -119,34 +112,12 @@ pub first_halved : (bs : List (List Entry)) (i n h : ℕ) → n ≡ suc i → i 
 first_halved (b ∷ bs) i (suc n) h e g = grind (arith, first_halved bs)
 first_halved bs i n h e g = absurd (omega arith)
 
-pub second_halved : (bs : List (List Entry)) (i n h : ℕ) → n ≡ suc i → i < length bs → get_or (halved bs i n h) n [] ≡ drop h (get_or bs i [])
-second_halved (b ∷ bs) i (suc n) h e g = grind (arith, second_halved bs)
-second_halved bs i n h e g = absurd (omega arith)
-
 pub length-halved : (bs : List (List Entry)) (i n h : ℕ) → n ≡ suc i → i < length bs → length (halved bs i n h) ≡ length bs + 1
 length-halved bs i n h e g = length-insert (set bs i (take h (get_or bs i []))) n (drop h (get_or bs i [])) (omega (arith, length-set bs i (take h (get_or bs i [])))) ∙ ap (λ m. m + 1) (length-set bs i (take h (get_or bs i [])))
 
--- a spot of the old block stands in the first half or in the second
-pub record IsMoved (bs cs : List (List Entry)) (i j k l : ℕ) : Type 0 where
-  pub block : k ≤ length cs
-  pub offset : l ≤ length (get_or cs k [])
-  pub same : start cs k + l ≡ start bs i + j
-
-pub spot_first : (bs cs : List (List Entry)) (i n j h : ℕ) → n ≡ suc i → i < length bs → cs ≡ halved bs i n h → j ≤ h → h ≤ length (get_or bs i []) → IsMoved bs cs i j i j
-spot_first bs cs i n j h e g is a b = record {
-  block = omega (arith, ap length is, length-halved bs i n h e g);
-  offset = omega (arith, ap (λ xs. length (get_or xs i [])) is, ap length (first_halved bs i n h e g), length-take h (get_or bs i []));
-  same = omega (arith, ap (λ xs. start xs i) is, start_halved bs i n h e g);
-}
-
-pub spot_second : (bs cs : List (List Entry)) (i n j h : ℕ) → n ≡ suc i → i < length bs → cs ≡ halved bs i n h → h ≤ j → j ≤ length (get_or bs i []) → IsMoved bs cs i j n (j - h)
-spot_second bs cs i n j h e g is a b =
-    let next = start_next (halved bs i n h) i n e in
-    record {
-      block = omega (arith, ap length is, length-halved bs i n h e g);
-      offset = omega (arith, ap (λ xs. length (get_or xs n [])) is, ap length (second_halved bs i n h e g), length-drop h (get_or bs i []));
-      same = omega (arith, ap (λ xs. start xs n) is, next, start_halved bs i n h e g, ap length (first_halved bs i n h e g), length-take h (get_or bs i []));
-    }
+pub start_second : (bs : List (List Entry)) (i n h : ℕ) → n ≡ suc i → i < length bs → h ≤ length (get_or bs i []) → start (halved bs i n h) n ≡ start bs i + h
+start_second bs i n h e g l =
+    omega (arith, start_next (halved bs i n h) i n e, start_halved bs i n h e g, ap length (first_halved bs i n h e g), length-take h (get_or bs i []))
 
 -- ---- every entry is changed
 
@@ -244,16 +215,12 @@ pub set_before : (bs : List (List Entry)) (i n : ℕ) (b u : List Entry) → n �
 set_before (c ∷ bs) i (suc n) b u e h = grind (arith, set_before bs)
 set_before bs i n b u e h = absurd (omega arith)
 
-pub get_before : (bs : List (List Entry)) (i n : ℕ) (u d : List Entry) → i < n → i < length bs → get_or (insert bs n u) i d ≡ get_or bs i d
-get_before (c ∷ bs) i (suc n) u d e h = grind (arith, get_before bs)
-get_before bs i n u d e h = absurd (omega arith)
-
 -- a block's upper half is put after it, and it keeps the lower one
 pub halved_made : (xs : List (List Entry)) {ys : List (List Entry)} (i h : ℕ) {upper whole lower : List Entry} → i < length xs → ys ≡ insert xs (i + 1) upper
     → upper ≡ drop h (get_or xs i []) → whole ≡ get_or ys i whole → lower ≡ take h whole → set ys i lower ≡ halved xs i (i + 1) h
 halved_made xs {ys} i h {upper} {whole} {lower} l put u w low =
     let next : i + 1 ≡ suc i = omega arith in
-    let read = block_read put (omega (arith, length-insert xs (i + 1) upper (omega arith))) w ∙ get_before xs i (i + 1) upper [] (omega arith) l in
+    let read = block_read put (omega (arith, length-insert xs (i + 1) upper (omega arith))) w ∙ get_or-insert_below xs (i + 1) upper [] i (omega arith) (omega arith) in
     rw (put, set_before xs i (i + 1) lower upper next l, low, read, u) refl
 
 pub lent_back : {X : Type 0} (n : ℕ) (xs ys : List X) → length xs ≡ n → take n (xs ++ drop (length xs) ys) ≡ xs

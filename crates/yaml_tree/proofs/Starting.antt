@@ -1,8 +1,8 @@
 -- Starts of blocks: what a change of the blocks makes of them.
-use Rattle.yaml_tree.proofs.IndexCommon.{[], ap, AreApart, AreCounted, AreFilled, AreStarts, arith, cases_lt, drop, Entry, get_or, get_or_append_left, get_or_push, get_or_read, halved, head_length, inl, inr, insert, insert_end, joined, length, length-append, length-drop, length-insert, length-map, length-remove, length-set, length-take, List, map, refl, remove, set, start, subst, suc, take, take-append-drop, zero, ℕ, ◌*◌, ◌++◌, ◌+◌, ◌-◌, ◌/◌, ◌<◌, ◌^◌, ◌∙◌, ◌∷◌, ◌≡◌, ◌≤◌}
+use Rattle.yaml_tree.proofs.IndexCommon.{[], ap, AreApart, AreCounted, AreFilled, AreStarts, arith, cases_lt, drop, Entry, get_or, get_or-insert_below, get_or_append_left, get_or_push, get_or_read, halved, head_length, inl, inr, insert, insert_end, joined, length, length-append, length-drop, length-insert, length-map, length-remove, length-set, length-take, List, map, refl, remove, set, start, subst, suc, take, take-append-drop, zero, ℕ, ◌*◌, ◌++◌, ◌+◌, ◌-◌, ◌/◌, ◌<◌, ◌^◌, ◌∙◌, ◌∷◌, ◌≡◌, ◌≤◌}
 use Rattle.std.proofs.lemmas.Grind.{get_or-set_at}
 use Rattle.std.proofs.lemmas.List.{get_or-set_other}
-use Rattle.std.proofs.lemmas.List.Edits.{get_or-insert_below, get_or-insert_at, get_or-insert_above, get_or-remove_below, get_or-remove_above}
+use Rattle.std.proofs.lemmas.List.Edits.{get_or-insert_at, get_or-insert_above, get_or-remove_below, get_or-remove_above}
 use Rattle.yaml_tree.proofs.Joining.{start_zero, start_all, start_within, start_next, start_rises, rank_inside, rank_within, filled_map, length-halved, joined_halved, joined_insert, joined_map, joined_push, joined_remove, joined_without}
 
 -- ---- before a change and after it

@@ -1,5 +1,5 @@
-use Rattle.yaml_tree.proofs.IndexCommon.{ap, arith, length, ◌+◌, ◌/◌, ◌<◌}
-use Rattle.yaml_tree.proofs.Joining.{block_read, start_next, spot_first, spot_second}
+use Rattle.yaml_tree.proofs.IndexCommon.{ap, arith, length, start, ◌+◌, ◌/◌, ◌<◌}
+use Rattle.yaml_tree.proofs.Joining.{block_read, start_halved, start_next, start_second}
 use Rattle.yaml_tree.proofs.blocks.Blocks.with_room.Goals as goal
 
 pub returns-then-spot-len-2-clause-rank : goal.returns-then-spot-len-2-clause-rank
@@ -12,11 +12,11 @@ pub returns-then-spot-half-clause-rank : goal.returns-then-spot-half-clause-rank
 returns-then-spot-half-clause-rank c =
     let i = c.args.spot.block in
     let inside : i < length c.args.self.now = omega (arith, c.if-spot-len.false, ap length c.self.view_is, c.requires.0) in
-    let read = ap length (block_read c.self.view_is inside c.index.ensures) in
-    (spot_first c.args.self.now _ i (i + 1) c.args.spot.offset (c.len-count.result / 2) (omega arith) inside (c.in_ok-split.ensures {u = tt}).ok c.if-spot-half.true (omega arith)).same
+    omega (arith, ap (λ xs. start xs i) (c.in_ok-split.ensures {u = tt}).ok, start_halved c.args.self.now i (i + 1) (c.len-count.result / 2) (omega arith) inside)
 
 pub returns-else-spot-half-clause-rank : goal.returns-else-spot-half-clause-rank
 returns-else-spot-half-clause-rank c =
     let i = c.args.spot.block in
     let inside : i < length c.args.self.now = omega (arith, c.if-spot-len.false, ap length c.self.view_is, c.requires.0) in
-    (spot_second c.args.self.now _ i (i + 1) c.args.spot.offset (c.len-count.result / 2) (omega arith) inside (c.in_ok-split.ensures {u = tt}).ok (omega (arith, c.if-spot-half.false)) c.requires.1).same
+    let second = start_second c.args.self.now i (i + 1) (c.len-count.result / 2) (omega arith) inside (omega (arith, c.if-spot-half.false, c.requires.1)) in
+    omega (arith, ap (λ xs. start xs (i + 1)) (c.in_ok-split.ensures {u = tt}).ok, c.if-spot-half.false)
