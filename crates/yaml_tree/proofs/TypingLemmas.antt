@@ -20,15 +20,12 @@ pub after_it : (p t : List ℕ) → after_prefix p (p ++ t) ≡ Some t
 after_it [] t = refl
 after_it (x ∷ p) t = grind (arith, nat_tests, after_it p t)
 
-after_none : (p t : List ℕ) → ((rest : List ℕ) → t ≢ p ++ rest) → after_prefix p t ≡ None
-after_none [] t h = absurd (h t refl)
-after_none (x ∷ p) [] h = refl
-after_none (x ∷ p) (c ∷ cs) h =
-    let later : c ≡ x → after_prefix p cs ≡ None = λ e. after_none p cs (λ rest f. h rest (λ i. e i ∷ f i)) in
-    grind (arith, nat_tests, later)
-
 pub lacks_after : (p t : List ℕ) → LacksTextAt p t 0 → after_prefix p t ≡ None
-lacks_after p t h = after_none p t h
+lacks_after [] t h = absurd (h t refl)
+lacks_after (x ∷ p) [] h = refl
+lacks_after (x ∷ p) (c ∷ cs) h =
+    let later : c ≡ x → after_prefix p cs ≡ None = λ e. lacks_after p cs (λ rest f. h rest (λ i. e i ∷ f i)) in
+    grind (arith, nat_tests, later)
 
 pub strips_after : (p t x : List ℕ) → StripsPrefix (FindsTextPrefix p) t x → after_prefix p t ≡ Some x
 strips_after p t x h = ap (after_prefix p) (h.1.1 ∙ ap (λ u. p ++ u) (sym h.2)) ∙ after_it p x
