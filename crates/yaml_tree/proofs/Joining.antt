@@ -1,5 +1,6 @@
 -- Blocks as one row: what is at a spot, and what a change of a block does to the row.
-use Rattle.yaml_tree.proofs.IndexCommon.{[], ap, append-nil, append_assoc, AreFilled, AreRising, arith, cases_lt, digest_at, drop, drop_all, Entry, get_or, get_or-insert_below, get_or_default, halved, head_at, inl, inr, insert, insert-append_left, insert-append_right, insert_end, IsEdge, IsNarrowed, joined, length, length-append, length-drop, length-insert, length-map, length-set, length-take, List, map, map-append, number_at, refl, remove, remove-append_left, remove-append_right, set, start, suc, sym, take, take-append-drop, take_all, take_at, zero, ℕ, ◌++◌, ◌+◌, ◌-◌, ◌<◌, ◌∙◌, ◌∷◌, ◌≡◌, ◌≤◌, ◌⊎◌}
+use Rattle.yaml_tree.proofs.IndexCommon.{[], ap, append-nil, append_assoc, AreFilled, AreRising, arith, binary_digits, cases_lt, digest_at, drop, drop_all, Entry, get_or, get_or-insert_below, get_or_default, halved, head_at, inl, inr, insert, insert-append_left, insert-append_right, insert_end, IsEdge, IsNarrowed, joined, length, length-append, length-drop, length-insert, length-map, length-set, length-take, List, map, map-append, number_at, refl, remove, remove-append_left, remove-append_right, set, start, suc, sym, take, take-append-drop, take_all, take_at, zero, ℕ, ◌++◌, ◌+◌, ◌-◌, ◌<◌, ◌∙◌, ◌∷◌, ◌≡◌, ◌≤◌, ◌⊎◌}
+use Rattle.yaml_tree.proofs.Halving.{digits_some}
 
 -- ---- entries by number
 
@@ -138,6 +139,9 @@ start_rises (b ∷ bs) i j h = grind (arith, start_rises bs)
 pub filled_counted : (bs : List (List Entry)) → AreFilled bs → length bs ≤ length (joined bs)
 filled_counted [] a = omega arith
 filled_counted (b ∷ bs) a = omega (arith, a 0 (omega arith), filled_counted bs (λ i h. a (suc i) (omega arith)), length-append b (joined bs))
+
+pub filled_digits : (bs : List (List Entry)) → AreFilled bs → 0 < length bs → 0 < binary_digits (length (joined bs))
+filled_digits bs a h = digits_some (length (joined bs)) (omega (arith, filled_counted bs a))
 
 -- the other blocks have at least one entry each
 pub filled_beside : (bs : List (List Entry)) (i : ℕ) → AreFilled bs → i < length bs → length bs + length (get_or bs i []) ≤ length (joined bs) + 1

@@ -29,14 +29,10 @@ pub advanced-middle-requires-clause-fits : goal.advanced-middle-requires-clause-
 advanced-middle-requires-clause-fits c = omega (arith, row_counted c.args.row.now c.requires.hash)
 
 pub overflow_mul-place : goal.overflow_mul-place
-overflow_mul-place c =
-    let inside = (spot_at c.args.row.now c.requires c.advanced-middle.result c.at-place.result c.advanced-middle.ensures.place c.at-place.ensures).inside in
-    search rules
+overflow_mul-place c = omega (arith, (spot_at c.args.row.now c.requires c.advanced-middle.result c.at-place.result c.advanced-middle.ensures.place c.at-place.ensures).inside)
 
 pub offset_bounds-row-place : goal.offset_bounds-row-place
-offset_bounds-row-place c =
-    let inside = (spot_at c.args.row.now c.requires c.advanced-middle.result c.at-place.result c.advanced-middle.ensures.place c.at-place.ensures).inside in
-    search rules
+offset_bounds-row-place c = omega (arith, (spot_at c.args.row.now c.requires c.advanced-middle.result c.at-place.result c.advanced-middle.ensures.place c.at-place.ensures).inside)
 
 pub bounds-row-place : goal.bounds-row-place
 bounds-row-place c = omega (arith, (spot_at c.args.row.now c.requires c.advanced-middle.result c.at-place.result c.advanced-middle.ensures.place c.at-place.ensures).inside)
@@ -56,9 +52,7 @@ loop-count-preserved-in-Less c =
 
 pub overflow_add-low : goal.overflow_add-low
 overflow_add-low c =
-    let inside = (place_inside c.args.ranks.now.kept c.advanced-middle.result c.advanced-middle.ensures.place).1 in
-    let low : c.advanced-middle.result.offset + 1 < 2 ^ 63 = omega (arith, row_counted c.args.row.now c.requires.hash) in
-    search rules
+    omega (arith, row_counted c.args.row.now c.requires.hash, (place_inside c.args.ranks.now.kept c.advanced-middle.result c.advanced-middle.ensures.place).1)
 
 pub loop-count-preserved : goal.loop-count-preserved
 loop-count-preserved c =

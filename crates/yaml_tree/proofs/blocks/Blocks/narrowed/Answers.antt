@@ -1,6 +1,5 @@
 use Rattle.yaml_tree.proofs.IndexCommon.{ap, AreFilled, arith, joined, length, nat_tests, rank_of, refl, rules, subst, ◌+◌, ◌<◌}
-use Rattle.yaml_tree.proofs.Halving.{digits_some}
-use Rattle.yaml_tree.proofs.Joining.{edges_rise, edges_narrow, edge_past, filled_counted}
+use Rattle.yaml_tree.proofs.Joining.{edges_rise, edges_narrow, edge_past, filled_digits}
 use Rattle.yaml_tree.proofs.blocks.Blocks.narrowed.Goals as goal
 
 pub returns-then-is_past-clause-narrowed : goal.returns-then-is_past-clause-narrowed
@@ -18,18 +17,18 @@ returns-clause-narrowed c =
 
 pub returns-then-is_past-clause-compared : goal.returns-then-is_past-clause-compared
 returns-then-is_past-clause-compared c =
-    let blocks : 0 < length c.args.self.now = grind (arith, nat_tests, c.is_empty.ensures, c.if-is_empty.false, ap length c.self.view_is) in
-    let some = digits_some (length (joined c.args.self.now)) (omega (arith, filled_counted c.args.self.now (subst AreFilled c.self.view_is c.self.invariant.filled))) in
+    let blocks : 0 < length c.self.inside.blocks.items = grind (arith, nat_tests, c.is_empty.ensures, c.if-is_empty.false) in
+    let some = rw c.self.view_is at (filled_digits c.self.inside.blocks.items c.self.invariant.filled blocks) in
     (omega arith, omega arith)
 
 pub returns-then-is_last-clause-compared : goal.returns-then-is_last-clause-compared
 returns-then-is_last-clause-compared c =
-    let blocks : 0 < length c.args.self.now = grind (arith, nat_tests, c.is_empty.ensures, c.if-is_empty.false, ap length c.self.view_is) in
-    let some = digits_some (length (joined c.args.self.now)) (omega (arith, filled_counted c.args.self.now (subst AreFilled c.self.view_is c.self.invariant.filled))) in
+    let blocks : 0 < length c.self.inside.blocks.items = grind (arith, nat_tests, c.is_empty.ensures, c.if-is_empty.false) in
+    let some = rw c.self.view_is at (filled_digits c.self.inside.blocks.items c.self.invariant.filled blocks) in
     (omega arith, omega arith)
 
 pub returns-clause-compared : goal.returns-clause-compared
 returns-clause-compared c =
-    let blocks : 0 < length c.args.self.now = grind (arith, nat_tests, c.is_empty.ensures, c.if-is_empty.false, ap length c.self.view_is) in
-    let some = digits_some (length (joined c.args.self.now)) (omega (arith, filled_counted c.args.self.now (subst AreFilled c.self.view_is c.self.invariant.filled))) in
+    let blocks : 0 < length c.self.inside.blocks.items = grind (arith, nat_tests, c.is_empty.ensures, c.if-is_empty.false) in
+    let some = rw c.self.view_is at (filled_digits c.self.inside.blocks.items c.self.invariant.filled blocks) in
     (omega arith, omega arith)

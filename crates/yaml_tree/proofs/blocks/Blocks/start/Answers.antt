@@ -8,8 +8,7 @@ overflow_add-count c =
     let i = c.loop-i.i in
     let inside : i < length bs = omega (arith, c.loop-i-test.true, c.requires.within) in
     let read = ap length (block_read c.self.view_is inside c.index.ensures) in
-    let low : c.loop-i.count + c.len-count.result < 2 ^ 63 = omega (arith, c.requires.fits, start_next bs i (i + 1) (omega arith), start_within bs (i + 1)) in
-    search rules
+    omega (arith, c.requires.fits, start_next bs i (i + 1) (omega arith), start_within bs (i + 1))
 
 pub loop-i-preserved : goal.loop-i-preserved
 loop-i-preserved c =

@@ -5,14 +5,10 @@ use Rattle.yaml_tree.proofs.Rows.{row_counted}
 use Rattle.yaml_tree.proofs.hash.Hash.value_mut_at.Goals as goal
 
 pub overflow_mul-i : goal.overflow_mul-i
-overflow_mul-i c =
-    let inside : 2 * c.args.i + 1 < vec_len c.self.inside.row = omega (arith, row_counted c.self.inside.row.items c.self.invariant.hash, ap length c.self.view_is) in
-    search rules
+overflow_mul-i c = omega (arith, row_counted c.self.inside.row.items c.self.invariant.hash, ap length c.self.view_is)
 
 pub overflow_add-i : goal.overflow_add-i
-overflow_add-i c =
-    let inside : 2 * c.args.i + 1 < vec_len c.self.inside.row = omega (arith, row_counted c.self.inside.row.items c.self.invariant.hash, ap length c.self.view_is) in
-    search rules
+overflow_add-i c = omega (arith, row_counted c.self.inside.row.items c.self.invariant.hash, ap length c.self.view_is)
 
 pub index_mut-requires : goal.index_mut-requires
 index_mut-requires c = omega (arith, row_counted c.self.inside.row.items c.self.invariant.hash, ap length c.self.view_is)

@@ -6,14 +6,10 @@ pub returns-in_err-i-clause-value : goal.returns-in_err-i-clause-value
 returns-in_err-i-clause-value c = rw c.from_residual.ensures (sym (absent (probed c.args.probe) c.args.self.now (c.in_err-i.ensures {u = tt}).place).unfound)
 
 pub overflow_mul-i : goal.overflow_mul-i
-overflow_mul-i c =
-    let inside : 2 * c.in_ok-i.i + 1 < vec_len c.self.inside.row = omega (arith, (placed c.self.inside.row.items c.self.invariant.hash (probed c.args.probe) c.in_ok-i.i (rw (← c.self.view_is) at (c.in_ok-i.ensures {u = tt}).place)).inside) in
-    search rules
+overflow_mul-i c = omega (arith, (placed c.self.inside.row.items c.self.invariant.hash (probed c.args.probe) c.in_ok-i.i (rw (← c.self.view_is) at (c.in_ok-i.ensures {u = tt}).place)).inside)
 
 pub overflow_add-i : goal.overflow_add-i
-overflow_add-i c =
-    let inside : 2 * c.in_ok-i.i + 1 < vec_len c.self.inside.row = omega (arith, (placed c.self.inside.row.items c.self.invariant.hash (probed c.args.probe) c.in_ok-i.i (rw (← c.self.view_is) at (c.in_ok-i.ensures {u = tt}).place)).inside) in
-    search rules
+overflow_add-i c = omega (arith, (placed c.self.inside.row.items c.self.invariant.hash (probed c.args.probe) c.in_ok-i.i (rw (← c.self.view_is) at (c.in_ok-i.ensures {u = tt}).place)).inside)
 
 pub index-requires : goal.index-requires
 index-requires c = omega (arith, (placed c.self.inside.row.items c.self.invariant.hash (probed c.args.probe) c.in_ok-i.i (rw (← c.self.view_is) at (c.in_ok-i.ensures {u = tt}).place)).inside)
