@@ -11,10 +11,8 @@ module _ {A : Type 0} (R : A → A → Ordering) where
   cmp_next xs ys i x y p q e f = rw (at_drop xs i x p e, at_drop ys i y q f)
 
   pub cmp_end : (xs ys : List A) (i : ℕ) → i ≤ length xs → i ≤ length ys → (length xs ≤ i) ⊎ (length ys ≤ i) → slice_cmp R (drop i xs) (drop i ys) ≡ nat_cmp (length xs) (length ys)
-  cmp_end [] ys i p q e = grind (arith, nat_tests)
-  cmp_end (x ∷ xs) [] i p q e = grind (arith, nat_tests)
-  cmp_end (x ∷ xs) (y ∷ ys) zero p q e = grind (arith, nat_tests)
   cmp_end (x ∷ xs) (y ∷ ys) (suc i) p q e = grind (arith, nat_tests, cmp_end xs ys i)
+  cmp_end xs ys i p q e = grind (arith, nat_tests)
 
 pub items_cmp-items_of : (xs ys : List Tree) → items_cmp (items_of xs) (items_of ys) ≡ list_cmp xs ys
 items_cmp-items_of [] ys = grind arith

@@ -22,6 +22,9 @@ pub start_all : (bs : List (List Entry)) (n : ℕ) → length bs ≤ n → start
 start_all [] n h = refl
 start_all (b ∷ bs) n h = grind (arith, start_all bs, length-append b (joined bs))
 
+pub not_past : (bs : List (List Entry)) (i j : ℕ) → start bs i + j < length (joined bs) → i < length bs
+not_past bs i j h = grind (arith, cases_lt i (length bs), start_all)
+
 pub start_within : (bs : List (List Entry)) (n : ℕ) → start bs n ≤ length (joined bs)
 start_within [] n = omega arith
 start_within (b ∷ bs) n = grind (arith, start_within bs, length-append b (joined bs))
@@ -152,11 +155,10 @@ filled_beside (b ∷ bs) (suc i) a h = omega (arith, a 0 (omega arith), filled_b
 -- ---- where digests reach a number
 
 pub edge_first : (bs : List (List Entry)) (m k : ℕ) → AreFilled bs → IsEdge (head_at bs) (length bs) m k → k ≡ 0 → IsEdge (digest_at (joined bs)) (length (joined bs)) m (start bs 0 + 0)
-edge_first [] m k a heads e = record { counted = omega arith; below = λ i f. absurd (omega arith); from = λ h. absurd (omega arith) }
-edge_first (b ∷ bs) m k a heads e = record {
-  counted = omega arith;
-  below = λ i f. absurd (omega arith);
-  from = λ h. omega (arith, digest_in (b ∷ bs) 0 0 (omega arith) (a 0 (omega arith)), heads.from (omega arith), ap (head_at (b ∷ bs)) e);
+edge_first bs m k a heads e = record {
+  counted = rank_within bs 0 0 (omega arith);
+  below = λ i f. absurd (omega (arith, start_zero bs));
+  from = λ h. let some = not_past bs 0 0 h in omega (arith, digest_in bs 0 0 some (a 0 some), heads.from (omega arith), ap (head_at bs) e);
 }
 
 pub edge_joined : (bs : List (List Entry)) (m k i j : ℕ) → AreFilled bs → IsEdge (head_at bs) (length bs) m k → k ≡ suc i
@@ -164,7 +166,13 @@ pub edge_joined : (bs : List (List Entry)) (m k i j : ℕ) → AreFilled bs → 
 edge_joined bs m k i j a heads e inside = record {
   counted = rank_within bs i j inside.counted;
   below = λ r f. low j inside r f;
-  from = λ h. by h (cases_lt j (length (get_or bs i [])));
+  from = λ h. elim (cases_lt j (length (get_or bs i []))) [
+    | inl g ↦ omega (arith, digest_in bs i j there g, inside.from g)
+    | inr g ↦
+        let same : start bs i + j ≡ start bs k + 0 = omega (arith, start_next bs i k e, inside.counted) in
+        let next = not_past bs k 0 (omega arith) in
+        omega (arith, ap (digest_at (joined bs)) same, digest_in bs k 0 next (a k next), heads.from next)
+  ];
 }
   where
     there : i < length bs
@@ -176,16 +184,6 @@ edge_joined bs m k i j a heads e inside = record {
         let same : r ≡ start bs i + j = omega arith in
         omega (arith, ap (digest_at (joined bs)) same, digest_in bs i j there (omega (arith, inside.counted)), inside.below j refl)
 
-    next : (k < length bs) ⊎ (length bs ≤ k) → length (get_or bs i []) ≤ j → start bs i + j < length (joined bs) → m ≤ digest_at (joined bs) (start bs i + j)
-    next (inl g) l h =
-        let same : start bs i + j ≡ start bs k + 0 = omega (arith, start_next bs i k e, inside.counted) in
-        omega (arith, ap (digest_at (joined bs)) same, digest_in bs k 0 g (a k g), heads.from g)
-    next (inr g) l h = absurd (omega (arith, start_next bs i k e, start_all bs k g, inside.counted))
-
-    by : start bs i + j < length (joined bs) → (j < length (get_or bs i [])) ⊎ (length (get_or bs i []) ≤ j) → m ≤ digest_at (joined bs) (start bs i + j)
-    by h (inl g) = omega (arith, digest_in bs i j there g, inside.from g)
-    by h (inr g) = next (cases_lt k (length bs)) g h
-
 pub edges_rise : (es : List Entry) (m n j k : ℕ) → AreRising es → IsEdge (digest_at es) (length es) m j → IsEdge (digest_at es) (length es) n k → m ≤ n → j ≤ k
 edges_rise es m n zero k a d e h = omega arith
 edges_rise es m n (suc j) k a d e h = grind (arith, cases_lt k (suc j), d.below j refl, a k j)
@@ -193,16 +191,14 @@ edges_rise es m n (suc j) k a d e h = grind (arith, cases_lt k (suc j), d.below 
 -- between the first entry with a digest and the first with a higher one, all have this digest
 pub edges_narrow : (es : List Entry) (m n j k count : ℕ) → AreRising es → IsEdge (digest_at es) (length es) m j → IsEdge (digest_at es) (length es) n k → n ≡ m + 1 → j + count ≡ k
     → IsNarrowed es m j count
-edges_narrow es m n j k count a d e next c = record { within = omega (arith, e.counted); below = d.below; inside = same; above = after }
-  where
-    last : (i l : ℕ) → i ≤ l → suc l ≡ k → digest_at es i < n
-    last i l h f = omega (arith, e.below l f, a i l h (omega (arith, e.counted)))
-
-    same : (i : ℕ) → j ≤ i → i < j + count → digest_at es i ≡ m
-    same i h g = omega (arith, d.from (omega (arith, e.counted)), a j i h (omega (arith, e.counted)), last i (k - 1) (omega arith) (omega arith))
-
-    after : j + count < length es → m < digest_at es (j + count)
-    after h = omega (arith, ap (digest_at es) c, e.from (omega arith))
+edges_narrow es m n j k count a d e next c = record {
+  within = omega (arith, e.counted);
+  below = d.below;
+  inside = λ i h g.
+      let last = a i (k - 1) (omega arith) (omega (arith, e.counted)) in
+      omega (arith, d.from (omega (arith, e.counted)), a j i h (omega (arith, e.counted)), e.below (k - 1) (omega arith));
+  above = λ h. omega (arith, ap (digest_at es) c, e.from (omega arith));
+}
 
 -- no entry from the first with a digest on has it
 pub edge_past : (es : List Entry) (m j : ℕ) → IsEdge (digest_at es) (length es) m j → (j < length es → m < digest_at es j) → IsNarrowed es m j 0
@@ -235,6 +231,3 @@ pub all_lent : (f : List Entry → List Entry) (n : ℕ) {len : ℕ} {xs ws ys :
     → length ws ≤ n → ws ≡ xs → len ≡ length xs → take len (ys ++ drop (length ys) xs) ≡ map f xs
 all_lent f n {len} {xs} {ws} {ys} e l h is k =
     lent_back len ys xs (omega (arith, ap length is)) ∙ e ∙ (λ i. map f (take_all n ws h i) ++ drop_all n ws h i) ∙ append-nil (map f ws) ∙ ap (map f) is
-
-pub not_past : (bs : List (List Entry)) (i j : ℕ) → start bs i + j < length (joined bs) → i < length bs
-not_past bs i j h = grind (arith, cases_lt i (length bs), start_all)

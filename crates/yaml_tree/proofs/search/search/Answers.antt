@@ -79,9 +79,3 @@ pub returns-in-Equal-clause-keys : goal.returns-in-Equal-clause-keys
 returns-in-Equal-clause-keys c =
     let more = counting_more _ 0 c.loop-count.invariant.counting c.loop-count-test.true (omega arith) c.compare.ensures.keys in
     (omega (arith, more.counted), omega (arith, more.within))
-
-pub returns-in-Equal-clause-digests : goal.returns-in-Equal-clause-digests
-returns-in-Equal-clause-digests c = grind arith
-
-pub returns-clause-digests : goal.returns-clause-digests
-returns-clause-digests c = grind arith
