@@ -8,12 +8,6 @@ loop-offset-init c = record {
   at = omega arith;
 }
 
-pub index-requires : goal.index-requires
-index-requires c = omega (arith, ap length c.self.view_is)
-
-pub index-requires-in-loop-offset : goal.index-requires-in-loop-offset
-index-requires-in-loop-offset c = omega (arith, ap length c.self.view_is)
-
 pub overflow_sub-offset : goal.overflow_sub-offset
 overflow_sub-offset c =
     let inside = c.loop-offset.invariant.inside in

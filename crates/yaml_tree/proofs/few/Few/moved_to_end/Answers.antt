@@ -8,9 +8,6 @@ loop-left-init c = record {
   packing = packing_none (moved_up c.args.gone c.len-count.result) c.args.self.now c.len-count.result (omega (arith, c.len-count.ensures.count));
 }
 
-pub overflow_add-moved : goal.overflow_add-moved
-overflow_add-moved c = let low : c.moved_up.result < 16 = grind (arith, nat_tests, c.len-count.ensures, c.moved_up.ensures, c.at.ensures.low) in omega arith
-
 pub loop-left-preserved : goal.loop-left-preserved
 loop-left-preserved c =
     let i = c.loop-left.invariant in

@@ -26,9 +26,6 @@ loop-left-init c =
           (grind (arith, nat_tests, fewer, c.len-left.ensures.count));
     }
 
-pub overflow_add-rest : goal.overflow_add-rest
-overflow_add-rest c = let low : c.closed_up.result < 16 = grind (arith, nat_tests, c.closed_up.ensures, c.at.ensures.low) in omega arith
-
 pub loop-left-preserved-then-left-rank : goal.loop-left-preserved-then-left-rank
 loop-left-preserved-then-left-rank c =
     let i = c.loop-left.invariant in

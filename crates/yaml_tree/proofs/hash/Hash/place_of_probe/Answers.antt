@@ -11,9 +11,3 @@ pub returns-in-Err-clause-place : goal.returns-in-Err-clause-place
 returns-in-Err-clause-place c =
     rw (← c.self.view_is) (gap_place c.self.inside.row.items c.self.invariant.hash (probed c.args.probe) (rank_at c.self.inside.ranks.kept c.in-Err.field-0.spot)
     (rw c.as_slice.ensures.value at (c.in-Err.ensures {u = tt}).missing))
-
-pub returns-in-Ok-clause-distinct : goal.returns-in-Ok-clause-distinct
-returns-in-Ok-clause-distinct c = subst AreDistinct c.self.view_is c.self.invariant.hash.distinct
-
-pub returns-in-Err-clause-distinct : goal.returns-in-Err-clause-distinct
-returns-in-Err-clause-distinct c = subst AreDistinct c.self.view_is c.self.invariant.hash.distinct

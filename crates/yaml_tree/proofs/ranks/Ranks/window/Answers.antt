@@ -1,9 +1,6 @@
 use Rattle.yaml_tree.proofs.Common.{AreRising, HaveRising, IsNarrowed, joined, rank_of, subst, sym}
 use Rattle.yaml_tree.proofs.ranks.Ranks.window.Goals as goal
 
-pub narrowed-requires-clause-rising : goal.narrowed-requires-clause-rising
-narrowed-requires-clause-rising c = subst (λ bs. AreRising (joined bs)) (sym c.deref.ensures) (subst HaveRising c.in-Many.is c.requires.rising)
-
 pub returns-in-Many-clause-window : goal.returns-in-Many-clause-window
 returns-in-Many-clause-window c =
     let bs = c.in-Many.blocks.value in
