@@ -14,14 +14,12 @@ lettered c cs other n y f =
     let digit : is_ascii_digit c ≡ false = grind arith in
     let sign : is_sign c ≡ false = grind arith in
     let point : is_point c ≡ false = grind arith in
-    let first : (48 == c) ≡ false = grind (arith, nat_tests) in
-    let plus : (43 == c) ≡ false = grind (arith, nat_tests) in
     let low : is_digit 10 c ≡ false = grind (arith, nat_tests) in
     let number : signed_number 10 (c ∷ cs) ≡ None = unsigned c cs sign ∙ rw low in
     let decimal : is_decimal (c ∷ cs) ≡ false = rw (is_decimal-read (c ∷ cs), sign, digit, point) in
-    let mark : (is_sign c || is_point c) ≡ false = grind arith in
-    by_table (c ∷ cs) (not_after 16 48 (codes "x") c cs first) (not_after 8 48 (codes "o") c cs first) (not_after 10 43 [] c cs plus) n y f
-    number (not_among (begins_in (λ d. is_sign d || is_point d)) special_words refl (c ∷ cs) mark) decimal
+    by_table (c ∷ cs) (not_after 16 48 (codes "x") c cs (grind (arith, nat_tests))) (not_after 8 48 (codes "o") c cs (grind (arith, nat_tests)))
+    (not_after 10 43 [] c cs (grind (arith, nat_tests))) n y f number
+    (not_among (begins_in (λ d. is_sign d || is_point d)) special_words refl (c ∷ cs) (grind arith)) decimal
 
 pub typing_itself : (c : ℕ) (cs : List ℕ) → begins_value c ≡ false → typing (c ∷ cs) ≡ string (c ∷ cs)
 typing_itself c cs plain = lettered c cs (grind arith) (no_word null_words refl) (no_word true_words refl) (no_word false_words refl)

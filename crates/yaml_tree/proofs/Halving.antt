@@ -1,19 +1,8 @@
 -- A search by halves: half of what is left has fewer binary digits.
 use Rattle.std.specs.Prelude.{nat_lt}
 use Rattle.std.proofs.Math.Nat.{pow-suc}
-use Rattle.yaml_tree.proofs.IndexCommon.{ap, arith, binary_digits, Bool, cases_lt, false, inl, inr, IsHalving, IsLeastExponent, ltb-false, ltb-true, suc, sym, true, zero, ℕ, ◌*◌, ◌+◌, ◌-◌, ◌/◌, ◌<◌, ◌^◌, ◌∙◌, ◌≡◌, ◌≤◌, ◌⊎◌}
+use Rattle.yaml_tree.proofs.IndexCommon.{ap, arith, binary_digits, Bool, cases_lt, false, inl, inr, IsHalving, ltb-false, ltb-true, suc, sym, true, zero, ℕ, ◌*◌, ◌+◌, ◌-◌, ◌/◌, ◌<◌, ◌^◌, ◌∙◌, ◌≡◌, ◌≤◌, ◌⊎◌}
 use Rattle.defs_tree.proofs.DigitsLaws.{least_exponent}
-
-pub halved : (m n : ℕ) → 0 < n → m ≤ n / 2 → binary_digits m + 1 ≤ binary_digits n
-halved m n h e = from (binary_digits n) (least_exponent n)
-  where
-    from : (k : ℕ) → IsLeastExponent n k → binary_digits m + 1 ≤ k
-    from zero r = let low : n < 2 ^ 0 = r.0 in absurd (omega arith)
-    from (suc k) r =
-        let high : n < 2 ^ suc k = r.0 in
-        let half : m < 2 ^ k = omega (arith, pow-suc 2 k) in
-        let less : binary_digits m ≤ k = (least_exponent m).1 k half in
-        omega arith
 
 pub digits_rise : (m n : ℕ) → m ≤ n → binary_digits m ≤ binary_digits n
 digits_rise m n h = let high : n < 2 ^ binary_digits n = (least_exponent n).0 in (least_exponent m).1 (binary_digits n) (omega arith)
@@ -21,22 +10,26 @@ digits_rise m n h = let high : n < 2 ^ binary_digits n = (least_exponent n).0 in
 pub digits_some : (n : ℕ) → 0 < n → 0 < binary_digits n
 digits_some n h = grind (arith, (least_exponent n).0)
 
+twice : (n : ℕ) → 0 < n → 2 ^ binary_digits n ≡ 2 ^ (binary_digits n - 1) * 2
+twice n h = let some = digits_some n h in ap (λ k. 2 ^ k) (omega arith) ∙ pow-suc 2 (binary_digits n - 1)
+
+pub halved : (m n : ℕ) → 0 < n → m ≤ n / 2 → binary_digits m + 1 ≤ binary_digits n
+halved m n h e =
+    let high : n < 2 ^ binary_digits n = (least_exponent n).0 in
+    let less = (least_exponent m).1 (binary_digits n - 1) (omega (arith, twice n h)) in
+    omega (arith, digits_some n h)
+
 -- of two numbers, the first not 0, at least one has fewer binary digits than their sum
 pub digits_shared : (a b : ℕ) → 0 < a → binary_digits a + binary_digits b + 1 ≤ 2 * binary_digits (a + b)
-digits_shared a b h = from (binary_digits (a + b)) (least_exponent (a + b))
-  where
-    fewer : (k n : ℕ) → n < 2 ^ k → binary_digits n ≤ k
-    fewer k n less = (least_exponent n).1 k less
-
-    either : (k : ℕ) → a + b < 2 ^ suc k → (a < 2 ^ k) ⊎ (2 ^ k ≤ a) → binary_digits a + binary_digits b + 1 ≤ 2 * suc k
-    either k r (inl less) = omega (arith, fewer k a less, fewer (suc k) b (omega (arith, r)))
-    either k r (inr more) =
-        let rest : b < 2 ^ k = omega (arith, r, more, pow-suc 2 k) in
-        omega (arith, fewer k b rest, fewer (suc k) a (omega (arith, r)))
-
-    from : (k : ℕ) → IsLeastExponent (a + b) k → binary_digits a + binary_digits b + 1 ≤ 2 * k
-    from zero r = let low : a + b < 2 ^ 0 = r.0 in absurd (omega arith)
-    from (suc k) r = either k r.0 (cases_lt a (2 ^ k))
+digits_shared a b h =
+    let k = binary_digits (a + b) in
+    let high : a + b < 2 ^ k = (least_exponent (a + b)).0 in
+    let two = twice (a + b) (omega arith) in
+    let some = digits_some (a + b) (omega arith) in
+    elim (cases_lt a (2 ^ (k - 1))) [
+      | inl less ↦ omega (arith, (least_exponent a).1 (k - 1) less, digits_rise b (a + b) (omega arith))
+      | inr more ↦ omega (arith, (least_exponent b).1 (k - 1) (omega arith), digits_rise a (a + b) (omega arith))
+    ]
 
 -- So many comparisons were made at first, and now; what is left by halves may cost no more than so many in all.
 pub record IsCounting (first most now left : ℕ) : Type 0 where

@@ -206,30 +206,20 @@ module _ (xs : List ℕ) (at x : ℕ) (h : at ≤ length xs) where
 -- ---- a pair comes
 
 pub ranked_added : {m : Tree → ℕ} (rs : List ℕ) (ps : Pairs) (r : ℕ) (k v : Tree) → AreRanked m rs ps → IsRankGap m k rs ps r → AreRanked m (insert rs r (length rs)) (ps ++ (k, v) ∷ [])
-ranked_added {m} rs ps r k v a gap = record {
-  counted = omega (arith, more, longer, a.counted);
-  within = λ s h. each_with rs r (length rs) gap.within (λ p. p < length qs) (λ s l. omega (arith, a.within s l, longer))
-      (omega (arith, a.counted, longer)) s (omega (arith, h, more));
-  ascending = λ s t l h. any_two rs r (length rs) gap.within (λ p q. key_cmp m (key_at qs p) (key_at qs q) ≡ Less)
-      (λ s t l h. both m (old s (omega arith)) (old t h) (a.ascending s t l h))
-      (λ s l. both m (old s (omega (arith, gap.within))) new (greater_less m k (key_of_rank rs ps s) (gap.above s l)))
-      (λ s l h. both m new (old s h) (gap.below s l h)) s t l (omega (arith, h, more));
-}
-  where
-    qs : Pairs
-    qs = ps ++ (k, v) ∷ []
-
-    more : length (insert rs r (length rs)) ≡ length rs + 1
-    more = length-insert rs r (length rs) gap.within
-
-    longer : length qs ≡ length ps + 1
-    longer = length-append ps ((k, v) ∷ [])
-
-    old : (s : ℕ) → s < length rs → key_at qs (get_or rs s 0) ≡ key_of_rank rs ps s
-    old s h = key_append_left ps ((k, v) ∷ []) (get_or rs s 0) (a.within s h)
-
-    new : key_at qs (length rs) ≡ k
-    new = key_append_end ps k v (length rs) a.counted
+ranked_added {m} rs ps r k v a gap =
+    let qs : Pairs = ps ++ (k, v) ∷ [] in
+    let more = length-insert rs r (length rs) gap.within in
+    let longer = length-append ps ((k, v) ∷ []) in
+    let old = λ (s : ℕ) (h : s < length rs). key_append_left ps ((k, v) ∷ []) (get_or rs s 0) (a.within s h) in
+    let new = key_append_end ps k v (length rs) a.counted in
+    record {
+      counted = omega (arith, a.counted);
+      within = λ s h. each_with rs r (length rs) gap.within (λ p. p < length qs) (λ s l. omega (arith, a.within s l)) (omega (arith, a.counted)) s (omega arith);
+      ascending = λ s t l h. any_two rs r (length rs) gap.within (λ p q. key_cmp m (key_at qs p) (key_at qs q) ≡ Less)
+          (λ s t l h. both m (old s (omega arith)) (old t h) (a.ascending s t l h))
+          (λ s l. both m (old s (omega (arith, gap.within))) new (greater_less m k (key_of_rank rs ps s) (gap.above s l)))
+          (λ s l h. both m new (old s h) (gap.below s l h)) s t l (omega arith);
+    }
 
 -- ---- a key that has a rank, and one that has none
 

@@ -16,26 +16,20 @@ pub sorted_next : (rs fs : List ℕ) (ps : Pairs) (r at : ℕ) → AreSorted rs 
     → ((s : ℕ) → s < at → digest (key_of_rank rs ps s) ≤ digest (key_of_rank fs ps r))
     → ((s : ℕ) → at ≤ s → s < length rs → digest (key_of_rank fs ps r) < digest (key_of_rank rs ps s))
     → AreSorted (insert rs at (get_or fs r 0)) fs ps (r + 1)
-sorted_next rs fs ps r at a ranked inside h low high = record {
-  counted = omega (arith, more, a.counted);
-  within = λ s l. each_with rs at x h (λ p. p < length ps) a.within (ranked.within r inside) s (omega (arith, l, more));
-  ascending = λ s t f l.
-      any_two rs at x h (λ p q. key_cmp digest (key_at ps p) (key_at ps q) ≡ Less) a.ascending below above s t f (omega (arith, l, more));
-  lower = λ t g l s f.
-      each_with rs at x h (λ p. tree_cmp (key_at ps p) (key_of_rank fs ps t) ≡ Less) (λ s e. a.lower t (omega arith) l s e) (later t g l) s (omega (arith, f, more));
-}
+sorted_next rs fs ps r at a ranked inside h low high =
+    let more = length-insert rs at x h in
+    record {
+      counted = omega (arith, a.counted);
+      within = λ s l. each_with rs at x h (λ p. p < length ps) a.within (ranked.within r inside) s (omega arith);
+      ascending = λ s t f l. any_two rs at x h (λ p q. key_cmp digest (key_at ps p) (key_at ps q) ≡ Less) a.ascending below
+          (λ s l g. lower_digest digest (key_at ps x) (key_of_rank rs ps s) (high s l g)) s t f (omega arith);
+      lower = λ t g l s f.
+          let later = sym (same_digest (λ k. 0) (key_at ps x) (key_of_rank fs ps t) refl) ∙ ranked.ascending r t (omega arith) l in
+          each_with rs at x h (λ p. tree_cmp (key_at ps p) (key_of_rank fs ps t) ≡ Less) (λ s e. a.lower t (omega arith) l s e) later s (omega arith);
+    }
   where
     x : ℕ
     x = get_or fs r 0
 
-    more : length (insert rs at x) ≡ length rs + 1
-    more = length-insert rs at x h
-
-    later : (t : ℕ) → r + 1 ≤ t → t < length fs → tree_cmp (key_at ps x) (key_of_rank fs ps t) ≡ Less
-    later t g l = sym (same_digest (λ k. 0) (key_at ps x) (key_of_rank fs ps t) refl) ∙ ranked.ascending r t (omega arith) l
-
     below : (s : ℕ) → s < at → key_cmp digest (key_of_rank rs ps s) (key_at ps x) ≡ Less
     below s l = grind (arith, x, lower_digest, same_digest, low, inside, h)
-
-    above : (s : ℕ) → at ≤ s → s < length rs → key_cmp digest (key_at ps x) (key_of_rank rs ps s) ≡ Less
-    above s l g = lower_digest digest (key_at ps x) (key_of_rank rs ps s) (high s l g)

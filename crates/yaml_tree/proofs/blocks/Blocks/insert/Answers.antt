@@ -13,10 +13,3 @@ returns-in_ok-push-clause-ok c =
     (c.in_ok-push.ensures {u = tt}).ok
     ∙ ap (λ es. insert es (length (joined bs)) c.args.entry) c.with_room.ensures.joined
     ∙ ap (λ r. insert (joined c.args.self.now) r c.args.entry) rank
-
-pub returns-in_ok-insert_inside-clause-ok : goal.returns-in_ok-insert_inside-clause-ok
-returns-in_ok-insert_inside-clause-ok c =
-    let e = c.in_ok-spot.ensures {u = tt} in
-    (c.in_ok-insert_inside.ensures {u = tt}).ok
-    ∙ ap (λ es. insert es (rank_of c.with_room.new.self c.in_ok-spot.spot) c.args.entry) c.with_room.ensures.joined
-    ∙ ap (λ r. insert (joined c.args.self.now) r c.args.entry) e.rank

@@ -8,11 +8,6 @@ loop-offset-init c = record {
   at = omega arith;
 }
 
-pub overflow_sub-offset : goal.overflow_sub-offset
-overflow_sub-offset c =
-    let inside = c.loop-offset.invariant.inside in
-    omega (arith, ap length (block_read c.self.view_is inside c.index.ensures), ap length (block_read c.self.view_is inside c.index-in-loop-offset.ensures))
-
 pub loop-offset-preserved : goal.loop-offset-preserved
 loop-offset-preserved c =
     let bs = c.args.self.now in
@@ -22,8 +17,3 @@ loop-offset-preserved c =
     let read = ap length (block_read c.self.view_is inside c.index-in-loop-offset.ensures) in
     let next = start_next bs i (i + 1) (omega arith) in
     record { inside = not_past bs (i + 1) (c.loop-offset.offset - c.len-offset.result) (omega (arith, c.requires.within)); at = omega arith }
-
-pub returns-clause-taken : goal.returns-clause-taken
-returns-clause-taken c =
-    let inside = c.loop-offset.invariant.inside in
-    (inside, omega (arith, ap length (block_read c.self.view_is inside c.index.ensures)))

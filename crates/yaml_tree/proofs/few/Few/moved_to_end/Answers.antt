@@ -2,12 +2,6 @@ use Rattle.yaml_tree.proofs.Common.{ap, arith, map, moved_up, nat_tests, ◌-◌
 use Rattle.yaml_tree.proofs.Packing.{packing_all, packing_more, packing_none}
 use Rattle.yaml_tree.proofs.few.Few.moved_to_end.Goals as goal
 
-pub loop-left-init : goal.loop-left-init
-loop-left-init c = record {
-  within = omega arith;
-  packing = packing_none (moved_up c.args.gone c.len-count.result) c.args.self.now c.len-count.result (omega (arith, c.len-count.ensures.count));
-}
-
 pub loop-left-preserved : goal.loop-left-preserved
 loop-left-preserved c =
     let i = c.loop-left.invariant in
@@ -18,14 +12,3 @@ loop-left-preserved c =
           (omega (arith, c.loop-left-test.true)) (omega (arith, c.loop-left-test.true, i.within, c.len-count.ensures.count))
           (omega (arith, c.len-count.ensures)) (c.moved_up.ensures ∙ ap (moved_up c.args.gone c.len-count.result) c.at.ensures.place) low;
     }
-
-pub invariant_of-result : goal.invariant_of-result
-invariant_of-result c =
-    (packing_all c.args.self.now c.loop-left.left c.loop-left.moved c.len-count.result c.loop-left.invariant.packing (omega (arith, c.loop-left-test.false))
-    c.len-count.ensures.count c.len-count.ensures.within).0
-
-pub returns : goal.returns
-returns c =
-    (packing_all c.args.self.now c.loop-left.left c.loop-left.moved c.len-count.result c.loop-left.invariant.packing (omega (arith, c.loop-left-test.false))
-    c.len-count.ensures.count c.len-count.ensures.within).1
-    ∙ ap (λ n. map (moved_up c.args.gone n) c.args.self.now) c.len-count.ensures.count

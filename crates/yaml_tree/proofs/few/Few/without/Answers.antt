@@ -17,15 +17,6 @@ module _ (xs : List ℕ) (rank left : ℕ) (some : 0 < left) (within : left ≤ 
       above : rank < left - 1 → get_or (remove xs rank) (left - 1 - 1) 0 ≡ get_or xs (left - 1) 0
       above h = get_or-remove_above xs rank 0 (left - 1 - 1) (omega arith) inside ∙ ap (λ i. get_or xs i 0) (omega arith)
 
-pub loop-left-init : goal.loop-left-init
-loop-left-init c =
-    let fewer = length-remove c.args.self.now c.args.rank c.requires in
-    record {
-      within = omega (arith, c.len-left.ensures.count);
-      packing = packing_none (closed_up c.at-gone.result) (remove c.args.self.now c.args.rank) (closed_up c.args.rank c.len-left.result)
-          (grind (arith, nat_tests, fewer, c.len-left.ensures.count));
-    }
-
 pub loop-left-preserved-then-left-rank : goal.loop-left-preserved-then-left-rank
 loop-left-preserved-then-left-rank c =
     let i = c.loop-left.invariant in
@@ -42,19 +33,6 @@ loop-left-preserved-then-left-rank c =
           (omega (arith, length-remove xs rank c.requires, c.len-left.ensures))
           (c.closed_up.ensures ∙ ap (closed_up c.at-gone.result) (c.at.ensures.place ∙ kept_place xs rank left some i.within c.requires other)) low;
     }
-
-pub loop-left-preserved : goal.loop-left-preserved
-loop-left-preserved c =
-    let i = c.loop-left.invariant in
-    let same : closed_up c.args.rank c.loop-left.left ≡ closed_up c.args.rank (c.loop-left.left - 1) =
-    grind (arith, nat_tests, c.if-left-rank.false, c.loop-left-test.true) in
-    record { within = omega (arith, i.within); packing = rw (← same) i.packing }
-
-pub invariant_of-result : goal.invariant_of-result
-invariant_of-result c =
-    (packing_all (remove c.args.self.now c.args.rank) (closed_up c.args.rank c.loop-left.left) c.loop-left.rest (c.len.result - 1) c.loop-left.invariant.packing
-    (grind (arith, nat_tests, c.loop-left-test.false)) (omega (arith, length-remove c.args.self.now c.args.rank c.requires, c.len.ensures.count))
-    (omega (arith, c.len.ensures.within))).0
 
 pub returns : goal.returns
 returns c =
