@@ -1,5 +1,5 @@
 -- The levels of a copy, from the outermost to the one that is filled.
-use Rattle.yaml_tree.proofs.Common.{[], ap, append_assoc, arith, IsFilled, items_nodes, items_of, items_view, Leads, left, lefts, List, nodes, parts, refl, source_tree, subst, sym, Tree, view, Yaml, ℕ, ◌*◌, ◌++◌, ◌+◌, ◌<◌, ◌∙◌, ◌∷◌, ◌≡◌, ◌≤◌}
+use Rattle.yaml_tree.proofs.Common.{[], ap, append_assoc, arith, IsFilled, items_nodes, items_of, items_view, Leads, left, lefts, List, nodes, parts, refl, source_tree, subst, sym, Tree, view, Yaml, ◌++◌, ◌+◌, ◌<◌, ◌∙◌, ◌∷◌, ◌≡◌}
 use Rattle.yaml_tree.specs.declared.copy.Level.{Level}
 use Rattle.yaml_tree.proofs.ItemsLemmas.{items_view_push}
 use Rattle.yaml_tree.proofs.WeightLemmas.{parts_nodes}

@@ -1,5 +1,5 @@
 -- Digests of keys: the ranks that they leave for a key, and how they stay those of their keys as pairs come and go.
-use Rattle.yaml_tree.proofs.Common.{[], ap, AreDigests, AreRanked, AreRising, arith, cases_lt, closed_up, digest, digest_at, digest_of_entry, digests, Entry, Few, first_by, get_or, Greater, HaveRising, inl, inr, insert, IsNarrowed, IsWindow, joined, Kept, key_at, key_cmp, key_of_rank, length, length-insert, length-map, length-remove, Less, List, Many, map, nat_tests, place_of_entry, places, remove, sym, Tree, tree_cmp, ℕ, ◌++◌, ◌+◌, ◌-◌, ◌<◌, ◌∙◌, ◌∷◌, ◌≡◌, ◌≤◌, ◌⊎◌}
+use Rattle.yaml_tree.proofs.Common.{[], ap, AreDigests, AreRanked, AreRising, arith, cases_lt, closed_up, digest, digest_at, digest_of_entry, digests, Entry, Few, first_by, get_or, Greater, HaveRising, inl, inr, insert, IsWindow, joined, Kept, key_at, key_cmp, key_of_rank, length, length-insert, length-map, Less, List, Many, map, nat_tests, place_of_entry, places, sym, Tree, tree_cmp, ℕ, ◌++◌, ◌+◌, ◌-◌, ◌<◌, ◌∙◌, ◌∷◌, ◌≡◌, ◌≤◌}
 use Rattle.yaml_tree.proofs.Indexed.{digest_mapped}
 use Rattle.yaml_tree.proofs.Ranking.{Pairs, key_append_left, key_append_end, above_up_to, below_from_on, inserted_at}
 

@@ -1,5 +1,5 @@
 -- What the first byte of a text tells of what it stands for.
-use Rattle.yaml_tree.proofs.TypingCommon.{[], arith, begins_in, begins_value, begins_word, Bool, codes, false, false_words, fits_i64, if◌then◌else◌, is_among, is_ascii_digit, is_decimal, is_decimal-read, is_digit, is_empty, is_point, is_sign, List, list_all, nat_tests, None, null_words, number, option_and_then, option_map, pos, refl, signed_number, Some, special_words, string, true, true_words, typing, ℕ, ◌==◌, ◌||◌, ◌∙◌, ◌∷◌, ◌≡◌}
+use Rattle.yaml_tree.proofs.TypingCommon.{[], arith, begins_in, begins_value, begins_word, Bool, codes, false, false_words, fits_i64, if◌then◌else◌, is_among, is_ascii_digit, is_decimal, is_decimal-read, is_digit, is_empty, is_point, is_sign, List, list_all, nat_tests, None, null_words, number, option_and_then, option_map, pos, refl, signed_number, Some, special_words, string, true, true_words, typing, ℕ, ◌||◌, ◌∙◌, ◌∷◌, ◌≡◌}
 use Rattle.yaml_tree.proofs.TypingLemmas.{by_table, not_after, not_among, table}
 
 pub unsigned : (c : ℕ) (cs : List ℕ) → is_sign c ≡ false

@@ -1,7 +1,7 @@
 -- A search by halves: half of what is left has fewer binary digits.
 use Rattle.std.specs.Prelude.{nat_lt}
 use Rattle.std.proofs.Math.Nat.{pow-suc}
-use Rattle.yaml_tree.proofs.IndexCommon.{ap, arith, binary_digits, Bool, cases_lt, false, inl, inr, IsHalving, ltb-false, ltb-true, suc, sym, true, zero, ℕ, ◌*◌, ◌+◌, ◌-◌, ◌/◌, ◌<◌, ◌^◌, ◌∙◌, ◌≡◌, ◌≤◌, ◌⊎◌}
+use Rattle.yaml_tree.proofs.IndexCommon.{ap, arith, binary_digits, Bool, cases_lt, false, inl, inr, IsHalving, ltb-false, ltb-true, sym, true, ℕ, ◌*◌, ◌+◌, ◌-◌, ◌/◌, ◌<◌, ◌^◌, ◌∙◌, ◌≡◌, ◌≤◌}
 use Rattle.defs_tree.proofs.DigitsLaws.{least_exponent}
 
 pub digits_rise : (m n : ℕ) → m ≤ n → binary_digits m ≤ binary_digits n

@@ -1,5 +1,5 @@
 -- A row beside its places and digests, after a change.
-use Rattle.yaml_tree.proofs.Common.{[], ap, AreDigests, AreDistinct, AreDistinct-with_value_at, AreDistinct-without, AreDistinct_insert, AreRanked, arith, closed_up, digest, digest_of_entry, digests, Few, first_by, flat, get_or, IsIndexed, IsRank, IsRankGap, items_view, joined, Kept, length, length-map, List, Many, map, moved_up, pairs_view, place_of_entry, places, refl, remove, set, subst, suc, sym, Tree, view, with_value_at, without, Yaml, zero, ℕ, ◌*◌, ◌++◌, ◌+◌, ◌<◌, ◌∙◌, ◌∷◌, ◌≡◌}
+use Rattle.yaml_tree.proofs.Common.{[], ap, AreDigests, AreDistinct, AreDistinct-with_value_at, AreDistinct-without, AreDistinct_insert, AreRanked, arith, closed_up, digests, first_by, flat, get_or, IsIndexed, IsRank, IsRankGap, items_view, Kept, length, length-map, List, map, moved_up, pairs_view, places, refl, remove, set, subst, sym, Tree, view, without, Yaml, ℕ, ◌*◌, ◌++◌, ◌+◌, ◌<◌, ◌∙◌, ◌∷◌, ◌≡◌}
 use Rattle.defs_tree.specs.Pairs.{insert as insert_pair}
 use Rattle.yaml_tree.specs.Seats.{IsInserted, IsReady, IsReadyWithout}
 use Rattle.yaml_tree.proofs.Flattened.{added, even_from, pairs_from, value_set}

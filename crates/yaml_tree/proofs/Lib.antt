@@ -1,3 +1,4 @@
+mod BlocksCommon
 mod Common
 pub mod Comparing
 pub mod Copied

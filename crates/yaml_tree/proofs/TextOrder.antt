@@ -1,7 +1,7 @@
 -- Texts compared by their bytes are compared by their characters.
 use Rattle.std.specs.Char.{encode_utf8}
 use Rattle.std.specs.Str.{chars}
-use Rattle.yaml_tree.proofs.Common.{[], ap, arith, encode_utf8_all, encodes-chars, Equal, Greater, inl, inr, IsUtf8, IsUtf8-string_bytes, Less, List, nat_cmp, nat_list_cmp_total, nat_tests, Ordering, ordering_reverse, ordering_then, refl, slice_cmp, String, string_bytes, string_chars, sym, ℕ, ◌%◌, ◌++◌, ◌+◌, ◌/◌, ◌<◌, ◌∙◌, ◌∷◌, ◌≡◌, ◌≤◌, ◌⊎◌}
+use Rattle.yaml_tree.proofs.Common.{[], ap, arith, encode_utf8_all, encodes-chars, Greater, IsUtf8, IsUtf8-string_bytes, Less, List, nat_cmp, nat_list_cmp_total, nat_tests, Ordering, ordering_reverse, ordering_then, refl, slice_cmp, String, string_bytes, string_chars, sym, ℕ, ◌%◌, ◌++◌, ◌+◌, ◌/◌, ◌<◌, ◌∙◌, ◌∷◌, ◌≡◌, ◌≤◌, ◌⊎◌}
 
 abbrev cmp : List ℕ → List ℕ → Ordering
 cmp = slice_cmp nat_cmp

@@ -1,7 +1,7 @@
 -- What a plain text stands for: the code's way of reading it.
 use Rattle.std.specs.Result.{result_ok}
 use Rattle.std.specs.Str.Pattern.{LacksTextAt, FindsTextPrefix, StripsPrefix}
-use Rattle.yaml_tree.proofs.TypingCommon.{[], after_prefix, ap, arith, Bool, boolean, bytes_eq-Decides, codes, Err, false, false_words, if◌then◌else◌, integer, is_among, is_decimal, is_decimal-read, List, list_all, nat_tests, None, null, null_words, Ok, Option, option_and_then, option_map, ParsesSigned, reads_decimal, real, refl, Result, signed_number, Some, special_words, string, sym, Tree, true, true_words, typing, unwrap_or, where_true, ℕ, ℤ, ◌++◌, ◌==◌, ◌∙◌, ◌∷◌, ◌≡◌, ◌≢◌}
+use Rattle.yaml_tree.proofs.TypingCommon.{[], after_prefix, ap, arith, Bool, boolean, bytes_eq-Decides, codes, Err, false, false_words, if◌then◌else◌, integer, is_among, is_decimal, is_decimal-read, List, list_all, nat_tests, None, null, null_words, Ok, Option, option_and_then, option_map, ParsesSigned, reads_decimal, real, refl, Result, signed_number, Some, special_words, string, sym, Tree, true, true_words, typing, unwrap_or, where_true, ℕ, ℤ, ◌++◌, ◌==◌, ◌∙◌, ◌∷◌, ◌≡◌}
 use mir.Syntax.{w64}
 use Rattle.defs_tree.proofs.Parsing as parsing
 

@@ -1,6 +1,4 @@
-use Rattle.yaml_tree.proofs.IndexCommon.{ap, digest_at, refl, ◌∙◌}
-use Rattle.yaml_tree.proofs.Halving.{middle, middle_within, search_after, search_before}
-use Rattle.yaml_tree.proofs.Joining.{block_read}
+use Rattle.yaml_tree.proofs.BlocksCommon.{ap, block_read, digest_at, middle_within, refl, search_after, search_before, ◌∙◌}
 use Rattle.yaml_tree.proofs.blocks.edge_of_heads.Goals as goal
 
 pub loop-low-preserved-then-is_below : goal.loop-low-preserved-then-is_below

@@ -1,9 +1,8 @@
-use Rattle.yaml_tree.proofs.Common.{ap, AreDigests, AreRanked, AreRising, arith, digest, digest_at, digest_of_entry, Entry, get_or, insert, key_at, key_of_rank, length, length-map, List, map, pairs_view, place_of_entry, subst, sym, ℕ, ◌+◌, ◌<◌, ◌∙◌, ◌≡◌, ◌≤◌}
+use Rattle.yaml_tree.proofs.Common.{ap, AreRising, arith, digest, digest_at, digest_of_entry, Entry, key_at, key_of_rank, length, length-map, map, pairs_view, place_of_entry, subst, sym, ◌<◌, ◌∙◌, ◌≡◌, ◌≤◌}
 use Rattle.yaml_tree.proofs.Indexed.{map-insert}
-use Rattle.yaml_tree.proofs.Ranking.{Pairs}
 use Rattle.yaml_tree.proofs.Rows.{ranked_at}
 use Rattle.yaml_tree.proofs.Digesting.{digested_key, digests_next, entries_rise}
-use Rattle.yaml_tree.proofs.Sorting.{AreSorted, sorted_next}
+use Rattle.yaml_tree.proofs.Sorting.{sorted_next}
 use Rattle.yaml_tree.proofs.ranks.by_digests.Goals as goal
 
 pub bounds-row-place : goal.bounds-row-place

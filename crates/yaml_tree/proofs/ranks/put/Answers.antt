@@ -1,4 +1,4 @@
-use Rattle.yaml_tree.proofs.Common.{arith, digest_of_entry, digests_in, Entry, joined, length, length-map, map, pairs_view, place_of_entry, places_in, rank_of, rank_within, rules, view, ◌/◌, ◌≡◌}
+use Rattle.yaml_tree.proofs.Common.{arith, digest_of_entry, digests_in, Entry, joined, length, length-map, pairs_view, place_of_entry, places_in, rank_of, rank_within, rules, view, ◌/◌, ◌≡◌}
 use Rattle.yaml_tree.proofs.Rows.{row_counted}
 use Rattle.yaml_tree.proofs.Indexed.{map-insert}
 use Rattle.yaml_tree.proofs.Digesting.{digested_added}

@@ -1,4 +1,4 @@
-use Rattle.yaml_tree.proofs.Common.{ap, arith, length, pairs_view, places, probed, rank_at, refl, rules, sym, tree_cmp, tree_tied, ◌*◌, ◌+◌, ◌-◌, ◌/◌, ◌<◌, ◌^◌, ◌∙◌, ◌≡◌}
+use Rattle.yaml_tree.proofs.Common.{ap, arith, length, pairs_view, places, probed, rank_at, refl, sym, tree_cmp, tree_tied, ◌+◌, ◌-◌, ◌/◌, ◌∙◌}
 use Rattle.yaml_tree.proofs.Halving.{counting_more, digits_rise}
 use Rattle.yaml_tree.proofs.Indexed.{next_spot, next_rank, place_inside}
 use Rattle.yaml_tree.proofs.Digesting.{kept_digests_rise, left_after, left_before, window_leaves}

@@ -1,5 +1,4 @@
-use Rattle.yaml_tree.proofs.IndexCommon.{AreStarts, arith, get_or_read, length, subst, suc, sym, ◌-◌, ◌≡◌}
-use Rattle.yaml_tree.proofs.Starting.{starts_some, starts_pushed}
+use Rattle.yaml_tree.proofs.BlocksCommon.{AreStarts, arith, get_or_read, length, starts_pushed, starts_some, subst, suc, sym, ◌-◌, ◌≡◌}
 use Rattle.yaml_tree.proofs.starts.grow.Goals as goal
 
 pub returns-in_ok-push-clause-same : goal.returns-in_ok-push-clause-same

@@ -1,5 +1,4 @@
-use Rattle.yaml_tree.proofs.Halving.{middle, middle_within, search_after, search_before}
-use Rattle.yaml_tree.proofs.Joining.{number_got}
+use Rattle.yaml_tree.proofs.BlocksCommon.{middle, middle_within, number_got, search_after, search_before}
 use Rattle.yaml_tree.proofs.block.Block.edge.Goals as goal
 
 pub loop-low-preserved-then-is_below : goal.loop-low-preserved-then-is_below

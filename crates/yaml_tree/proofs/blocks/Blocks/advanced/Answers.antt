@@ -1,6 +1,4 @@
-use Rattle.yaml_tree.proofs.IndexCommon.{ap, arith, get_or, joined, length, start, ◌*◌, ◌+◌, ◌-◌, ◌≤◌}
-use Rattle.yaml_tree.proofs.Joining.{block_read, not_past}
-use Rattle.yaml_tree.proofs.Starting.{starts_some, starts_all}
+use Rattle.yaml_tree.proofs.BlocksCommon.{ap, arith, block_read, get_or, joined, length, not_past, start, starts_all, starts_some, ◌*◌, ◌+◌, ◌-◌, ◌≤◌}
 use Rattle.yaml_tree.proofs.blocks.Blocks.advanced.Goals as goal
 
 pub index-requires : goal.index-requires

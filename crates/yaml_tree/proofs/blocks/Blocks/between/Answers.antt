@@ -1,5 +1,4 @@
-use Rattle.yaml_tree.proofs.IndexCommon.{arith, rules, ◌+◌, ◌<◌, ◌^◌}
-use Rattle.yaml_tree.proofs.Joining.{rank_within}
+use Rattle.yaml_tree.proofs.BlocksCommon.{arith, rank_within}
 use Rattle.yaml_tree.proofs.blocks.Blocks.between.Goals as goal
 
 pub overflow_add-before : goal.overflow_add-before

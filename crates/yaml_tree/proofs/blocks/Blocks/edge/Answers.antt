@@ -1,6 +1,4 @@
-use Rattle.yaml_tree.proofs.IndexCommon.{[], ap, AreFilled, arith, digest_at, get_or, IsEdge, joined, length, rules, subst, suc, ◌+◌, ◌-◌, ◌<◌, ◌∙◌, ◌≡◌, ◌≤◌}
-use Rattle.yaml_tree.proofs.Halving.{digits_rise, digits_shared}
-use Rattle.yaml_tree.proofs.Joining.{edge_first, edge_joined, block_read, filled_beside, filled_counted}
+use Rattle.yaml_tree.proofs.BlocksCommon.{ap, AreFilled, arith, block_read, digest_at, digits_rise, digits_shared, edge_first, edge_joined, filled_beside, filled_counted, IsEdge, joined, length, rules, subst, suc, ◌+◌, ◌-◌, ◌<◌, ◌∙◌, ◌≡◌, ◌≤◌}
 use Rattle.yaml_tree.proofs.blocks.Blocks.edge.Goals as goal
 
 pub returns-in-Some : goal.returns-in-Some

@@ -1,5 +1,4 @@
-use Rattle.yaml_tree.proofs.IndexCommon.{ap, AreFilled, arith, digest_at, joined, length, ltb-true, rules, start, subst, suc, sym, ◌+◌, ◌-◌, ◌<◌, ◌∙◌, ◌≡◌}
-use Rattle.yaml_tree.proofs.Joining.{block_read, last_block, spot_digest}
+use Rattle.yaml_tree.proofs.BlocksCommon.{ap, AreFilled, arith, block_read, digest_at, joined, last_block, length, ltb-true, rules, spot_digest, start, subst, suc, sym, ◌+◌, ◌-◌, ◌<◌, ◌∙◌, ◌≡◌}
 use Rattle.yaml_tree.proofs.blocks.Blocks.end_below.Goals as goal
 
 pub returns-then-is_below : goal.returns-then-is_below

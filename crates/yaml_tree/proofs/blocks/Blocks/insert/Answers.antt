@@ -1,5 +1,4 @@
-use Rattle.yaml_tree.proofs.IndexCommon.{[], ap, arith, get_or, get_or_past, insert, joined, length, rank_of, ◌∙◌, ◌≡◌}
-use Rattle.yaml_tree.proofs.Joining.{start_all}
+use Rattle.yaml_tree.proofs.BlocksCommon.{[], ap, arith, get_or, get_or_past, insert, joined, length, rank_of, start_all, ◌∙◌, ◌≡◌}
 use Rattle.yaml_tree.proofs.blocks.Blocks.insert.Goals as goal
 
 pub returns-in_ok-push-clause-ok : goal.returns-in_ok-push-clause-ok

@@ -1,6 +1,4 @@
-use Rattle.yaml_tree.proofs.IndexCommon.{[], ap, arith, get_or, insert, joined, length, refl, ◌<◌, ◌∙◌}
-use Rattle.yaml_tree.proofs.Joining.{block_read, lent_back, joined_insert}
-use Rattle.yaml_tree.proofs.Starting.{can_rise, counted_inserted}
+use Rattle.yaml_tree.proofs.BlocksCommon.{[], ap, arith, block_read, can_rise, counted_inserted, get_or, insert, joined, joined_insert, length, lent_back, refl, ◌<◌, ◌∙◌}
 use Rattle.yaml_tree.proofs.blocks.Blocks.insert_inside.Goals as goal
 
 pub raise-requires : goal.raise-requires

@@ -1,5 +1,4 @@
-use Rattle.yaml_tree.proofs.IndexCommon.{ap, arith, joined, length, nat_tests, ◌<◌, ◌^◌, ◌≡◌}
-use Rattle.yaml_tree.proofs.Starting.{last_counts}
+use Rattle.yaml_tree.proofs.BlocksCommon.{ap, arith, joined, last_counts, length, nat_tests, ◌<◌, ◌^◌}
 use Rattle.yaml_tree.proofs.blocks.Blocks.is_full.Goals as goal
 
 pub returns : goal.returns

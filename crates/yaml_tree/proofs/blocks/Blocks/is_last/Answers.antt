@@ -1,5 +1,4 @@
-use Rattle.yaml_tree.proofs.IndexCommon.{[], ap, arith, get_or, length, ◌<◌}
-use Rattle.yaml_tree.proofs.Joining.{block_read, rank_inside}
+use Rattle.yaml_tree.proofs.BlocksCommon.{ap, arith, block_read, length, rank_inside, ◌<◌}
 use Rattle.yaml_tree.proofs.blocks.Blocks.is_last.Goals as goal
 
 pub returns-clause-taken : goal.returns-clause-taken

@@ -1,5 +1,4 @@
-use Rattle.yaml_tree.proofs.IndexCommon.{ap, AreFilled, arith, length, nat_tests, rules, subst, suc, ◌+◌, ◌<◌, ◌≡◌}
-use Rattle.yaml_tree.proofs.Joining.{block_read, last_block, next_digest, spot_digest, start_all}
+use Rattle.yaml_tree.proofs.BlocksCommon.{ap, AreFilled, arith, block_read, last_block, length, nat_tests, next_digest, rules, spot_digest, start_all, subst, suc, ◌+◌, ◌<◌, ◌≡◌}
 use Rattle.yaml_tree.proofs.blocks.Blocks.is_past.Goals as goal
 
 pub returns-then-len-spot-clause-past : goal.returns-then-len-spot-clause-past

@@ -1,6 +1,4 @@
-use Rattle.yaml_tree.proofs.IndexCommon.{entry_moved_up, map, map_over_more}
-use Rattle.yaml_tree.proofs.Joining.{all_lent, joined_map}
-use Rattle.yaml_tree.proofs.Starting.{counted_map}
+use Rattle.yaml_tree.proofs.BlocksCommon.{all_lent, counted_map, entry_moved_up, joined_map, map, map_over_more}
 use Rattle.yaml_tree.proofs.blocks.Blocks.move_up.Goals as goal
 
 pub loop-block-preserved : goal.loop-block-preserved

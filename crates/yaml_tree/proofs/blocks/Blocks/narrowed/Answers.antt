@@ -1,5 +1,4 @@
-use Rattle.yaml_tree.proofs.IndexCommon.{ap, AreFilled, arith, joined, length, nat_tests, rank_of, refl, rules, subst, ◌+◌, ◌<◌}
-use Rattle.yaml_tree.proofs.Joining.{edges_rise, edges_narrow, edge_past, filled_digits}
+use Rattle.yaml_tree.proofs.BlocksCommon.{arith, edge_past, edges_narrow, edges_rise, filled_digits, joined, length, nat_tests, rank_of, refl, ◌+◌, ◌<◌}
 use Rattle.yaml_tree.proofs.blocks.Blocks.narrowed.Goals as goal
 
 pub returns-then-is_past-clause-narrowed : goal.returns-then-is_past-clause-narrowed

@@ -1,6 +1,4 @@
-use Rattle.yaml_tree.proofs.IndexCommon.{ap, arith, joined, length, refl, ◌∙◌, ◌≡◌}
-use Rattle.yaml_tree.proofs.Joining.{lent_back, joined_push}
-use Rattle.yaml_tree.proofs.Starting.{can_rise, counted_pushed}
+use Rattle.yaml_tree.proofs.BlocksCommon.{ap, arith, can_rise, counted_pushed, joined, joined_push, length, lent_back, refl, ◌∙◌, ◌≡◌}
 use Rattle.yaml_tree.proofs.blocks.Blocks.push.Goals as goal
 
 pub raise-requires : goal.raise-requires

@@ -1,6 +1,4 @@
-use Rattle.yaml_tree.proofs.IndexCommon.{ap, entry_closed_up, joined, map, map_over_more, rank_of, remove, ◌∙◌}
-use Rattle.yaml_tree.proofs.Joining.{all_lent, joined_map}
-use Rattle.yaml_tree.proofs.Starting.{counted_map}
+use Rattle.yaml_tree.proofs.BlocksCommon.{all_lent, ap, counted_map, entry_closed_up, joined, joined_map, map, map_over_more, rank_of, remove, ◌∙◌}
 use Rattle.yaml_tree.proofs.blocks.Blocks.remove.Goals as goal
 
 pub loop-block-preserved : goal.loop-block-preserved

@@ -1,6 +1,4 @@
-use Rattle.yaml_tree.proofs.IndexCommon.{[], ap, AreCounted, arith, get_or, head_length, length, refl, subst, sym, ◌<◌, ◌∙◌}
-use Rattle.yaml_tree.proofs.Joining.{lent_back, joined_without}
-use Rattle.yaml_tree.proofs.Starting.{start_head, can_fall, counted_without}
+use Rattle.yaml_tree.proofs.BlocksCommon.{[], ap, AreCounted, arith, can_fall, counted_without, get_or, joined_without, length, lent_back, refl, start_head, subst, sym, ◌<◌, ◌∙◌}
 use Rattle.yaml_tree.proofs.blocks.Blocks.remove_block.Goals as goal
 
 pub add_blocks-requires : goal.add_blocks-requires

@@ -1,6 +1,4 @@
-use Rattle.yaml_tree.proofs.IndexCommon.{[], ap, arith, get_or, length, refl, remove, ◌<◌, ◌∙◌}
-use Rattle.yaml_tree.proofs.Joining.{block_read, lent_back, joined_remove}
-use Rattle.yaml_tree.proofs.Starting.{can_fall, counted_removed}
+use Rattle.yaml_tree.proofs.BlocksCommon.{[], ap, arith, block_read, can_fall, counted_removed, get_or, joined_remove, length, lent_back, refl, remove, ◌<◌, ◌∙◌}
 use Rattle.yaml_tree.proofs.blocks.Blocks.remove_inside.Goals as goal
 
 pub lower-requires : goal.lower-requires

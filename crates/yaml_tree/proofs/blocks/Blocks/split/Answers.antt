@@ -1,6 +1,4 @@
-use Rattle.yaml_tree.proofs.IndexCommon.{[], ap, arith, drop, get_or, halved, insert, joined, length, ◌+◌, ◌<◌, ◌∙◌, refl}
-use Rattle.yaml_tree.proofs.Joining.{block_read, lent_back, joined_halved, halved_made}
-use Rattle.yaml_tree.proofs.Starting.{can_subtract, counted_halved}
+use Rattle.yaml_tree.proofs.BlocksCommon.{[], ap, arith, block_read, can_subtract, counted_halved, drop, get_or, halved, halved_made, insert, joined, joined_halved, length, lent_back, refl, ◌+◌, ◌<◌, ◌∙◌}
 use Rattle.yaml_tree.proofs.blocks.Blocks.split.Goals as goal
 
 pub subtract_blocks-requires : goal.subtract_blocks-requires

@@ -1,5 +1,4 @@
-use Rattle.yaml_tree.proofs.IndexCommon.{ap, arith, joined, length, rules, ◌+◌, ◌<◌, ◌^◌}
-use Rattle.yaml_tree.proofs.Joining.{block_read, start_next, start_within}
+use Rattle.yaml_tree.proofs.BlocksCommon.{ap, arith, block_read, length, start_next, start_within, ◌+◌, ◌<◌}
 use Rattle.yaml_tree.proofs.blocks.Blocks.start.Goals as goal
 
 pub overflow_add-count : goal.overflow_add-count

@@ -1,5 +1,4 @@
-use Rattle.yaml_tree.proofs.IndexCommon.{ap, arith, length, ◌+◌, ◌-◌, ◌<◌}
-use Rattle.yaml_tree.proofs.Joining.{block_read, start_next, not_past}
+use Rattle.yaml_tree.proofs.BlocksCommon.{ap, arith, block_read, length, not_past, start_next, ◌+◌, ◌-◌}
 use Rattle.yaml_tree.proofs.blocks.Blocks.walked.Goals as goal
 
 pub loop-offset-init : goal.loop-offset-init

@@ -1,5 +1,4 @@
-use Rattle.yaml_tree.proofs.IndexCommon.{ap, arith, length, start, ◌+◌, ◌/◌, ◌<◌}
-use Rattle.yaml_tree.proofs.Joining.{block_read, start_halved, start_next, start_second}
+use Rattle.yaml_tree.proofs.BlocksCommon.{ap, arith, block_read, length, start, start_halved, start_next, start_second, ◌+◌, ◌/◌, ◌<◌}
 use Rattle.yaml_tree.proofs.blocks.Blocks.with_room.Goals as goal
 
 pub returns-then-spot-len-2-clause-rank : goal.returns-then-spot-len-2-clause-rank

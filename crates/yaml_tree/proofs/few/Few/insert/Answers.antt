@@ -1,4 +1,4 @@
-use Rattle.yaml_tree.proofs.Common.{ap, arith, insert, ◌∙◌}
+use Rattle.yaml_tree.proofs.Common.{arith}
 use Rattle.yaml_tree.proofs.Packing.{is_with}
 use Rattle.yaml_tree.proofs.few.Few.insert.Goals as goal
 

@@ -1,5 +1,5 @@
-use Rattle.yaml_tree.proofs.Common.{ap, arith, map, moved_up, nat_tests, ◌-◌, ◌<◌, ◌∙◌}
-use Rattle.yaml_tree.proofs.Packing.{packing_all, packing_more, packing_none}
+use Rattle.yaml_tree.proofs.Common.{ap, arith, moved_up, nat_tests, ◌-◌, ◌<◌, ◌∙◌}
+use Rattle.yaml_tree.proofs.Packing.{packing_more}
 use Rattle.yaml_tree.proofs.few.Few.moved_to_end.Goals as goal
 
 pub loop-left-preserved : goal.loop-left-preserved

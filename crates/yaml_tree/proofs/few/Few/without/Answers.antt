@@ -1,5 +1,5 @@
-use Rattle.yaml_tree.proofs.Common.{ap, arith, closed_up, drop, get_or, get_or-remove_above, get_or-remove_below, length, length-remove, List, map, nat_tests, remove, subst, suc, ℕ, ◌-◌, ◌<◌, ◌∙◌, ◌≡◌, ◌≢◌, ◌≤◌}
-use Rattle.yaml_tree.proofs.Packing.{IsPacking, packing_all, packing_more, packing_none}
+use Rattle.yaml_tree.proofs.Common.{ap, arith, closed_up, get_or, get_or-remove_above, get_or-remove_below, length, length-remove, List, map, nat_tests, remove, suc, ℕ, ◌-◌, ◌<◌, ◌∙◌, ◌≡◌, ◌≢◌, ◌≤◌}
+use Rattle.yaml_tree.proofs.Packing.{packing_all, packing_more}
 use Rattle.yaml_tree.proofs.few.Few.without.Goals as goal
 
 -- the next place that is kept stands one before

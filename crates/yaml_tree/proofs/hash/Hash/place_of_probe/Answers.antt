@@ -1,4 +1,4 @@
-use Rattle.yaml_tree.proofs.Common.{AreDistinct, probed, rank_at, subst}
+use Rattle.yaml_tree.proofs.Common.{probed, rank_at}
 use Rattle.yaml_tree.proofs.Rows.{ranked_place, gap_place}
 use Rattle.yaml_tree.proofs.hash.Hash.place_of_probe.Goals as goal
 

@@ -1,4 +1,4 @@
-use Rattle.yaml_tree.proofs.Common.{pairs_view, rank_at, refl, rules, sym, view, without}
+use Rattle.yaml_tree.proofs.Common.{pairs_view, rank_at, sym, view, without}
 use Rattle.yaml_tree.proofs.Flattened.{pairs_from}
 use Rattle.yaml_tree.proofs.Keeping.{indexed_without}
 use Rattle.yaml_tree.proofs.Rows.{gap_absent, ranked_found}

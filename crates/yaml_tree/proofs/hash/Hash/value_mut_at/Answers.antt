@@ -1,4 +1,4 @@
-use Rattle.yaml_tree.proofs.Common.{ap, arith, flat, length, refl, rules, vec_len, view, with_value_at, ◌*◌, ◌+◌, ◌<◌, ◌∙◌}
+use Rattle.yaml_tree.proofs.Common.{ap, arith, flat, length, refl, view, with_value_at, ◌∙◌}
 use Rattle.yaml_tree.proofs.Flattened.{pairs_from, value_seen, value_set}
 use Rattle.yaml_tree.proofs.Keeping.{indexed_value}
 use Rattle.yaml_tree.proofs.Rows.{row_counted}

@@ -1,4 +1,4 @@
-use Rattle.yaml_tree.proofs.Common.{absent, arith, probed, rules, sym, vec_len, ◌*◌, ◌+◌, ◌<◌}
+use Rattle.yaml_tree.proofs.Common.{absent, arith, probed, sym}
 use Rattle.yaml_tree.proofs.Rows.{placed}
 use Rattle.yaml_tree.proofs.hash.Hash.value_of_probe.Goals as goal
 
