@@ -5,7 +5,6 @@ pub mod Copied
 pub mod DecimalLemmas
 pub mod Digesting
 pub mod Discarding
-pub mod Fed
 pub mod FirstByte
 pub mod Flattened
 pub mod Halving

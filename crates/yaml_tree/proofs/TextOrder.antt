@@ -43,10 +43,10 @@ within_four c d r t h =
     step (back (c / 64)) (back (d / 64)) (back c ∷ r) (back d ∷ t) (omega arith) (λ g. first_less (back c) (back d) r t (omega arith))))
 
 encode_less : (c d : ℕ) (r t : List ℕ) → c < d → cmp (encode_utf8 c ++ r) (encode_utf8 d ++ t) ≡ Less
-encode_less c d r t h = by (bytes_of c) (bytes_of d)
-  where
-    by : AreBytes c (encode_utf8 c) → AreBytes d (encode_utf8 d) → cmp (encode_utf8 c ++ r) (encode_utf8 d ++ t) ≡ Less
-    by a b = grind (arith, first_less, t, h, back, within_two, within_three, within_four)
+encode_less c d r t h =
+    let a = bytes_of c in
+    let b = bytes_of d in
+    grind (arith, first_less, t, h, back, within_two, within_three, within_four)
 
 encode_greater : (c d : ℕ) (r t : List ℕ) → d < c → cmp (encode_utf8 c ++ r) (encode_utf8 d ++ t) ≡ Greater
 encode_greater c d r t h = nat_list_cmp_total.antisymm (encode_utf8 c ++ r) (encode_utf8 d ++ t) ∙ ap ordering_reverse (encode_less d c t r h)
@@ -63,10 +63,7 @@ encode_cmp c d r t = grind (arith, nat_tests, encode_greater, encode_less, same)
     same e = ap (λ x. cmp (encode_utf8 x ++ r) (encode_utf8 d ++ t)) e ∙ alike (encode_utf8 d) r t
 
 before_any : (c : ℕ) (r : List ℕ) → cmp [] (encode_utf8 c ++ r) ≡ Less
-before_any c r = by (bytes_of c)
-  where
-    by : AreBytes c (encode_utf8 c) → cmp [] (encode_utf8 c ++ r) ≡ Less
-    by a = grind arith
+before_any c r = let a = bytes_of c in grind arith
 
 encoded_cmp : (cs ds : List ℕ) → cmp (encode_utf8_all cs) (encode_utf8_all ds) ≡ cmp cs ds
 encoded_cmp [] [] = refl
