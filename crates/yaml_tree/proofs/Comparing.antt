@@ -32,8 +32,3 @@ slice_cmp-map R f (x ∷ xs) ys = grind (arith, slice_cmp-map R f xs)
 -- an answer that is not `Equal` ends the comparison
 pub stops : (o r p q : Ordering) → (o ≡ Equal → ⊥) → o ≡ r → q ≡ ordering_then r p → o ≡ q
 stops a r p q n e f = grind arith
-
--- the trees of two rows of nodes
-pub nodes_seen : (xs ys cs ds : List Yaml) (us vs : List Tree) → xs ≡ cs → ys ≡ ds → items_view cs ≡ us → items_view ds ≡ vs
-    → list_cmp (items_view xs) (items_view ys) ≡ list_cmp us vs
-nodes_seen xs ys cs ds us vs p q d e = rw (p, q, d, e)

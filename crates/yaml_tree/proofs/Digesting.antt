@@ -1,7 +1,7 @@
 -- Digests of keys: the ranks that they leave for a key, and how they stay those of their keys as pairs come and go.
-use Rattle.yaml_tree.proofs.Common.{[], ap, AreDigests, AreRanked, AreRising, arith, cases_lt, closed_up, digest, digest_at, digest_of_entry, digests, Entry, Few, first_by, get_or, Greater, HaveRising, inl, inr, insert, IsWindow, joined, Kept, key_at, key_cmp, key_of_rank, length, length-insert, length-map, Less, List, Many, map, nat_tests, place_of_entry, places, sym, Tree, tree_cmp, ℕ, ◌++◌, ◌+◌, ◌-◌, ◌<◌, ◌∙◌, ◌∷◌, ◌≡◌, ◌≤◌}
-use Rattle.yaml_tree.proofs.Indexed.{digest_mapped}
-use Rattle.yaml_tree.proofs.Ranking.{Pairs, key_append_left, key_append_end, above_up_to, below_from_on, inserted_at}
+use Rattle.yaml_tree.proofs.Common.{[], ap, AreDigests, AreRanked, AreRising, arith, cases_lt, closed_up, digest, digest_at, digest_of_entry, digests, Entry, Few, first_by, get_or, Greater, HaveRising, inl, inr, insert, IsWindow, joined, Kept, key_at, key_cmp, key_of_rank, length, length-insert, length-map, Less, List, Many, map, nat_tests, place_of_entry, places, refl, sym, Tree, tree_cmp, ◌++◌, ◌+◌, ◌-◌, ◌<◌, ◌∙◌, ◌∷◌, ◌≡◌, ◌≤◌, ℕ}
+use Rattle.yaml_tree.proofs.Indexed.{number_mapped}
+use Rattle.yaml_tree.proofs.Ranking.{above_up_to, any_two, below_from_on, each_with, inserted_at, key_append_end, key_append_left, Pairs}
 
 -- ---- keys by their numbers
 
@@ -22,7 +22,7 @@ module _ (m : Tree → ℕ) (s t : Tree) where
 
 module _ (es : List Entry) (ps : Pairs) (digested : AreDigests (map digest_of_entry es) (map place_of_entry es) ps) where
   pub digested_key : (r : ℕ) → r < length es → digest_at es r ≡ digest (key_of_rank (map place_of_entry es) ps r)
-  digested_key r h = sym (digest_mapped es r) ∙ digested r (omega (arith, length-map es digest_of_entry))
+  digested_key r h = sym (number_mapped digest_of_entry es r) ∙ digested r (omega (arith, length-map es digest_of_entry))
 
   pub entries_rise : ((i j : ℕ) → i < j → j < length (map place_of_entry es)
       → key_cmp digest (key_of_rank (map place_of_entry es) ps i) (key_of_rank (map place_of_entry es) ps j) ≡ Less) → AreRising es
@@ -103,3 +103,34 @@ digested_added ms rs ps r m k v l h n within digested its =
     digests_next ms rs (ps ++ (k, v) ∷ []) r m (length rs) l h
     (λ s g. digested s g ∙ sym (ap digest (key_append_left ps ((k, v) ∷ []) (get_or rs s 0) (within s (omega arith)))))
     (its ∙ sym (ap digest (key_append_end ps k v (length rs) n)))
+
+-- ---- the pairs of a short hash, put one by one in the order of their digests
+
+-- Ranks by digest, of the places that have the first r ranks by the order of trees alone.
+pub record AreSorted (rs fs : List ℕ) (ps : Pairs) (r : ℕ) : Type 0 where
+  pub counted : length rs ≡ r
+  pub within : (s : ℕ) → s < length rs → get_or rs s 0 < length ps
+  pub ascending : (s t : ℕ) → s < t → t < length rs → key_cmp digest (key_of_rank rs ps s) (key_of_rank rs ps t) ≡ Less
+  pub lower : (t : ℕ) → r ≤ t → t < length fs → (s : ℕ) → s < length rs → tree_cmp (key_of_rank rs ps s) (key_of_rank fs ps t) ≡ Less
+
+pub sorted_next : (rs fs : List ℕ) (ps : Pairs) (r at : ℕ) → AreSorted rs fs ps r → AreRanked (λ k. 0) fs ps → r < length fs → at ≤ length rs
+    → ((s : ℕ) → s < at → digest (key_of_rank rs ps s) ≤ digest (key_of_rank fs ps r))
+    → ((s : ℕ) → at ≤ s → s < length rs → digest (key_of_rank fs ps r) < digest (key_of_rank rs ps s))
+    → AreSorted (insert rs at (get_or fs r 0)) fs ps (r + 1)
+sorted_next rs fs ps r at a ranked inside h low high =
+    let more = length-insert rs at x h in
+    record {
+      counted = omega (arith, a.counted);
+      within = λ s l. each_with rs at x h (λ p. p < length ps) a.within (ranked.within r inside) s (omega arith);
+      ascending = λ s t f l. any_two rs at x h (λ p q. key_cmp digest (key_at ps p) (key_at ps q) ≡ Less) a.ascending below
+          (λ s l g. lower_digest digest (key_at ps x) (key_of_rank rs ps s) (high s l g)) s t f (omega arith);
+      lower = λ t g l s f.
+          let later = sym (same_digest (λ k. 0) (key_at ps x) (key_of_rank fs ps t) refl) ∙ ranked.ascending r t (omega arith) l in
+          each_with rs at x h (λ p. tree_cmp (key_at ps p) (key_of_rank fs ps t) ≡ Less) (λ s e. a.lower t (omega arith) l s e) later s (omega arith);
+    }
+  where
+    x : ℕ
+    x = get_or fs r 0
+
+    below : (s : ℕ) → s < at → key_cmp digest (key_of_rank rs ps s) (key_at ps x) ≡ Less
+    below s l = grind (arith, x, lower_digest, same_digest, low, inside, h)

@@ -2,15 +2,12 @@
 use Rattle.std.proofs.Common.{take}
 use Rattle.std.proofs.lemmas.List.{drop-map, map-append, take-map}
 use Rattle.yaml_tree.proofs.Common.{[], arith, digest_at, digest_of_entry, digests, drop, Entry, Few, get_or, HasPlace, HasSpot, insert, joined, Kept, length, length-map, List, Many, map, place_at, place_of_entry, places, rank_at, rank_inside, refl, remove, suc, ℕ, ◌+◌, ◌<◌, ◌∷◌, ◌≡◌, ◌≤◌}
+use Rattle.yaml_tree.specs.Edges.{number_at}
 use Rattle.yaml_tree.specs.declared.entry.Spot.{Spot}
 
-pub digest_mapped : (es : List Entry) (i : ℕ) → get_or (map digest_of_entry es) i 0 ≡ digest_at es i
-digest_mapped [] i = refl
-digest_mapped (e ∷ es) i = grind (arith, digest_mapped es)
-
-pub place_mapped : (es : List Entry) (i : ℕ) → place_at es i ≡ get_or (map place_of_entry es) i 0
-place_mapped [] i = refl
-place_mapped (e ∷ es) i = grind (arith, place_mapped es)
+pub number_mapped : (f : Entry → ℕ) (es : List Entry) (i : ℕ) → get_or (map f es) i 0 ≡ number_at f es i
+number_mapped f [] i = refl
+number_mapped f (e ∷ es) i = grind (arith, number_mapped f es)
 
 pub digests_counted : (k : Kept) → length (digests k) ≤ length (places k)
 digests_counted (Few ps) = omega arith

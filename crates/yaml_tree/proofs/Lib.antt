@@ -18,7 +18,6 @@ pub mod Packing
 pub mod Placed
 pub mod Ranking
 pub mod Rows
-pub mod Sorting
 pub mod Starting
 pub mod TableByFirst
 pub mod TextLemmas

@@ -54,9 +54,6 @@ length-with_value : (ps : Pairs) (i : ℕ) (t : Tree) → length (with_value_at 
 length-with_value [] i t = refl
 length-with_value (p ∷ ps) i t = grind (arith, length-with_value ps)
 
-sides : (q p : ℕ) → (q < p) ⊎ ((q ≡ p) ⊎ (p < q))
-sides q p = grind arith
-
 closed_key : (ps : Pairs) (p q : ℕ) → q ≢ p → key_at (remove ps p) (closed_up p q) ≡ key_at ps q
 closed_key ps p q n = grind (arith, nat_tests, key_remove_below, after)
   where
@@ -107,7 +104,7 @@ module _ {m : Tree → ℕ} (rs : List ℕ) (ps : Pairs) (a : AreRanked m rs ps)
       cc
 
   other_place : (r s : ℕ) → r < length rs → s < length rs → s ≢ r → get_or rs s 0 ≢ get_or rs r 0
-  other_place r s h g n = grind (arith, sides, rising_apart)
+  other_place r s h g n = grind (arith, cases_lt, rising_apart)
 
   -- a key above that of a rank is above all before; one below it is below all beyond
   pub above_up_to : (k : Tree) (l : ℕ) → l < length rs → key_cmp m k (key_of_rank rs ps l) ≡ Greater → (s : ℕ) → s < l + 1 → key_cmp m k (key_of_rank rs ps s) ≡ Greater

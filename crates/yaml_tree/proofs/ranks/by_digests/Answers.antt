@@ -1,8 +1,7 @@
 use Rattle.yaml_tree.proofs.Common.{ap, AreRising, arith, digest, digest_at, digest_of_entry, Entry, key_at, key_of_rank, length, length-map, map, pairs_view, place_of_entry, subst, sym, ◌<◌, ◌∙◌, ◌≡◌, ◌≤◌}
 use Rattle.yaml_tree.proofs.Indexed.{map-insert}
 use Rattle.yaml_tree.proofs.Rows.{ranked_at}
-use Rattle.yaml_tree.proofs.Digesting.{digested_key, digests_next, entries_rise}
-use Rattle.yaml_tree.proofs.Sorting.{sorted_next}
+use Rattle.yaml_tree.proofs.Digesting.{digested_key, digests_next, entries_rise, sorted_next}
 use Rattle.yaml_tree.proofs.ranks.by_digests.Goals as goal
 
 pub bounds-row-place : goal.bounds-row-place
@@ -12,9 +11,7 @@ bounds-row-place c =
 
 pub end_of-offset-requires : goal.end_of-offset-requires
 end_of-offset-requires c = record {
-  rising = subst AreRising (sym c.as_slice.ensures.value)
-      (entries_rise c.loop-rank.entries.items
-      (pairs_view c.args.row.now) c.loop-rank.invariant.digested c.loop-rank.invariant.sorted.ascending);
+  rising = rw c.as_slice.ensures.value (entries_rise c.loop-rank.entries.items (pairs_view c.args.row.now) c.loop-rank.invariant.digested c.loop-rank.invariant.sorted.ascending);
 }
 
 pub loop-rank-preserved : goal.loop-rank-preserved

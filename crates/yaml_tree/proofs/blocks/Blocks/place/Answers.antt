@@ -3,5 +3,5 @@ use Rattle.yaml_tree.proofs.blocks.Blocks.place.Goals as goal
 
 pub returns : goal.returns
 returns c =
-    c.place.ensures ∙ ap (λ b. place_at b c.args.spot.offset) (block_read c.self.view_is c.requires.0 c.index.ensures)
-    ∙ sym (number_in (λ e. e.place) c.args.self.now c.args.spot.block c.args.spot.offset c.requires.0 c.requires.1)
+    rw (c.place.ensures, block_read c.self.view_is c.requires.0 c.index.ensures)
+    (sym (number_in (λ e. e.place) c.args.self.now c.args.spot.block c.args.spot.offset c.requires.0 c.requires.1))
