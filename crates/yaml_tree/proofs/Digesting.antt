@@ -30,7 +30,7 @@ module _ (es : List Entry) (ps : Pairs) (digested : AreDigests (map digest_of_en
       let low = digested_key i (omega arith) in
       let high = digested_key j g in
       let rise = λ (f : i < j). numbers_rise digest (key_of_rank (map place_of_entry es) ps i) (key_of_rank (map place_of_entry es) ps j)
-          (ascending i j f (omega (arith, length-map es place_of_entry))) in
+      (ascending i j f (omega (arith, length-map es place_of_entry))) in
       elim (cases_lt i j) [ inl f ↦ omega (arith, rise f) | inr f ↦ let same : i ≡ j = omega arith in omega (arith, ap (digest_at es) same) ]
 
 pub kept_digests_rise : (o : Kept) (ps : Pairs) → AreRanked (first_by o) (places o) ps → AreDigests (digests o) (places o) ps → HaveRising o
@@ -96,13 +96,6 @@ digests_next ms rs ps at m x e h digested its s g =
     let number = inserted_at ms at m (omega arith) s in
     let place = inserted_at rs at x h s in
     grind (arith, nat_tests, digested (closed_up at s))
-
-pub digested_added : (ms rs : List ℕ) (ps : Pairs) (r m : ℕ) (k v : Tree) → length ms ≡ length rs → r ≤ length rs → length rs ≡ length ps → ((s : ℕ) → s < length rs → get_or rs s 0 < length ps)
-    → AreDigests ms rs ps → m ≡ digest k → AreDigests (insert ms r m) (insert rs r (length rs)) (ps ++ (k, v) ∷ [])
-digested_added ms rs ps r m k v l h n within digested its =
-    digests_next ms rs (ps ++ (k, v) ∷ []) r m (length rs) l h
-    (λ s g. digested s g ∙ sym (ap digest (key_append_left ps ((k, v) ∷ []) (get_or rs s 0) (within s (omega arith)))))
-    (its ∙ sym (ap digest (key_append_end ps k v (length rs) n)))
 
 -- ---- the pairs of a short hash, put one by one in the order of their digests
 

@@ -12,9 +12,6 @@ paired-flat (p ∷ ps) = ap (λ qs. p ∷ qs) (paired-flat ps)
 pub pairs_from : (ts : List Tree) (ps : List (Tree × Tree)) → ts ≡ flat ps → paired ts ≡ ps
 pairs_from ts ps e = ap paired e ∙ paired-flat ps
 
-pub even_from : (ts : List Tree) (ps : List (Tree × Tree)) → ts ≡ flat ps → ts ≡ flat (paired ts)
-even_from ts ps e = e ∙ ap flat (sym (pairs_from ts ps e))
-
 pub length-flat : (ps : List (Tree × Tree)) → length (flat ps) ≡ 2 * length ps
 length-flat [] = refl
 length-flat (p ∷ ps) = omega (arith, length-flat ps)

@@ -2,7 +2,7 @@
 use Rattle.yaml_tree.proofs.Common.{[], ap, AreDigests, AreDistinct, AreDistinct-with_value_at, AreDistinct-without, AreDistinct_insert, AreRanked, arith, closed_up, digests, first_by, flat, get_or, IsIndexed, IsRank, IsRankGap, items_view, Kept, length, length-map, List, map, moved_up, pairs_view, places, refl, remove, set, subst, sym, Tree, view, without, Yaml, ℕ, ◌*◌, ◌++◌, ◌+◌, ◌<◌, ◌∙◌, ◌∷◌, ◌≡◌}
 use Rattle.defs_tree.specs.Pairs.{insert as insert_pair}
 use Rattle.yaml_tree.specs.Seats.{IsInserted, IsReady, IsReadyWithout}
-use Rattle.yaml_tree.proofs.Flattened.{added, even_from, pairs_from, value_set}
+use Rattle.yaml_tree.proofs.Flattened.{added, pairs_from, value_set}
 use Rattle.yaml_tree.proofs.Indexed.{digests_counted}
 use Rattle.yaml_tree.proofs.Ranking.{AreKept, kept_digests, kept_ranked, moved_kept, removed_kept, skip, skip_kept, value_kept}
 use Rattle.yaml_tree.proofs.Rows.{gap_absent, ranked_found, remove_ranked}
@@ -13,7 +13,7 @@ indexed_as : (zs : List Yaml) (us : List (Tree × Tree)) (n : Kept) → items_vi
 indexed_as zs us n e d a g =
     let same = sym (pairs_from (items_view zs) us e) in
     record {
-      hash = record { even = even_from (items_view zs) us e; distinct = subst AreDistinct same d; ranked = subst (AreRanked (first_by n) (places n)) same a };
+      hash = record { even = e ∙ ap flat same; distinct = subst AreDistinct same d; ranked = subst (AreRanked (first_by n) (places n)) same a };
       digested = subst (AreDigests (digests n) (places n)) same g;
     }
 

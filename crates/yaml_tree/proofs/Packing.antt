@@ -95,9 +95,6 @@ pub record IsPacking (f : ℕ → ℕ) (ps : List ℕ) (m : ℕ) : Type 0 where
   pub below : m < 2 ^ (4 * length ps)
   pub fits : m < 2 ^ 57
 
-pub packing_none : (f : ℕ → ℕ) (xs : List ℕ) (k : ℕ) → length xs ≤ k → IsPacking f (drop k xs) 0
-packing_none f xs k h = rw (drop_all k xs h) (record { made = refl; below = omega arith; fits = omega arith })
-
 pub packing_more : {f : ℕ → ℕ} (xs : List ℕ) (k n m q : ℕ) → IsPacking f (drop n xs) m → n ≡ suc k → k < length xs → length xs ≤ 14
     → q ≡ f (get_or xs k 0) → q < 16 → IsPacking f (drop k xs) (m * 16 + q)
 packing_more {f} xs k n m q i e h few made low =

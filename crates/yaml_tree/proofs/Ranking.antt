@@ -175,8 +175,12 @@ removed_kept rs ps r a h =
       counted = omega (arith, length-remove rs r h, a.counted);
       rises = skip_rises r;
       old = λ s g. (kept s g).0;
-      within = λ s g. omega (arith, place s g, closed_within p (get_or rs (skip r s) 0) (length (remove ps p)) (other s g) (omega (arith, a.within r h))
-          (omega (arith, a.within (skip r s) (kept s g).0)));
+      within = λ s g. omega (
+        arith,
+        place s g,
+        closed_within p (get_or rs (skip r s) 0) (length (remove ps p)) (other s g) (omega (arith, a.within r h))
+            (omega (arith, a.within (skip r s) (kept s g).0)),
+      );
       key = λ s g. ap (key_at (remove ps p)) (place s g) ∙ closed_key ps p (get_or rs (skip r s) 0) (other s g);
     }
 

@@ -54,11 +54,8 @@ module _ {m : Tree → ℕ} (ys : List Yaml) {rs : List ℕ} (h : IsHash m (item
     pub remove_ranked : (r : ℕ) → IsRank k rs (pairs_view ys) r → remove (pairs_view ys) (get_or rs r 0) ≡ without k (pairs_view ys)
     remove_ranked r at = remove_placed k (pairs_view ys) (get_or rs r 0) (ranked_place r (get_or rs r 0) at refl)
 
-    pub gap_place : (r : ℕ) → IsRankGap m k rs (pairs_view ys) r → None ≡ place_of k (pairs_view ys)
-    gap_place r gap = gap_none k rs (pairs_view ys) h.ranked r gap
-
     pub gap_absent : (r : ℕ) → IsRankGap m k rs (pairs_view ys) r → IsAbsent k (pairs_view ys)
-    gap_absent r gap = absent k (pairs_view ys) (gap_place r gap)
+    gap_absent r gap = absent k (pairs_view ys) (gap_none k rs (pairs_view ys) h.ranked r gap)
 
 -- the same of the place at a spot
 pub spot_at : (ys : List Yaml) {k : Kept} → IsIndexed (items_view ys) k → (s : Spot) (p : ℕ) → HasPlace k s → p ≡ get_or (places k) (rank_at k s) 0

@@ -100,23 +100,6 @@ starts_pushed bs starts last n a e l =
     (λ g h k. omega (arith, get_or_push starts last 0 g (omega arith), starts_all n a e, start_all bs (16 * g) (omega (arith, a.enough))))
 
 module _ {bs : List (List Entry)} {olds news : List ℕ} where
-  module _ (more : ℕ → ℕ) {first : ℕ} (cs : List (List Entry)) (a : AreStarts bs olds) where
-    -- the starts of other blocks, which are higher from the first on
-    starts_up : AreApart more first (length olds) olds news → length cs + 16 ≤ 16 * length olds → ((g : ℕ) → g < first → start cs (16 * g) ≡ start bs (16 * g))
-        → ((g : ℕ) → first ≤ g → start cs (16 * g) ≡ start bs (16 * g) + more g) → AreStarts cs news
-    starts_up d enough before after =
-        starts_split cs news first (omega (arith, d.count))
-        (λ g h k. omega (arith, d.before g k, a.each g (omega (arith, d.count)), before g k))
-        (λ g h k. omega (arith, d.inside g k (omega (arith, d.count)), a.each g (omega (arith, d.count)), after g k))
-
-    -- which are lower from the first on
-    starts_down : AreApart more first (length olds) news olds → length cs + 16 ≤ 16 * length olds → ((g : ℕ) → g < first → start cs (16 * g) ≡ start bs (16 * g))
-        → ((g : ℕ) → first ≤ g → start cs (16 * g) + more g ≡ start bs (16 * g)) → AreStarts cs news
-    starts_down d enough before after =
-        starts_split cs news first (omega (arith, d.count))
-        (λ g h k. omega (arith, d.before g k, a.each g (omega (arith, d.count)), before g k))
-        (λ g h k. omega (arith, d.inside g k (omega (arith, d.count)), a.each g (omega (arith, d.count)), after g k))
-
   -- ---- one change of the blocks, and that of the starts which goes with it
 
   -- block i has an entry more
@@ -127,9 +110,11 @@ module _ {bs : List (List Entry)} {olds news : List ℕ} where
       let more = length-insert (get_or bs i []) j e l in
       record {
         filled = filled_set bs i b a.filled (omega arith);
-        right = starts_up (λ _. 1) (set bs i b) a.right d (omega (arith, a.right.enough, length-set bs i b))
-            (λ g k. start_set_before bs i (16 * g) b (omega arith))
-            (λ g k. omega (arith, start_set_after bs i (16 * g) b h (omega arith)));
+        right = starts_split (set bs i b) news (i / 16 + 1) (omega (arith, a.right.enough, d.count, length-set bs i b))
+            (λ g k f. omega (arith, d.before g f, a.right.each g (omega (arith, d.count)), start_set_before bs i (16 * g) b (omega arith)))
+            (λ g k f.
+            let old = a.right.each g (omega (arith, d.count)) in
+            omega (arith, d.inside g f (omega (arith, d.count)), start_set_after bs i (16 * g) b h (omega arith)));
         fits = omega (arith, ap length (joined_insert bs i j e h l), length-insert (joined bs) (start bs i + j) e (rank_within bs i j l));
       }
 
@@ -138,9 +123,11 @@ module _ {bs : List (List Entry)} {olds news : List ℕ} where
       → length bs + 1 + 16 ≤ 16 * length olds → length (joined bs) + 1 < 2 ^ 64 → AreCounted (bs ++ (e ∷ []) ∷ []) news
   counted_pushed e filled a d enough r = record {
     filled = filled_push bs (e ∷ []) filled (omega arith);
-    right = starts_up (λ _. 1) (bs ++ (e ∷ []) ∷ []) a d (omega (arith, length-append bs ((e ∷ []) ∷ [])))
-        (λ g k. start_push_before bs (e ∷ []) (16 * g) (omega arith))
-        (λ g k. start_push_after bs (e ∷ []) (16 * g) (omega arith));
+    right = starts_split (bs ++ (e ∷ []) ∷ []) news (length bs / 16 + 1) (omega (arith, d.count, length-append bs ((e ∷ []) ∷ [])))
+        (λ g k f. omega (arith, d.before g f, a.each g (omega (arith, d.count)), start_push_before bs (e ∷ []) (16 * g) (omega arith)))
+        (λ g k f.
+        let old = a.each g (omega (arith, d.count)) in
+        omega (arith, d.inside g f (omega (arith, d.count)), start_push_after bs (e ∷ []) (16 * g) (omega arith)));
     fits = omega (arith, ap length (joined_push bs e (length (joined bs)) refl), length-insert (joined bs) (length (joined bs)) e (omega arith));
   }
 
@@ -152,9 +139,11 @@ module _ {bs : List (List Entry)} {olds news : List ℕ} where
       let less = length-remove (get_or bs i []) j l in
       record {
         filled = filled_set bs i b a.filled (omega arith);
-        right = starts_down (λ _. 1) (set bs i b) a.right d (omega (arith, a.right.enough, length-set bs i b))
-            (λ g k. start_set_before bs i (16 * g) b (omega arith))
-            (λ g k. omega (arith, start_set_after bs i (16 * g) b h (omega arith)));
+        right = starts_split (set bs i b) news (i / 16 + 1) (omega (arith, a.right.enough, d.count, length-set bs i b))
+            (λ g k f. omega (arith, d.before g f, a.right.each g (omega (arith, d.count)), start_set_before bs i (16 * g) b (omega arith)))
+            (λ g k f.
+            let old = a.right.each g (omega (arith, d.count)) in
+            omega (arith, d.inside g f (omega (arith, d.count)), start_set_after bs i (16 * g) b h (omega arith)));
         fits = omega (arith, ap length (joined_remove bs i j h l), length-remove (joined bs) (start bs i + j) (rank_inside bs i j l), a.fits);
       }
 
@@ -169,9 +158,12 @@ module _ {bs : List (List Entry)} {olds news : List ℕ} where
       record {
         filled = filled_insert (set bs i (take h b)) (i + 1) (drop h b) (filled_set bs i (take h b) filled (omega (arith, length-take h b)))
             (omega (arith, length-drop h b)) (omega (arith, length-set bs i (take h b)));
-        right = starts_down (head_length cs) cs a d (omega (arith, length-halved bs i (i + 1) h next l))
-            (λ g k. start_halved_before bs i (i + 1) h (16 * g) next l (omega arith))
-            (λ g k. omega (arith, start_next cs (16 * g) (suc (16 * g)) refl, start_halved_after bs i (i + 1) h (16 * g) next l (omega arith)));
+        right = starts_split cs news (i / 16 + 1) (omega (arith, d.count, length-halved bs i (i + 1) h next l))
+            (λ g k f. omega (arith, d.before g f, a.each g (omega (arith, d.count)), start_halved_before bs i (i + 1) h (16 * g) next l (omega arith)))
+            (λ g k f.
+            let old = a.each g (omega (arith, d.count)) in
+            let first = start_next cs (16 * g) (suc (16 * g)) refl in
+            omega (arith, d.inside g f (omega (arith, d.count)), start_halved_after bs i (i + 1) h (16 * g) next l (omega arith)));
         fits = omega (arith, ap length (joined_halved bs i (i + 1) h next l));
       }
 

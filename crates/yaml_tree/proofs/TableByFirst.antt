@@ -2,7 +2,7 @@
 use Rattle.std.specs.Option.{option_or}
 use Rattle.std.specs.Int.{IsInRange}
 use Rattle.std.proofs.lemmas.Int.Digits.{digits_value_more}
-use Rattle.std.proofs.lemmas.Str.Parse.{IsNumeralModel, numerals_by_value, tells_all_ascii_digits, digits_value_short, digits_value-take-le, digit_at}
+use Rattle.std.proofs.lemmas.Str.Parse.{IsNumeralModel, numerals_by_value, tells_all_ascii_digits, digit_at}
 use Rattle.yaml_tree.proofs.TypingCommon.{[], after_all, all_ascii_digits, ap, arith, begins_in, begins_value, Bool, chars, chars-IsAscii, codes, digit_value, digits_value, false, false_words, fits_i64, get_or, if◌then◌else◌, integer, is_among, is_ascii_digit, is_decimal, is_decimal-read, is_digit, is_empty, is_sign, IsUtf8, length, List, list_all, nat_lt, nat_tests, None, not, null, null_words, Option, option_and_then, option_map, pos, reads_on, refl, signed_number, Some, special_words, string, subst, sym, take, true, true_words, typing, unwrap_or, where_true, ℕ, ℤ, ◌*◌, ◌+◌, ◌-◌, ◌<◌, ◌==◌, ◌^◌, ◌||◌, ◌∙◌, ◌∷◌, ◌≡◌, ◌≤◌, ◌⊎◌}
 use Rattle.yaml_tree.specs.Meanings.{meant, string_or, integer_or}
 use Rattle.yaml_tree.specs.declared.plain.Meaning.{Meaning}
@@ -109,9 +109,6 @@ number_of_digits (c ∷ cs) h e n =
 pub own : IsNumeralModel (λ ds. all_ascii_digits ds ≡ true) (digits_value 10)
 own = numerals_by_value (λ ds. all_ascii_digits ds ≡ true) tells_all_ascii_digits
 
-pub short_below : (t : List ℕ) → all_ascii_digits t ≡ true → length t ≤ 18 → digits_value 10 t < 10 ^ 18
-short_below t e n = digits_value_short own t 18 e n
-
 -- one more digit: it is one, and the number so far is no more than the whole
 pub one_digit : (t : List ℕ) (i : ℕ) → all_ascii_digits t ≡ true → i < length t → IsInRange 48 57 (get_or t i 0)
 one_digit t i e n = digit_at t i (own.to t e) n
@@ -121,9 +118,6 @@ one_more t i e n = digits_value_more 10 t i n ∙ ap (λ d. digits_value 10 (tak
   where
     value : (c : ℕ) → IsInRange 48 57 c → digit_value c ≡ c - 48
     value c h = grind (arith, nat_tests)
-
-pub no_more : (t : List ℕ) (i : ℕ) → digits_value 10 (take i t) ≤ digits_value 10 t
-no_more t i = digits_value-take-le 10 t i (omega arith)
 
 -- ---- signs
 

@@ -6,8 +6,15 @@ pub levels-smaller-in_ok-push-in-Some : goal.levels-smaller-in_ok-push-in-Some
 levels-smaller-in_ok-push-in-Some c =
     let put = c.in_ok-push-in-Some.ensures {u = tt} in
     let made = c.in_ok-inner-in-Some.ensures {u = tt} in
-    omega (arith, rw c.replace.ensures.value at (ap lefts put.items), lefts_push c.levels.open.items c.copy_scalars.new.self, put.len, made.left, ap left c.replace.ensures.after,
-    rw c.in-Some.is at (c.in_ok-inner.ensures {u = tt}).left)
+    omega (
+      arith,
+      rw c.replace.ensures.value at (ap lefts put.items),
+      lefts_push c.levels.open.items c.copy_scalars.new.self,
+      put.len,
+      made.left,
+      ap left c.replace.ensures.after,
+      rw c.in-Some.is at (c.in_ok-inner.ensures {u = tt}).left,
+    )
 
 pub levels-preserved-in_ok-push-in-Some : goal.levels-preserved-in_ok-push-in-Some
 levels-preserved-in_ok-push-in-Some c =

@@ -1,5 +1,4 @@
-use Rattle.yaml_tree.proofs.Common.{ap, arith, digest, encode_utf8_all, inl, inr, Real, string_chars, sym, text_digest, view, ◌∙◌, ◌≡◌, ◌⊎◌}
-use Rattle.yaml_tree.specs.declared.yaml.Yaml.TheVariants.{String}
+use Rattle.yaml_tree.proofs.Common.{ap, arith, digest, encode_utf8_all, string_chars, sym, text_digest, view, ◌∙◌, ◌≡◌}
 use Rattle.yaml_tree.proofs.TextOrder.{string_encoded}
 use Rattle.yaml_tree.proofs.digest.digest.Goals as goal
 

@@ -1,4 +1,4 @@
-use Rattle.yaml_tree.proofs.Common.{ap, AreRising, arith, digest, digest_at, digest_of_entry, Entry, key_at, key_of_rank, length, length-map, map, pairs_view, place_of_entry, subst, sym, ◌<◌, ◌∙◌, ◌≡◌, ◌≤◌}
+use Rattle.yaml_tree.proofs.Common.{ap, arith, digest, digest_at, digest_of_entry, Entry, key_at, key_of_rank, length, length-map, map, pairs_view, place_of_entry, sym, ◌<◌, ◌∙◌, ◌≡◌, ◌≤◌}
 use Rattle.yaml_tree.proofs.Indexed.{map-insert}
 use Rattle.yaml_tree.proofs.Rows.{ranked_at}
 use Rattle.yaml_tree.proofs.Digesting.{digested_key, digests_next, entries_rise, sorted_next}

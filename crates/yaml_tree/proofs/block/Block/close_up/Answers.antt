@@ -1,4 +1,4 @@
-use Rattle.yaml_tree.proofs.IndexCommon.{ap, arith, Entry, entry_closed_up, get_or, get_or_default, map_over_more, set, ◌∙◌}
+use Rattle.yaml_tree.proofs.IndexCommon.{arith, Entry, entry_closed_up, get_or, get_or_default, map_over_more}
 use Rattle.yaml_tree.proofs.block.Block.close_up.Goals as goal
 
 pub loop-entry-preserved : goal.loop-entry-preserved

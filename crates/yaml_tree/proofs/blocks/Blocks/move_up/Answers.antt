@@ -16,5 +16,8 @@ invariant_of-self c =
 pub returns : goal.returns
 returns c =
     let f = entry_moved_up c.args.gone c.args.count in
-    rw (all_lent (map f) c.loop-block.block-index c.loop-block.invariant c.loop-block.auto.block-items c.loop-block-test.false c.deref_mut-block-items.ensures.value
-    c.self.inside.blocks.ok.0, c.self.view_is) (joined_map f c.args.self.now)
+    rw (
+      all_lent (map f) c.loop-block.block-index c.loop-block.invariant c.loop-block.auto.block-items c.loop-block-test.false c.deref_mut-block-items.ensures.value
+          c.self.inside.blocks.ok.0,
+      c.self.view_is,
+    ) (joined_map f c.args.self.now)

@@ -1,4 +1,4 @@
-use Rattle.yaml_tree.proofs.BlocksCommon.{ap, block_read, number_in, place_at, sym, ◌∙◌}
+use Rattle.yaml_tree.proofs.BlocksCommon.{block_read, number_in, sym}
 use Rattle.yaml_tree.proofs.blocks.Blocks.place.Goals as goal
 
 pub returns : goal.returns

@@ -1,5 +1,6 @@
-use Rattle.yaml_tree.proofs.Common.{probed, rank_at}
-use Rattle.yaml_tree.proofs.Rows.{ranked_place, gap_place}
+use Rattle.yaml_tree.proofs.Common.{pairs_view, places, probed, rank_at}
+use Rattle.yaml_tree.proofs.Ranking.{gap_none}
+use Rattle.yaml_tree.proofs.Rows.{ranked_place}
 use Rattle.yaml_tree.proofs.hash.Hash.place_of_probe.Goals as goal
 
 pub returns-in-Ok-clause-place : goal.returns-in-Ok-clause-place
@@ -9,5 +10,5 @@ returns-in-Ok-clause-place c =
 
 pub returns-in-Err-clause-place : goal.returns-in-Err-clause-place
 returns-in-Err-clause-place c =
-    rw (← c.self.view_is) (gap_place c.self.inside.row.items c.self.invariant.hash (probed c.args.probe) (rank_at c.self.inside.ranks.kept c.in-Err.field-0.spot)
-    (rw c.as_slice.ensures.value at (c.in-Err.ensures {u = tt}).missing))
+    rw (← c.self.view_is) (gap_none (probed c.args.probe) (places c.self.inside.ranks.kept) (pairs_view c.self.inside.row.items) c.self.invariant.hash.ranked
+    (rank_at c.self.inside.ranks.kept c.in-Err.field-0.spot) (rw c.as_slice.ensures.value at (c.in-Err.ensures {u = tt}).missing))

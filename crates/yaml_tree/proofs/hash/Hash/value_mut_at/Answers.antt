@@ -18,8 +18,7 @@ invariant_of-self-lent c = λ w. indexed_value c.self.inside.row.items c.self.in
 
 pub returns : goal.returns
 returns c =
-    let even = c.self.invariant.hash.even ∙ ap flat c.self.view_is in
-    (
+    let even = c.self.invariant.hash.even ∙ ap flat c.self.view_is in (
       (refl, λ w. pairs_from _ (with_value_at c.args.i (view w) c.args.self.now) (value_set c.self.inside.row.items c.args.self.now c.args.i w even)),
       record { writes_back = tt; value = value_seen c.self.inside.row.items c.args.self.now even c.args.i _ c.requires c.index_mut.ensures.value },
     )
