@@ -20,7 +20,7 @@ pub use Rattle.defs_tree.specs.Pairs.{AreDistinct, Lacks, last_of, lookup, place
 pub use Rattle.defs_tree.specs.Tree.{array, hash, integer, item, Items, items_of, list_of, no_items, no_pairs, pair, pair_list_of, pairs_of, real, string, Tree}
 pub use Rattle.yaml_tree.proofs.Joining.{number_got, rank_inside, rank_within}
 pub use Rattle.yaml_tree.specs.Blocks.{joined, rank_of}
-pub use Rattle.yaml_tree.specs.Edges.{AreRising, digest_at, place_at}
+pub use Rattle.yaml_tree.specs.Edges.{AreRising, digest_at}
 pub use Rattle.yaml_tree.specs.Moves.{closed_up, moved_up}
 pub use Rattle.yaml_tree.specs.declared.entry.Entry.{Entry}
 pub use Rattle.yaml_tree.specs.Copying.{IsFilled, Leads, left, lefts, source_tree}
@@ -40,4 +40,4 @@ pub use Rattle.yaml_tree.specs.Writes.{with_index_value, with_text_value}
 pub use Rattle.yaml_tree.specs.declared.ranks.Kept.{Kept}
 pub use Rattle.yaml_tree.specs.declared.ranks.Kept.TheVariants.{Few, Many}
 pub use Rattle.yaml_tree.specs.declared.yaml.Yaml.{Yaml}
-pub use Rattle.yaml_tree.specs.declared.yaml.Yaml.TheVariants.{Array, Hash, Real}
+pub use Rattle.yaml_tree.specs.declared.yaml.Yaml.TheVariants.{Array, Hash}

@@ -1,5 +1,5 @@
 -- A comparison of two lists, place by place.
-use Rattle.yaml_tree.proofs.Common.{[], add-one, ap, arith, drop, drop-cons, Equal, flat, get_or, items_cmp, items_of, items_view, length, List, map, nat_cmp, nat_tests, on, Ordering, ordering_then, pairs_cmp, pairs_of, refl, slice_cmp, suc, Tree, tree_cmp, Yaml, ℕ, ◌+◌, ◌<◌, ◌∷◌, ◌≡◌, ◌≤◌, ◌⊎◌}
+use Rattle.yaml_tree.proofs.Common.{[], add-one, ap, arith, drop, drop-cons, Equal, flat, get_or, items_cmp, items_of, length, List, map, nat_cmp, nat_tests, on, Ordering, ordering_then, pairs_cmp, pairs_of, refl, slice_cmp, suc, Tree, tree_cmp, ℕ, ◌+◌, ◌<◌, ◌∷◌, ◌≡◌, ◌≤◌, ◌⊎◌}
 use Rattle.defs_tree.specs.Lists.{list_cmp}
 
 pub at_drop : {A : Type 0} (xs : List A) (i : ℕ) (x : A) → i < length xs → x ≡ get_or xs i x → drop i xs ≡ x ∷ drop (i + 1) xs

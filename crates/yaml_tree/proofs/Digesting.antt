@@ -1,7 +1,7 @@
 -- Digests of keys: the ranks that they leave for a key, and how they stay those of their keys as pairs come and go.
-use Rattle.yaml_tree.proofs.Common.{[], ap, AreDigests, AreRanked, AreRising, arith, cases_lt, closed_up, digest, digest_at, digest_of_entry, digests, Entry, Few, first_by, get_or, Greater, HaveRising, inl, inr, insert, IsWindow, joined, Kept, key_at, key_cmp, key_of_rank, length, length-insert, length-map, Less, List, Many, map, nat_tests, place_of_entry, places, refl, sym, Tree, tree_cmp, ◌++◌, ◌+◌, ◌-◌, ◌<◌, ◌∙◌, ◌∷◌, ◌≡◌, ◌≤◌, ℕ}
+use Rattle.yaml_tree.proofs.Common.{ap, AreDigests, AreRanked, AreRising, arith, cases_lt, closed_up, digest, digest_at, digest_of_entry, digests, Entry, Few, first_by, get_or, Greater, HaveRising, inl, inr, insert, IsWindow, joined, Kept, key_at, key_cmp, key_of_rank, length, length-insert, length-map, Less, List, Many, map, nat_tests, place_of_entry, places, refl, sym, Tree, tree_cmp, ◌+◌, ◌-◌, ◌<◌, ◌∙◌, ◌≡◌, ◌≤◌, ℕ}
 use Rattle.yaml_tree.proofs.Indexed.{number_mapped}
-use Rattle.yaml_tree.proofs.Ranking.{above_up_to, any_two, below_from_on, each_with, inserted_at, key_append_end, key_append_left, Pairs}
+use Rattle.yaml_tree.proofs.Ranking.{above_up_to, any_two, below_from_on, each_with, inserted_at, Pairs}
 
 -- ---- keys by their numbers
 

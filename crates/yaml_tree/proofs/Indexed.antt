@@ -1,7 +1,7 @@
 -- Places and digests of a hash, as blocks or few keep them.
 use Rattle.std.proofs.Common.{take}
 use Rattle.std.proofs.lemmas.List.{drop-map, map-append, take-map}
-use Rattle.yaml_tree.proofs.Common.{[], arith, digest_at, digest_of_entry, digests, drop, Entry, Few, get_or, HasPlace, HasSpot, insert, joined, Kept, length, length-map, List, Many, map, place_at, place_of_entry, places, rank_at, rank_inside, refl, remove, suc, ℕ, ◌+◌, ◌<◌, ◌∷◌, ◌≡◌, ◌≤◌}
+use Rattle.yaml_tree.proofs.Common.{[], arith, digest_of_entry, digests, drop, Entry, Few, get_or, HasPlace, HasSpot, insert, joined, Kept, length, length-map, List, Many, map, place_of_entry, places, rank_at, rank_inside, refl, remove, suc, ℕ, ◌+◌, ◌<◌, ◌∷◌, ◌≡◌, ◌≤◌}
 use Rattle.yaml_tree.specs.Edges.{number_at}
 use Rattle.yaml_tree.specs.declared.entry.Spot.{Spot}
 

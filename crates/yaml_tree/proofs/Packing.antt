@@ -1,7 +1,7 @@
 -- Places that stand in one number as its digits to base 16.
 use Rattle.std.proofs.lemmas.Nat.{shr-shr, shr_split, mod-pow-add, pow-add, pow_below, shr_le}
 use Rattle.std.proofs.Math.Nat.{mul_assoc, mul_comm}
-use Rattle.yaml_tree.proofs.Common.{ap, arith, digits, drop, drop_all, drop_more, get_or, insert, IsPacked, length, length-drop, List, map, refl, suc, sym, unpacked, zero, ℕ, ◌%◌, ◌*◌, ◌+◌, ◌-◌, ◌/◌, ◌<◌, ◌^◌, ◌∙◌, ◌≡◌, ◌≤◌}
+use Rattle.yaml_tree.proofs.Common.{ap, arith, digits, drop, drop_more, get_or, insert, IsPacked, length, length-drop, List, map, refl, suc, sym, unpacked, zero, ℕ, ◌%◌, ◌*◌, ◌+◌, ◌-◌, ◌/◌, ◌<◌, ◌^◌, ◌∙◌, ◌≡◌, ◌≤◌}
 
 length_digits : (n w : ℕ) → length (digits n w) ≡ n
 length_digits zero w = refl

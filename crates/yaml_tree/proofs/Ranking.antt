@@ -6,7 +6,7 @@ use Rattle.std.proofs.Common.{length-append}
 use Rattle.std.proofs.lemmas.Grind.{get_or_default_zero}
 use Rattle.std.proofs.lemmas.Map.Keys.{IsDistinct-from_apart}
 use Rattle.std.proofs.lemmas.Map.Steps.{length-le_from_distinct_below}
-use Rattle.yaml_tree.proofs.Common.{[], ap, AreDigests, AreDistinct, AreRanked, arith, cases_lt, closed_up, cond, digest, eqb, eqb-true, false_from_ne_true, get_or, get_or-insert_above, get_or-insert_at, get_or-insert_below, get_or-map, Greater, insert, IsRank, IsRankGap, key_at, key_cmp, key_of_rank, Lacks, length, length-insert, length-map, length-remove, Less, List, list_any, map, moved_up, nat_cmp_total, nat_lt, nat_tests, None, on_total, ordering_reverse, place_of, refl, remove, Some, suc, sym, then_total, tied_itself, Tree, tree_cmp_total, tree_eq-itself, tree_eq-other, true, with_value_at, zero, ℕ, ◌++◌, ◌+◌, ◌-◌, ◌<◌, ◌∙◌, ◌∷◌, ◌≡◌, ◌≢◌, ◌≤◌, ◌⊎◌}
+use Rattle.yaml_tree.proofs.Common.{[], ap, AreDigests, AreDistinct, AreRanked, arith, cases_lt, closed_up, cond, digest, eqb, eqb-true, false_from_ne_true, get_or, get_or-insert_above, get_or-insert_at, get_or-insert_below, get_or-map, Greater, insert, IsRank, IsRankGap, key_at, key_cmp, key_of_rank, Lacks, length, length-insert, length-map, length-remove, Less, List, list_any, map, moved_up, nat_cmp_total, nat_lt, nat_tests, None, on_total, ordering_reverse, place_of, refl, remove, Some, suc, sym, then_total, tied_itself, Tree, tree_cmp_total, tree_eq-itself, tree_eq-other, true, with_value_at, zero, ℕ, ◌++◌, ◌+◌, ◌-◌, ◌<◌, ◌∙◌, ◌∷◌, ◌≡◌, ◌≢◌, ◌≤◌}
 
 abbrev pub Pairs : Type 0
 Pairs = List (Tree × Tree)

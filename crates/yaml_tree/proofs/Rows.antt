@@ -1,5 +1,5 @@
 -- A row of keys and values beside its ranks: what was found in it.
-use Rattle.yaml_tree.proofs.Common.{absent, ap, arith, flat, get_or, HasPlace, IsHash, IsIndexed, IsRank, IsRankGap, items_view, key_at, key_of_rank, Kept, length, List, lookup, None, pairs_view, place_in, place_of, places, rank_at, refl, remove, Some, Tree, view, without, Yaml, ℕ, ◌*◌, ◌+◌, ◌<◌, ◌∙◌, ◌≡◌}
+use Rattle.yaml_tree.proofs.Common.{absent, ap, arith, flat, get_or, HasPlace, IsHash, IsIndexed, IsRank, IsRankGap, items_view, key_at, key_of_rank, Kept, length, List, lookup, pairs_view, place_in, place_of, places, rank_at, refl, remove, Some, Tree, view, without, Yaml, ℕ, ◌*◌, ◌+◌, ◌<◌, ◌∙◌, ◌≡◌}
 use Rattle.yaml_tree.specs.declared.entry.Spot.{Spot}
 use Rattle.defs_tree.proofs.Places.{IsAbsent}
 use Rattle.yaml_tree.proofs.Flattened.{row_length, key_seen, value_seen, taken}

@@ -3,7 +3,7 @@ use Rattle.std.specs.Option.{option_or}
 use Rattle.std.specs.Int.{IsInRange}
 use Rattle.std.proofs.lemmas.Int.Digits.{digits_value_more}
 use Rattle.std.proofs.lemmas.Str.Parse.{IsNumeralModel, numerals_by_value, tells_all_ascii_digits, digit_at}
-use Rattle.yaml_tree.proofs.TypingCommon.{[], after_all, all_ascii_digits, ap, arith, begins_in, begins_value, Bool, chars, chars-IsAscii, codes, digit_value, digits_value, false, false_words, fits_i64, get_or, if◌then◌else◌, integer, is_among, is_ascii_digit, is_decimal, is_decimal-read, is_digit, is_empty, is_sign, IsUtf8, length, List, list_all, nat_lt, nat_tests, None, not, null, null_words, Option, option_and_then, option_map, pos, reads_on, refl, signed_number, Some, special_words, string, subst, sym, take, true, true_words, typing, unwrap_or, where_true, ℕ, ℤ, ◌*◌, ◌+◌, ◌-◌, ◌<◌, ◌==◌, ◌^◌, ◌||◌, ◌∙◌, ◌∷◌, ◌≡◌, ◌≤◌, ◌⊎◌}
+use Rattle.yaml_tree.proofs.TypingCommon.{[], after_all, all_ascii_digits, ap, arith, begins_in, begins_value, Bool, chars, chars-IsAscii, codes, digit_value, digits_value, false, false_words, fits_i64, get_or, if◌then◌else◌, integer, is_among, is_ascii_digit, is_decimal, is_decimal-read, is_digit, is_empty, is_sign, IsUtf8, length, List, list_all, nat_lt, nat_tests, None, not, null, null_words, Option, option_and_then, option_map, pos, reads_on, refl, signed_number, Some, special_words, string, subst, sym, take, true, true_words, typing, unwrap_or, where_true, ℕ, ℤ, ◌*◌, ◌+◌, ◌-◌, ◌<◌, ◌==◌, ◌^◌, ◌||◌, ◌∙◌, ◌∷◌, ◌≡◌, ◌⊎◌}
 use Rattle.yaml_tree.specs.Meanings.{meant, string_or, integer_or}
 use Rattle.yaml_tree.specs.declared.plain.Meaning.{Meaning}
 use Rattle.yaml_tree.specs.declared.plain.Meaning.TheVariants as meaning

@@ -38,3 +38,6 @@ loop-rank-preserved c =
           (digests_next (map digest_of_entry es) (map place_of_entry es) ps at e.digest e.place (length-map es digest_of_entry ∙ sym all) inside i.digested
           (number ∙ sym (ap (λ p. digest (key_at ps p)) c.at-place.ensures.place)));
     }
+
+pub returns-clause-indexed : goal.returns-clause-indexed
+returns-clause-indexed c = grind arith

@@ -1,4 +1,4 @@
-use Rattle.yaml_tree.proofs.Common.{ap, insert, pairs_view, places, rank_at, view, ◌∙◌}
+use Rattle.yaml_tree.proofs.Common.{pairs_view, places, rank_at, view}
 use Rattle.yaml_tree.proofs.Ranking.{gap_none, ranked_added}
 use Rattle.yaml_tree.proofs.ranks.Ranks.insert.Goals as goal
 
