@@ -30,14 +30,9 @@ inserted_both ps [] rs = refl
 inserted_both ps (q ∷ qs) rs = inserted_both (insert q.0 q.1 ps) qs rs
 
 -- the two loops make the overlay
-pub laid_pairs : (ps : List (Tree × Tree)) (qs : List (Tree × Tree)) → AreDistinct ps → AreDistinct qs
+pub laid_pairs : (ps qs : List (Tree × Tree)) → AreDistinct ps → AreDistinct qs
     → inserted (inserted [] (pairs_under qs (pairs_of ps))) (new_pairs ps qs) ≡ pairs_under qs (pairs_of ps) ++ new_pairs ps qs
 laid_pairs ps qs h g =
     let under = pairs_under qs (pairs_of ps) in
     let d = rw (list_of_pairs ps) at (laid_distinct (pairs_of ps) qs (rw (list_of_pairs ps) h) g) in
     inserted_both [] under (new_pairs ps qs) ∙ inserted_after [] (under ++ new_pairs ps qs) d
-
--- the tree of the pairs that the two loops make
-pub laid_tree : (t u : Tree) (ps qs under laid : List (Tree × Tree)) → t ≡ hash (pairs_of ps) → u ≡ hash (pairs_of qs) → AreDistinct ps → AreDistinct qs
-    → under ≡ inserted [] (pairs_under qs (pairs_of ps)) → laid ≡ inserted under (new_pairs ps qs) → hash (pairs_of laid) ≡ overlay t u
-laid_tree t u ps qs under laid e f h g l m = rw (e, f, list_of_pairs ps, list_of_pairs qs, m, l, laid_pairs ps qs h g) refl

@@ -43,20 +43,3 @@ other_left_out y ts us n e = rw e (by y n)
     by : (z : Yaml) → ((h : Hash) → z ≡ yamls.Hash h → ⊥) → pairs_of_mappings (items_of us) ≡ pairs_of_mappings (item (view z) (items_of us))
     by (yamls.Hash h) m = absurd (m h refl)
     by _ m = refl
-
-pub mapping_brings : (y : Yaml) (ps : List (Tree × Tree)) → view y ≡ hash (pairs_of ps) → brought (Some (view y)) ≡ ps
-mapping_brings y ps e = ap (λ t. brought (Some t)) e ∙ list_of_pairs ps
-
--- ---- a mapping's own merge key
-
-pub carried_out : (all rest whole : List (Tree × Tree)) (k v : Tree) → k ≡ merge_key → rest ≡ without k all → Some v ≡ lookup k all → whole ≡ with_new_pairs rest (brought (Some v))
-    → whole ≡ merged_pairs all
-carried_out all rest whole k v is e f g = rw (← is, ← e, ← f) g
-
-pub nothing_to_do : (all rest : List (Tree × Tree)) (k : Tree) → k ≡ merge_key → rest ≡ without k all → None ≡ lookup k all → rest ≡ merged_pairs all
-nothing_to_do all rest k is e f = rw (← is, ← e, ← f) refl
-
--- ---- depth
-
-pub no_deeper : (rs qs : List (Tree × Tree)) (p : Tree × Tree) (n : ℕ) → rs ≡ p ∷ qs → pairs_depth (pairs_of rs) ≤ n → pairs_depth (pairs_of qs) ≤ n
-no_deeper rs qs p n e h = let g = rw e at h in omega arith

@@ -1,5 +1,5 @@
 -- A comparison of two lists, place by place.
-use Rattle.yaml_tree.proofs.Common.{[], add-one, ap, arith, drop, drop-cons, Equal, flat, get_or, items_cmp, items_of, items_view, length, List, map, nat_cmp, nat_tests, on, Ordering, ordering_then, pairs_cmp, pairs_of, refl, slice_cmp, suc, Tree, tree_cmp, Yaml, zero, ℕ, ◌+◌, ◌<◌, ◌∷◌, ◌≡◌, ◌≤◌, ◌⊎◌}
+use Rattle.yaml_tree.proofs.Common.{[], add-one, ap, arith, drop, drop-cons, Equal, flat, get_or, items_cmp, items_of, length, List, map, nat_cmp, nat_tests, on, Ordering, ordering_then, pairs_cmp, pairs_of, refl, slice_cmp, suc, Tree, tree_cmp, ℕ, ◌+◌, ◌<◌, ◌∷◌, ◌≡◌, ◌≤◌, ◌⊎◌}
 use Rattle.defs_tree.specs.Lists.{list_cmp}
 
 pub at_drop : {A : Type 0} (xs : List A) (i : ℕ) (x : A) → i < length xs → x ≡ get_or xs i x → drop i xs ≡ x ∷ drop (i + 1) xs
@@ -11,10 +11,8 @@ module _ {A : Type 0} (R : A → A → Ordering) where
   cmp_next xs ys i x y p q e f = rw (at_drop xs i x p e, at_drop ys i y q f)
 
   pub cmp_end : (xs ys : List A) (i : ℕ) → i ≤ length xs → i ≤ length ys → (length xs ≤ i) ⊎ (length ys ≤ i) → slice_cmp R (drop i xs) (drop i ys) ≡ nat_cmp (length xs) (length ys)
-  cmp_end [] ys i p q e = grind (arith, nat_tests)
-  cmp_end (x ∷ xs) [] i p q e = grind (arith, nat_tests)
-  cmp_end (x ∷ xs) (y ∷ ys) zero p q e = grind (arith, nat_tests)
   cmp_end (x ∷ xs) (y ∷ ys) (suc i) p q e = grind (arith, nat_tests, cmp_end xs ys i)
+  cmp_end xs ys i p q e = grind (arith, nat_tests)
 
 pub items_cmp-items_of : (xs ys : List Tree) → items_cmp (items_of xs) (items_of ys) ≡ list_cmp xs ys
 items_cmp-items_of [] ys = grind arith
@@ -34,8 +32,3 @@ slice_cmp-map R f (x ∷ xs) ys = grind (arith, slice_cmp-map R f xs)
 -- an answer that is not `Equal` ends the comparison
 pub stops : (o r p q : Ordering) → (o ≡ Equal → ⊥) → o ≡ r → q ≡ ordering_then r p → o ≡ q
 stops a r p q n e f = grind arith
-
--- the trees of two rows of nodes
-pub nodes_seen : (xs ys cs ds : List Yaml) (us vs : List Tree) → xs ≡ cs → ys ≡ ds → items_view cs ≡ us → items_view ds ≡ vs
-    → list_cmp (items_view xs) (items_view ys) ≡ list_cmp us vs
-nodes_seen xs ys cs ds us vs p q d e = rw (p, q, d, e)

@@ -1,7 +1,7 @@
 -- Digests of keys: the ranks that they leave for a key, and how they stay those of their keys as pairs come and go.
-use Rattle.yaml_tree.proofs.Common.{[], ap, AreDigests, AreRanked, AreRising, arith, cases_lt, closed_up, digest, digest_at, digest_of_entry, digests, Entry, Few, first_by, get_or, Greater, HaveRising, inl, inr, insert, IsNarrowed, IsWindow, joined, Kept, key_at, key_cmp, key_of_rank, length, length-insert, length-map, length-remove, Less, List, Many, map, nat_tests, place_of_entry, places, remove, sym, Tree, tree_cmp, ℕ, ◌++◌, ◌+◌, ◌-◌, ◌<◌, ◌∙◌, ◌∷◌, ◌≡◌, ◌≤◌, ◌⊎◌}
-use Rattle.yaml_tree.proofs.Indexed.{digest_mapped}
-use Rattle.yaml_tree.proofs.Ranking.{Pairs, key_append_left, key_append_end, above_up_to, below_from_on, skip, skip_get, skip_within, removed_key, sides, before, here, beyond}
+use Rattle.yaml_tree.proofs.Common.{ap, AreDigests, AreRanked, AreRising, arith, cases_lt, closed_up, digest, digest_at, digest_of_entry, digests, Entry, Few, first_by, get_or, Greater, HaveRising, inl, inr, insert, IsWindow, joined, Kept, key_at, key_cmp, key_of_rank, length, length-insert, length-map, Less, List, Many, map, nat_tests, place_of_entry, places, refl, sym, Tree, tree_cmp, ◌+◌, ◌-◌, ◌<◌, ◌∙◌, ◌≡◌, ◌≤◌, ℕ}
+use Rattle.yaml_tree.proofs.Indexed.{number_mapped}
+use Rattle.yaml_tree.proofs.Ranking.{above_up_to, any_two, below_from_on, each_with, inserted_at, Pairs}
 
 -- ---- keys by their numbers
 
@@ -22,21 +22,16 @@ module _ (m : Tree → ℕ) (s t : Tree) where
 
 module _ (es : List Entry) (ps : Pairs) (digested : AreDigests (map digest_of_entry es) (map place_of_entry es) ps) where
   pub digested_key : (r : ℕ) → r < length es → digest_at es r ≡ digest (key_of_rank (map place_of_entry es) ps r)
-  digested_key r h = sym (digest_mapped es r) ∙ digested r (omega (arith, length-map es digest_of_entry))
+  digested_key r h = sym (number_mapped digest_of_entry es r) ∙ digested r (omega (arith, length-map es digest_of_entry))
 
   pub entries_rise : ((i j : ℕ) → i < j → j < length (map place_of_entry es)
       → key_cmp digest (key_of_rank (map place_of_entry es) ps i) (key_of_rank (map place_of_entry es) ps j) ≡ Less) → AreRising es
-  entries_rise ascending i j h g = by (cases_lt i j)
-    where
-      by : (i < j) ⊎ (j ≤ i) → digest_at es i ≤ digest_at es j
-      by (inl f) = omega (
-        arith,
-        digested_key i (omega arith),
-        digested_key j g,
-        numbers_rise digest (key_of_rank (map place_of_entry es) ps i) (key_of_rank (map place_of_entry es) ps j)
-            (ascending i j f (omega (arith, length-map es place_of_entry))),
-      )
-      by (inr f) = let same : i ≡ j = omega arith in omega (arith, ap (digest_at es) same)
+  entries_rise ascending i j h g =
+      let low = digested_key i (omega arith) in
+      let high = digested_key j g in
+      let rise = λ (f : i < j). numbers_rise digest (key_of_rank (map place_of_entry es) ps i) (key_of_rank (map place_of_entry es) ps j)
+      (ascending i j f (omega (arith, length-map es place_of_entry))) in
+      elim (cases_lt i j) [ inl f ↦ omega (arith, rise f) | inr f ↦ let same : i ≡ j = omega arith in omega (arith, ap (digest_at es) same) ]
 
 pub kept_digests_rise : (o : Kept) (ps : Pairs) → AreRanked (first_by o) (places o) ps → AreDigests (digests o) (places o) ps → HaveRising o
 kept_digests_rise (Few rs) ps a digested = tt
@@ -51,60 +46,84 @@ pub record AreLeft (m : Tree → ℕ) (k : Tree) (rs : List ℕ) (ps : Pairs) (r
   pub same : (r : ℕ) → rank ≤ r → r < rank + count → m (key_of_rank rs ps r) ≡ m k
   pub below : (r : ℕ) → rank + count ≤ r → r < length rs → key_cmp m k (key_of_rank rs ps r) ≡ Less
 
-module _ (k : Tree) (es : List Entry) (ps : Pairs) (rank count : ℕ) (a : AreRanked digest (map place_of_entry es) ps)
-    (digested : AreDigests (map digest_of_entry es) (map place_of_entry es) ps) (w : IsNarrowed es (digest k) rank count) where
-  all : length (map place_of_entry es) ≡ length es
-  all = length-map es place_of_entry
-
-  narrowed_above : (r : ℕ) → r < rank → key_cmp digest k (key_of_rank (map place_of_entry es) ps r) ≡ Greater
-  narrowed_above r h =
-      let last : rank - 1 < length es = omega (arith, w.within) in
-      let higher : digest (key_of_rank (map place_of_entry es) ps (rank - 1)) < digest k = omega (arith, w.below (rank - 1) (omega arith), digested_key es ps digested (rank - 1) last) in
-      above_up_to (map place_of_entry es) ps a k (rank - 1) (omega (arith, all)) (higher_digest digest k (key_of_rank (map place_of_entry es) ps (rank - 1)) higher) r (omega arith)
-
-  narrowed_same : (r : ℕ) → rank ≤ r → r < rank + count → digest (key_of_rank (map place_of_entry es) ps r) ≡ digest k
-  narrowed_same r h g = sym (digested_key es ps digested r (omega (arith, w.within))) ∙ w.inside r h g
-
-  narrowed_below : (r : ℕ) → rank + count ≤ r → r < length (map place_of_entry es) → key_cmp digest k (key_of_rank (map place_of_entry es) ps r) ≡ Less
-  narrowed_below r h g =
-      let next : rank + count < length es = omega (arith, all) in
-      let lower : digest k < digest (key_of_rank (map place_of_entry es) ps (rank + count)) = omega (arith, w.above next, digested_key es ps digested (rank + count) next) in
-      below_from_on (map place_of_entry es) ps a k (rank + count) (lower_digest digest k (key_of_rank (map place_of_entry es) ps (rank + count)) lower) r h g
-
 pub window_leaves : (o : Kept) (k : Tree) (ps : Pairs) (rank count : ℕ) → AreRanked (first_by o) (places o) ps → AreDigests (digests o) (places o) ps → IsWindow o k rank count
     → AreLeft (first_by o) k (places o) ps rank count
 window_leaves (Few rs) k ps rank count a digested w = grind arith
-window_leaves (Many b) k ps rank count a digested w = record {
-  within = omega (arith, w.within, length-map (joined b.value) place_of_entry);
-  above = narrowed_above k (joined b.value) ps rank count a digested w;
-  same = narrowed_same k (joined b.value) ps rank count a digested w;
-  below = narrowed_below k (joined b.value) ps rank count a digested w;
-}
+window_leaves (Many b) k ps rank count a digested w =
+    let es = joined b.value in
+    let rs = map place_of_entry es in
+    let all = length-map es place_of_entry in
+    record {
+      within = omega (arith, w.within);
+      above = λ r h.
+          let last = digested_key es ps digested (rank - 1) (omega (arith, w.within)) in
+          let higher = higher_digest digest k (key_of_rank rs ps (rank - 1)) (omega (arith, w.below (rank - 1) (omega arith))) in
+          above_up_to rs ps a k (rank - 1) (omega (arith, w.within)) higher r (omega arith);
+      same = λ r h g. sym (digested_key es ps digested r (omega (arith, w.within))) ∙ w.inside r h g;
+      below = λ r h g.
+          let next = digested_key es ps digested (rank + count) (omega arith) in
+          let lower = lower_digest digest k (key_of_rank rs ps (rank + count)) (omega (arith, w.above (omega arith))) in
+          below_from_on rs ps a k (rank + count) lower r h g;
+    }
+
+-- the key in the middle of what is left is not the key: what is left before it, and after it
+module _ {m : Tree → ℕ} {k : Tree} {rs : List ℕ} {ps : Pairs} (a : AreRanked m rs ps) {rank count : ℕ} (l : AreLeft m k rs ps rank count) (half : ℕ) {r : ℕ}
+    (at : r ≡ rank + half) (h : half < count) where
+  by_key : key_cmp m k (key_of_rank rs ps r) ≡ tree_cmp k (key_of_rank rs ps r)
+  by_key = same_digest m k (key_of_rank rs ps r) (l.same r (omega arith) (omega arith))
+
+  pub left_before : tree_cmp k (key_of_rank rs ps r) ≡ Less → AreLeft m k rs ps rank half
+  left_before e = record {
+    within = omega (arith, l.within);
+    above = l.above;
+    same = λ s f g. l.same s f (omega arith);
+    below = λ s f g. below_from_on rs ps a k r (by_key ∙ e) s (omega arith) g;
+  }
+
+  pub left_after : (next rest : ℕ) → next ≡ r + 1 → rest ≡ count - (half + 1) → tree_cmp k (key_of_rank rs ps r) ≡ Greater → AreLeft m k rs ps next rest
+  left_after next rest n c e = record {
+    within = omega (arith, l.within);
+    above = λ s f. above_up_to rs ps a k r (omega (arith, l.within)) (by_key ∙ e) s (omega arith);
+    same = λ s f g. l.same s (omega arith) (omega arith);
+    below = λ s f g. l.below s (omega arith) g;
+  }
 
 -- ---- pairs come, go and move
 
 pub digests_next : (ms rs : List ℕ) (ps : Pairs) (at m x : ℕ) → length ms ≡ length rs → at ≤ length rs → AreDigests ms rs ps → m ≡ digest (key_at ps x) → AreDigests (insert ms at m) (insert rs at x) ps
-digests_next ms rs ps at m x e h digested its s g = by s (omega (arith, g, length-insert ms at m (omega (arith, h, e)))) (sides s at)
+digests_next ms rs ps at m x e h digested its s g =
+    let more = length-insert ms at m (omega arith) in
+    let number = inserted_at ms at m (omega arith) s in
+    let place = inserted_at rs at x h s in
+    grind (arith, nat_tests, digested (closed_up at s))
+
+-- ---- the pairs of a short hash, put one by one in the order of their digests
+
+-- Ranks by digest, of the places that have the first r ranks by the order of trees alone.
+pub record AreSorted (rs fs : List ℕ) (ps : Pairs) (r : ℕ) : Type 0 where
+  pub counted : length rs ≡ r
+  pub within : (s : ℕ) → s < length rs → get_or rs s 0 < length ps
+  pub ascending : (s t : ℕ) → s < t → t < length rs → key_cmp digest (key_of_rank rs ps s) (key_of_rank rs ps t) ≡ Less
+  pub lower : (t : ℕ) → r ≤ t → t < length fs → (s : ℕ) → s < length rs → tree_cmp (key_of_rank rs ps s) (key_of_rank fs ps t) ≡ Less
+
+pub sorted_next : (rs fs : List ℕ) (ps : Pairs) (r at : ℕ) → AreSorted rs fs ps r → AreRanked (λ k. 0) fs ps → r < length fs → at ≤ length rs
+    → ((s : ℕ) → s < at → digest (key_of_rank rs ps s) ≤ digest (key_of_rank fs ps r))
+    → ((s : ℕ) → at ≤ s → s < length rs → digest (key_of_rank fs ps r) < digest (key_of_rank rs ps s))
+    → AreSorted (insert rs at (get_or fs r 0)) fs ps (r + 1)
+sorted_next rs fs ps r at a ranked inside h low high =
+    let more = length-insert rs at x h in
+    record {
+      counted = omega (arith, a.counted);
+      within = λ s l. each_with rs at x h (λ p. p < length ps) a.within (ranked.within r inside) s (omega arith);
+      ascending = λ s t f l. any_two rs at x h (λ p q. key_cmp digest (key_at ps p) (key_at ps q) ≡ Less) a.ascending below
+          (λ s l g. lower_digest digest (key_at ps x) (key_of_rank rs ps s) (high s l g)) s t f (omega arith);
+      lower = λ t g l s f.
+          let later = sym (same_digest (λ k. 0) (key_at ps x) (key_of_rank fs ps t) refl) ∙ ranked.ascending r t (omega arith) l in
+          each_with rs at x h (λ p. tree_cmp (key_at ps p) (key_of_rank fs ps t) ≡ Less) (λ s e. a.lower t (omega arith) l s e) later s (omega arith);
+    }
   where
-    inside : at ≤ length ms
-    inside = omega (arith, h, e)
+    x : ℕ
+    x = get_or fs r 0
 
-    same : (s t p q : ℕ) → p ≡ s → q ≡ t → s ≡ digest (key_at ps t) → p ≡ digest (key_at ps q)
-    same s t p q f g is = f ∙ is ∙ sym (ap (λ i. digest (key_at ps i)) g)
-
-    by : (s : ℕ) → s < length ms + 1 → (s < at) ⊎ ((s ≡ at) ⊎ (at < s)) → get_or (insert ms at m) s 0 ≡ digest (key_of_rank (insert rs at x) ps s)
-    by s l a = grind (arith, same, before, at, inside, x, h, here, its, beyond)
-
-pub digested_added : (ms rs : List ℕ) (ps : Pairs) (r m : ℕ) (k v : Tree) → length ms ≡ length rs → r ≤ length rs → length rs ≡ length ps → ((s : ℕ) → s < length rs → get_or rs s 0 < length ps)
-    → AreDigests ms rs ps → m ≡ digest k → AreDigests (insert ms r m) (insert rs r (length rs)) (ps ++ (k, v) ∷ [])
-digested_added ms rs ps r m k v l h n within digested its =
-    digests_next ms rs (ps ++ (k, v) ∷ []) r m (length rs) l h
-    (λ s g. digested s g ∙ sym (ap digest (key_append_left ps ((k, v) ∷ []) (get_or rs s 0) (within s (omega arith)))))
-    (its ∙ sym (ap digest (key_append_end ps k v (length rs) n)))
-
-pub digested_removed : {n : Tree → ℕ} (ms rs : List ℕ) (ps : Pairs) (r : ℕ) → length ms ≡ length rs → AreRanked n rs ps → r < length rs → AreDigests ms rs ps
-    → AreDigests (remove ms r) (map (closed_up (get_or rs r 0)) (remove rs r)) (remove ps (get_or rs r 0))
-digested_removed ms rs ps r l a h digested s g =
-    let within : s + 1 < length rs = omega (arith, l, length-remove ms r (omega arith)) in
-    skip_get ms r s (omega arith) ∙ digested (skip r s) (omega (arith, skip_within r s (length rs) within))
-    ∙ sym (ap digest (removed_key rs ps r a h s within))
+    below : (s : ℕ) → s < at → key_cmp digest (key_of_rank rs ps s) (key_at ps x) ≡ Less
+    below s l = grind (arith, x, lower_digest, same_digest, low, inside, h)

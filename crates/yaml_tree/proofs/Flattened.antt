@@ -12,9 +12,6 @@ paired-flat (p ∷ ps) = ap (λ qs. p ∷ qs) (paired-flat ps)
 pub pairs_from : (ts : List Tree) (ps : List (Tree × Tree)) → ts ≡ flat ps → paired ts ≡ ps
 pairs_from ts ps e = ap paired e ∙ paired-flat ps
 
-pub even_from : (ts : List Tree) (ps : List (Tree × Tree)) → ts ≡ flat ps → ts ≡ flat (paired ts)
-even_from ts ps e = e ∙ ap flat (sym (pairs_from ts ps e))
-
 pub length-flat : (ps : List (Tree × Tree)) → length (flat ps) ≡ 2 * length ps
 length-flat [] = refl
 length-flat (p ∷ ps) = omega (arith, length-flat ps)
@@ -32,12 +29,9 @@ value_in [] i n d e h = absurd (omega arith)
 value_in (p ∷ ps) i n d e h = grind (arith, value_in ps)
 
 flat-remove : (ps : List (Tree × Tree)) (i n : ℕ) → n ≡ 2 * i → i < length ps → remove (remove (flat ps) n) n ≡ flat (remove ps i)
-flat-remove [] i n e h = absurd (omega arith)
 flat-remove (p ∷ ps) zero zero e h = refl
-flat-remove (p ∷ ps) zero (suc n) e h = absurd (omega arith)
-flat-remove (p ∷ ps) (suc i) zero e h = absurd (omega arith)
-flat-remove (p ∷ ps) (suc i) (suc zero) e h = absurd (omega arith)
 flat-remove (p ∷ ps) (suc i) (suc (suc n)) e h = ap (λ ts. p.0 ∷ p.1 ∷ ts) (flat-remove ps i n (omega arith) (omega arith))
+flat-remove ps i n e h = absurd (omega arith)
 
 -- ---- nodes in a row
 
@@ -50,12 +44,10 @@ module _ (ys : List Yaml) (us : List (Tree × Tree)) (seen : items_view ys ≡ f
   row_length = omega (arith, length-map ys view, ap length seen, length-flat us)
 
   pub key_seen : (i : ℕ) (x : Yaml) → i < length us → x ≡ get_or ys (2 * i) x → view x ≡ key_at us i
-  key_seen i x h e =
-      at_place ys (2 * i) x (omega (arith, row_length)) e ∙ ap (λ ts. get_or ts (2 * i) (view x)) seen ∙ key_in us i (2 * i) (view x) refl h
+  key_seen i x h e = at_place ys (2 * i) x (omega (arith, row_length)) e ∙ rw seen (key_in us i (2 * i) (view x) refl h)
 
   pub value_seen : (i : ℕ) (x : Yaml) → i < length us → x ≡ get_or ys (2 * i + 1) x → Some (view x) ≡ value_at i us
-  value_seen i x h e =
-      ap Some (at_place ys (2 * i + 1) x (omega (arith, row_length)) e ∙ ap (λ ts. get_or ts (2 * i + 1) (view x)) seen) ∙ value_in us i (2 * i + 1) (view x) refl h
+  value_seen i x h e = ap Some (at_place ys (2 * i + 1) x (omega (arith, row_length)) e) ∙ rw seen (value_in us i (2 * i + 1) (view x) refl h)
 
   pub taken : (zs : List Yaml) (i : ℕ) → i < length us → zs ≡ remove (remove ys (2 * i)) (2 * i) → items_view zs ≡ flat (remove us i)
   taken zs i h e = rw (e, map-remove view (remove ys (2 * i)) (2 * i), map-remove view ys (2 * i), seen, flat-remove us i (2 * i) refl h)

@@ -1,19 +1,8 @@
 -- A search by halves: half of what is left has fewer binary digits.
 use Rattle.std.specs.Prelude.{nat_lt}
 use Rattle.std.proofs.Math.Nat.{pow-suc}
-use Rattle.yaml_tree.proofs.IndexCommon.{ap, arith, binary_digits, Bool, cases_lt, false, inl, inr, IsHalving, IsLeastExponent, ltb-false, ltb-true, suc, sym, true, zero, ℕ, ◌*◌, ◌+◌, ◌-◌, ◌/◌, ◌<◌, ◌^◌, ◌∙◌, ◌≡◌, ◌≤◌, ◌⊎◌}
+use Rattle.yaml_tree.proofs.IndexCommon.{ap, arith, binary_digits, Bool, cases_lt, false, inl, inr, IsHalving, ltb-false, ltb-true, sym, true, ℕ, ◌*◌, ◌+◌, ◌-◌, ◌/◌, ◌<◌, ◌^◌, ◌∙◌, ◌≡◌, ◌≤◌}
 use Rattle.defs_tree.proofs.DigitsLaws.{least_exponent}
-
-pub halved : (m n : ℕ) → 0 < n → m ≤ n / 2 → binary_digits m + 1 ≤ binary_digits n
-halved m n h e = from (binary_digits n) (least_exponent n)
-  where
-    from : (k : ℕ) → IsLeastExponent n k → binary_digits m + 1 ≤ k
-    from zero r = let low : n < 2 ^ 0 = r.0 in absurd (omega arith)
-    from (suc k) r =
-        let high : n < 2 ^ suc k = r.0 in
-        let half : m < 2 ^ k = omega (arith, pow-suc 2 k) in
-        let less : binary_digits m ≤ k = (least_exponent m).1 k half in
-        omega arith
 
 pub digits_rise : (m n : ℕ) → m ≤ n → binary_digits m ≤ binary_digits n
 digits_rise m n h = let high : n < 2 ^ binary_digits n = (least_exponent n).0 in (least_exponent m).1 (binary_digits n) (omega arith)
@@ -21,66 +10,68 @@ digits_rise m n h = let high : n < 2 ^ binary_digits n = (least_exponent n).0 in
 pub digits_some : (n : ℕ) → 0 < n → 0 < binary_digits n
 digits_some n h = grind (arith, (least_exponent n).0)
 
+twice : (n : ℕ) → 0 < n → 2 ^ binary_digits n ≡ 2 ^ (binary_digits n - 1) * 2
+twice n h = let some = digits_some n h in ap (λ k. 2 ^ k) (omega arith) ∙ pow-suc 2 (binary_digits n - 1)
+
+pub halved : (m n : ℕ) → 0 < n → m ≤ n / 2 → binary_digits m + 1 ≤ binary_digits n
+halved m n h e =
+    let high : n < 2 ^ binary_digits n = (least_exponent n).0 in
+    let less = (least_exponent m).1 (binary_digits n - 1) (omega (arith, twice n h)) in
+    omega (arith, digits_some n h)
+
 -- of two numbers, the first not 0, at least one has fewer binary digits than their sum
 pub digits_shared : (a b : ℕ) → 0 < a → binary_digits a + binary_digits b + 1 ≤ 2 * binary_digits (a + b)
-digits_shared a b h = from (binary_digits (a + b)) (least_exponent (a + b))
-  where
-    fewer : (k n : ℕ) → n < 2 ^ k → binary_digits n ≤ k
-    fewer k n less = (least_exponent n).1 k less
+digits_shared a b h =
+    let k = binary_digits (a + b) in
+    let high : a + b < 2 ^ k = (least_exponent (a + b)).0 in
+    let two = twice (a + b) (omega arith) in
+    let some = digits_some (a + b) (omega arith) in
+    elim (cases_lt a (2 ^ (k - 1))) [
+      | inl less ↦ omega (arith, (least_exponent a).1 (k - 1) less, digits_rise b (a + b) (omega arith))
+      | inr more ↦ omega (arith, (least_exponent b).1 (k - 1) (omega arith), digits_rise a (a + b) (omega arith))
+    ]
 
-    either : (k : ℕ) → a + b < 2 ^ suc k → (a < 2 ^ k) ⊎ (2 ^ k ≤ a) → binary_digits a + binary_digits b + 1 ≤ 2 * suc k
-    either k r (inl less) = omega (arith, fewer k a less, fewer (suc k) b (omega (arith, r)))
-    either k r (inr more) =
-        let rest : b < 2 ^ k = omega (arith, r, more, pow-suc 2 k) in
-        omega (arith, fewer k b rest, fewer (suc k) a (omega (arith, r)))
+-- So many comparisons were made at first, and now; what is left by halves may cost no more than so many in all.
+pub record IsCounting (first most now left : ℕ) : Type 0 where
+  pub counted : first ≤ now
+  pub within : now + binary_digits left ≤ first + most
 
-    from : (k : ℕ) → IsLeastExponent (a + b) k → binary_digits a + binary_digits b + 1 ≤ 2 * k
-    from zero r = let low : a + b < 2 ^ 0 = r.0 in absurd (omega arith)
-    from (suc k) r = either k r.0 (cases_lt a (2 ^ k))
+pub counting_more : {first most now left : ℕ} (later rest : ℕ) → IsCounting first most now left → 0 < left → rest ≤ left / 2 → later ≡ now + 1
+    → IsCounting first most later rest
+counting_more {left = left} later rest i some half more = record { counted = omega (arith, i.counted); within = omega (arith, i.within, halved rest left some half) }
 
--- a search that began at the count `first` and may count so many has come to stand between low and high; what it may still
--- count is kept in mind
+-- a search that counts so has come to stand between low and high
 pub record IsSearch (f : ℕ → ℕ) (n most m first now low high : ℕ) : Type 0 where
   pub halving : IsHalving f n m low high
-  pub counted : first ≤ now
-  pub within : now + binary_digits (high - low) ≤ first + most
+  pub counting : IsCounting first most now (high - low)
 
 abbrev pub middle : ℕ → ℕ → ℕ
 middle low high = low + (high - low) / 2
 
-pub middle_within : {f : ℕ → ℕ} {n most m first now low high : ℕ} → IsSearch f n most m first now low high → low < high → middle low high < n
-middle_within i test = omega (arith, i.halving.within, test)
+module _ {f : ℕ → ℕ} {n most m first now low high : ℕ} (i : IsSearch f n most m first now low high) (test : low < high) where
+  pub middle_within : middle low high < n
+  middle_within = omega (arith, i.halving.within)
 
--- where the number in the middle is below, the search goes on after it
-pub search_after : {f : ℕ → ℕ} {n most m first now later low high d : ℕ} {b : Bool} → IsSearch f n most m first now low high → low < high
-    → b ≡ nat_lt d m → b ≡ true → d ≡ f (middle low high) → later ≡ now + 1 → IsSearch f n most m first later (middle low high + 1) high
-search_after {f} {n} {most} {m} {first} {now} {later} {low} {high} {d} i test order is got count =
-    let less : d < m = ltb-true d m (sym order ∙ is) in
-    let fewer = halved (high - (middle low high + 1)) (high - low) (omega (arith, test)) (omega (arith, test)) in
-    record {
-      halving = record {
-        ordered = omega (arith, test);
-        within = i.halving.within;
-        below = λ k e. let same : k ≡ middle low high = omega arith in omega (arith, ap f same, got, less);
-        from = i.halving.from;
-      };
-      counted = omega (arith, i.counted, count);
-      within = omega (arith, i.within, count, fewer);
-    }
+  module _ {later d : ℕ} {b : Bool} (order : b ≡ nat_lt d m) (got : d ≡ f (middle low high)) (count : later ≡ now + 1) where
+    -- where the number in the middle is below, the search goes on after it
+    pub search_after : b ≡ true → IsSearch f n most m first later (middle low high + 1) high
+    search_after is =
+        let less : d < m = ltb-true d m (sym order ∙ is) in
+        record {
+          halving = record {
+            ordered = omega arith;
+            within = i.halving.within;
+            below = λ k e. let same : k ≡ middle low high = omega arith in omega (arith, ap f same);
+            from = i.halving.from;
+          };
+          counting = counting_more later (high - (middle low high + 1)) i.counting (omega arith) (omega arith) count;
+        }
 
--- where it is not, the search goes on before it
-pub search_before : {f : ℕ → ℕ} {n most m first now later low high d : ℕ} {b : Bool} → IsSearch f n most m first now low high → low < high
-    → b ≡ nat_lt d m → b ≡ false → d ≡ f (middle low high) → later ≡ now + 1 → IsSearch f n most m first later low (middle low high)
-search_before {f} {n} {most} {m} {first} {now} {later} {low} {high} {d} i test order is got count =
-    let more : m ≤ d = ltb-false d m (sym order ∙ is) in
-    let fewer = halved (middle low high - low) (high - low) (omega (arith, test)) (omega (arith, test)) in
-    record {
-      halving = record {
-        ordered = omega (arith, test);
-        within = omega (arith, test, i.halving.within);
-        below = i.halving.below;
-        from = λ h. omega (arith, got, more);
-      };
-      counted = omega (arith, i.counted, count);
-      within = omega (arith, i.within, count, fewer);
-    }
+    -- where it is not, the search goes on before it
+    pub search_before : b ≡ false → IsSearch f n most m first later low (middle low high)
+    search_before is =
+        let more : m ≤ d = ltb-false d m (sym order ∙ is) in
+        record {
+          halving = record { ordered = omega arith; within = omega (arith, i.halving.within); below = i.halving.below; from = λ h. omega arith };
+          counting = counting_more later (middle low high - low) i.counting (omega arith) (omega arith) count;
+        }

@@ -1,16 +1,13 @@
 -- Places and digests of a hash, as blocks or few keep them.
 use Rattle.std.proofs.Common.{take}
 use Rattle.std.proofs.lemmas.List.{drop-map, map-append, take-map}
-use Rattle.yaml_tree.proofs.Common.{[], arith, digest_at, digest_of_entry, digests, drop, Entry, Few, get_or, HasPlace, HasSpot, insert, joined, Kept, length, length-map, List, Many, map, place_at, place_of_entry, places, rank_at, rank_inside, refl, remove, suc, ℕ, ◌+◌, ◌<◌, ◌∷◌, ◌≡◌, ◌≤◌}
+use Rattle.yaml_tree.proofs.Common.{[], arith, digest_of_entry, digests, drop, Entry, Few, get_or, HasPlace, HasSpot, insert, joined, Kept, length, length-map, List, Many, map, place_of_entry, places, rank_at, rank_inside, refl, remove, suc, ℕ, ◌+◌, ◌<◌, ◌∷◌, ◌≡◌, ◌≤◌}
+use Rattle.yaml_tree.specs.Edges.{number_at}
 use Rattle.yaml_tree.specs.declared.entry.Spot.{Spot}
 
-pub digest_mapped : (es : List Entry) (i : ℕ) → get_or (map digest_of_entry es) i 0 ≡ digest_at es i
-digest_mapped [] i = refl
-digest_mapped (e ∷ es) i = grind (arith, digest_mapped es)
-
-pub place_mapped : (es : List Entry) (i : ℕ) → place_at es i ≡ get_or (map place_of_entry es) i 0
-place_mapped [] i = refl
-place_mapped (e ∷ es) i = grind (arith, place_mapped es)
+pub number_mapped : (f : Entry → ℕ) (es : List Entry) (i : ℕ) → get_or (map f es) i 0 ≡ number_at f es i
+number_mapped f [] i = refl
+number_mapped f (e ∷ es) i = grind (arith, number_mapped f es)
 
 pub digests_counted : (k : Kept) → length (digests k) ≤ length (places k)
 digests_counted (Few ps) = omega arith
@@ -32,10 +29,9 @@ next_spot a b o h = grind arith
 pub next_rank : (k : Kept) (b o : ℕ) → rank_at k (record { block = b; offset = o + 1 }) ≡ rank_at k (record { block = b; offset = o }) + 1
 next_rank a b o = grind arith
 
-pub place_inside : (k : Kept) (s : Spot) → HasPlace k s → rank_at k s < length (places k)
-place_inside (Few ps) s h = h
-place_inside (Many x) s h = omega (arith, rank_inside x.value s.block s.offset h.1, length-map (joined x.value) place_of_entry)
-
-pub offset_inside : (k : Kept) (s : Spot) → HasPlace k s → s.offset < length (places k)
-offset_inside (Few ps) s h = h
-offset_inside (Many x) s h = omega (arith, rank_inside x.value s.block s.offset h.1, length-map (joined x.value) place_of_entry)
+pub place_inside : (k : Kept) (s : Spot) → HasPlace k s → (rank_at k s < length (places k)) × (s.offset < length (places k))
+place_inside (Few ps) s h = (h, h)
+place_inside (Many x) s h =
+    let inside = rank_inside x.value s.block s.offset h.1 in
+    let all = length-map (joined x.value) place_of_entry in
+    (omega arith, omega arith)

@@ -1,5 +1,6 @@
 -- Blocks as one row: what is at a spot, and what a change of a block does to the row.
-use Rattle.yaml_tree.proofs.IndexCommon.{[], ap, append-nil, append_assoc, AreFilled, AreRising, arith, cases_lt, digest_at, drop, drop_all, Entry, get_or, get_or_default, halved, head_at, inl, inr, insert, insert-append_left, insert-append_right, insert_end, IsEdge, IsNarrowed, joined, length, length-append, length-drop, length-insert, length-map, length-set, length-take, List, map, map-append, number_at, refl, remove, remove-append_left, remove-append_right, set, start, suc, sym, take, take-append-drop, take_all, take_at, zero, ℕ, ◌++◌, ◌+◌, ◌-◌, ◌<◌, ◌∙◌, ◌∷◌, ◌≡◌, ◌≤◌, ◌⊎◌}
+use Rattle.yaml_tree.proofs.IndexCommon.{[], ap, append-nil, append_assoc, AreFilled, AreRising, arith, binary_digits, cases_lt, digest_at, drop, drop_all, Entry, get_or, get_or-insert_below, get_or_default, halved, head_at, inl, inr, insert, insert-append_left, insert-append_right, insert_end, IsEdge, IsNarrowed, joined, length, length-append, length-insert, length-map, length-set, length-take, List, map, map-append, number_at, refl, remove, remove-append_left, remove-append_right, set, start, suc, sym, take, take-append-drop, take_all, take_at, zero, ℕ, ◌++◌, ◌+◌, ◌-◌, ◌<◌, ◌∙◌, ◌∷◌, ◌≡◌, ◌≤◌}
+use Rattle.yaml_tree.proofs.Halving.{digits_some}
 
 -- ---- entries by number
 
@@ -20,6 +21,9 @@ number_right f (e ∷ es) fs i n h = grind (arith, number_right f es fs)
 pub start_all : (bs : List (List Entry)) (n : ℕ) → length bs ≤ n → start bs n ≡ length (joined bs)
 start_all [] n h = refl
 start_all (b ∷ bs) n h = grind (arith, start_all bs, length-append b (joined bs))
+
+pub not_past : (bs : List (List Entry)) (i j : ℕ) → start bs i + j < length (joined bs) → i < length bs
+not_past bs i j h = grind (arith, cases_lt i (length bs), start_all)
 
 pub start_within : (bs : List (List Entry)) (n : ℕ) → start bs n ≤ length (joined bs)
 start_within [] n = omega arith
@@ -50,40 +54,33 @@ pub digest_in : (bs : List (List Entry)) (i j : ℕ) → i < length bs → j < l
 digest_in bs i j h g = number_in (λ e. e.digest) bs i j h g
 
 -- what is read at a spot
-pub block_read : (xs bs : List (List Entry)) (i : ℕ) (b : List Entry) → xs ≡ bs → i < length bs → b ≡ get_or xs i b → b ≡ get_or bs i []
-block_read xs bs i b v h e = e ∙ ap (λ ys. get_or ys i b) v ∙ get_or_default bs i b [] h
+pub block_read : {xs bs : List (List Entry)} {i : ℕ} {b : List Entry} → xs ≡ bs → i < length bs → b ≡ get_or xs i b → b ≡ get_or bs i []
+block_read {bs = bs} {i = i} {b = b} v h e = e ∙ ap (λ ys. get_or ys i b) v ∙ get_or_default bs i b [] h
 
-pub spot_digest : (xs bs : List (List Entry)) (i j d : ℕ) (b : List Entry) → xs ≡ bs → i < length bs → b ≡ get_or xs i b → j < length b
-    → d ≡ digest_at b j
-    → digest_at (joined bs) (start bs i + j) ≡ d
-spot_digest xs bs i j d b v h e g is =
-    let read = block_read xs bs i b v h e in
-    digest_in bs i j h (omega (arith, g, ap length read)) ∙ sym (is ∙ ap (λ b. digest_at b j) read)
+module _ {xs bs : List (List Entry)} {i : ℕ} {b : List Entry} (v : xs ≡ bs) (h : i < length bs) (e : b ≡ get_or xs i b) where
+  pub spot_digest : (j : ℕ) {d : ℕ} → j < length b → d ≡ digest_at b j → digest_at (joined bs) (start bs i + j) ≡ d
+  spot_digest j g is =
+      let read = block_read v h e in
+      digest_in bs i j h (omega (arith, ap length read)) ∙ sym (is ∙ ap (λ b. digest_at b j) read)
 
--- after the last entry of a block comes the first of the next
-pub next_digest : (xs bs : List (List Entry)) (i j d : ℕ) (b c : List Entry) → xs ≡ bs → AreFilled bs → i + 1 < length bs
-    → b ≡ get_or xs i b → length b ≡ j
-    → c ≡ get_or xs (i + 1) c → d ≡ digest_at c 0 → digest_at (joined bs) (start bs i + j) ≡ d
-next_digest xs bs i j d b c v a h e end f is =
-    let next = start_next bs i (i + 1) (omega arith) in
-    let read = ap length (block_read xs bs i b v (omega arith) e) in
-    let some : 0 < length c = omega (arith, a (i + 1) h, ap length (block_read xs bs (i + 1) c v h f)) in
-    ap (digest_at (joined bs)) (omega (arith, next, read, end)) ∙ spot_digest xs bs (i + 1) 0 d c v h f some is
+  -- after the last block there are no entries
+  pub last_block : length bs ≡ suc i → start bs i + length b ≡ length (joined bs)
+  last_block last = omega (arith, ap length (block_read v h e), start_next bs i (suc i) refl, start_all bs (suc i) (omega arith))
 
--- after the last block there are no entries
-pub last_block : (xs bs : List (List Entry)) (i : ℕ) (b : List Entry) → xs ≡ bs → length bs ≡ suc i → b ≡ get_or xs i b
-    → start bs i + length b ≡ length (joined bs)
-last_block xs bs i b v h e =
-    omega (arith, ap length (block_read xs bs i b v (omega arith) e), start_next bs i (suc i) refl, start_all bs (suc i) (omega arith))
+  -- after the last entry of a block comes the first of the next
+  pub next_digest : {d : ℕ} {c : List Entry} → AreFilled bs → i + 1 < length bs → c ≡ get_or xs (i + 1) c → d ≡ digest_at c 0
+      → digest_at (joined bs) (start bs i + length b) ≡ d
+  next_digest {d} {c} a next f is =
+      let other = block_read v next f in
+      ap (digest_at (joined bs)) (omega (arith, start_next bs i (i + 1) (omega arith), ap length (block_read v h e)))
+      ∙ digest_in bs (i + 1) 0 next (a (i + 1) next) ∙ sym (is ∙ ap (λ b. digest_at b 0) other)
 
 -- ---- a change of one block
 
 pub joined_insert : (bs : List (List Entry)) (i j : ℕ) (e : Entry) → i < length bs → j ≤ length (get_or bs i []) → joined (set bs i (insert (get_or bs i []) j e)) ≡ insert (joined bs) (start bs i + j) e
 joined_insert [] i j e h g = absurd (omega arith)
-joined_insert (b ∷ bs) zero j e h g = sym (insert-append_left b (joined bs) j e g) ∙ ap (λ n. insert (b ++ joined bs) n e) (omega arith)
-joined_insert (b ∷ bs) (suc i) j e h g =
-    ap (λ es. b ++ es) (joined_insert bs i j e (omega arith) g ∙ ap (λ n. insert (joined bs) n e) (omega arith))
-    ∙ sym (insert-append_right b (joined bs) (length b) (length b + start bs i + j) e refl (omega arith))
+joined_insert (b ∷ bs) zero j e h g = grind (arith, insert-append_left b (joined bs) j e)
+joined_insert (b ∷ bs) (suc i) j e h g = grind (arith, joined_insert bs i j e, insert-append_right b (joined bs) (length b) (length b + start bs i + j) e)
 
 pub joined_push : (bs : List (List Entry)) (e : Entry) (n : ℕ) → n ≡ length (joined bs) → joined (bs ++ (e ∷ []) ∷ []) ≡ insert (joined bs) n e
 joined_push bs e n h = at_end bs ∙ sym (insert_end (joined bs) e) ∙ ap (λ m. insert (joined bs) m e) (sym h)
@@ -94,68 +91,37 @@ joined_push bs e n h = at_end bs ∙ sym (insert_end (joined bs) e) ∙ ap (λ m
 
 pub joined_remove : (bs : List (List Entry)) (i j : ℕ) → i < length bs → j < length (get_or bs i []) → joined (set bs i (remove (get_or bs i []) j)) ≡ remove (joined bs) (start bs i + j)
 joined_remove [] i j h g = absurd (omega arith)
-joined_remove (b ∷ bs) zero j h g = sym (remove-append_left b (joined bs) j g) ∙ ap (remove (b ++ joined bs)) (omega arith)
-joined_remove (b ∷ bs) (suc i) j h g =
-    ap (λ es. b ++ es) (joined_remove bs i j (omega arith) g ∙ ap (remove (joined bs)) (omega arith))
-    ∙ sym (remove-append_right b (joined bs) (length b) (length b + start bs i + j) refl (omega arith))
+joined_remove (b ∷ bs) zero j h g = grind (arith, remove-append_left b (joined bs) j)
+joined_remove (b ∷ bs) (suc i) j h g = grind (arith, joined_remove bs i j, remove-append_right b (joined bs) (length b) (length b + start bs i + j))
 
 -- a block of one entry goes
 pub joined_without : (bs : List (List Entry)) (i n : ℕ) → i < length bs → length (get_or bs i []) ≡ 1 → n ≡ start bs i → joined (remove bs i) ≡ remove (joined bs) n
 joined_without [] i n h one e = absurd (omega arith)
-joined_without ([] ∷ bs) zero n h one e = absurd (omega arith)
 joined_without ((x ∷ []) ∷ bs) zero n h one e = ap (remove (x ∷ joined bs)) (sym e)
-joined_without ((x ∷ y ∷ b) ∷ bs) zero n h one e = absurd (omega arith)
-joined_without (b ∷ bs) (suc i) n h one e =
-    ap (λ es. b ++ es) (joined_without bs i (n - length b) (omega arith) one (omega (arith, e)))
-    ∙ sym (remove-append_right b (joined bs) (length b) n refl (omega (arith, e)))
+joined_without (b ∷ bs) (suc i) n h one e = grind (arith, joined_without bs i (n - length b), remove-append_right b (joined bs) (length b) n)
+joined_without (b ∷ bs) zero n h one e = absurd (omega arith)
 
 -- ---- a block becomes two
 
 pub joined_halved : (bs : List (List Entry)) (i n h : ℕ) → n ≡ suc i → i < length bs → joined (halved bs i n h) ≡ joined bs
-joined_halved [] i n h e g = absurd (omega arith)
-joined_halved (b ∷ bs) i zero h e g = absurd (omega arith)
 joined_halved (b ∷ bs) zero (suc n) h e g = grind (arith, append_assoc (take h b) (drop h b) (joined bs), take-append-drop h b)
 joined_halved (b ∷ bs) (suc i) (suc n) h e g = grind (arith, joined_halved bs)
+joined_halved bs i n h e g = absurd (omega arith)
 
 pub start_halved : (bs : List (List Entry)) (i n h : ℕ) → n ≡ suc i → i < length bs → start (halved bs i n h) i ≡ start bs i
-start_halved [] i n h e g = absurd (omega arith)
-start_halved (b ∷ bs) i zero h e g = absurd (omega arith)
 start_halved (b ∷ bs) i (suc n) h e g = grind (arith, start_halved bs)
+start_halved bs i n h e g = absurd (omega arith)
 
 pub first_halved : (bs : List (List Entry)) (i n h : ℕ) → n ≡ suc i → i < length bs → get_or (halved bs i n h) i [] ≡ take h (get_or bs i [])
-first_halved [] i n h e g = absurd (omega arith)
-first_halved (b ∷ bs) i zero h e g = absurd (omega arith)
 first_halved (b ∷ bs) i (suc n) h e g = grind (arith, first_halved bs)
-
-pub second_halved : (bs : List (List Entry)) (i n h : ℕ) → n ≡ suc i → i < length bs → get_or (halved bs i n h) n [] ≡ drop h (get_or bs i [])
-second_halved [] i n h e g = absurd (omega arith)
-second_halved (b ∷ bs) i zero h e g = absurd (omega arith)
-second_halved (b ∷ bs) i (suc n) h e g = grind (arith, second_halved bs)
+first_halved bs i n h e g = absurd (omega arith)
 
 pub length-halved : (bs : List (List Entry)) (i n h : ℕ) → n ≡ suc i → i < length bs → length (halved bs i n h) ≡ length bs + 1
 length-halved bs i n h e g = length-insert (set bs i (take h (get_or bs i []))) n (drop h (get_or bs i [])) (omega (arith, length-set bs i (take h (get_or bs i [])))) ∙ ap (λ m. m + 1) (length-set bs i (take h (get_or bs i [])))
 
--- a spot of the old block stands in the first half or in the second
-pub record IsMoved (bs cs : List (List Entry)) (i j k l : ℕ) : Type 0 where
-  pub block : k ≤ length cs
-  pub offset : l ≤ length (get_or cs k [])
-  pub same : start cs k + l ≡ start bs i + j
-
-pub spot_first : (bs cs : List (List Entry)) (i n j h : ℕ) → n ≡ suc i → i < length bs → cs ≡ halved bs i n h → j ≤ h → h ≤ length (get_or bs i []) → IsMoved bs cs i j i j
-spot_first bs cs i n j h e g is a b = record {
-  block = omega (arith, ap length is, length-halved bs i n h e g);
-  offset = omega (arith, ap (λ xs. length (get_or xs i [])) is, ap length (first_halved bs i n h e g), length-take h (get_or bs i []));
-  same = omega (arith, ap (λ xs. start xs i) is, start_halved bs i n h e g);
-}
-
-pub spot_second : (bs cs : List (List Entry)) (i n j h : ℕ) → n ≡ suc i → i < length bs → cs ≡ halved bs i n h → h ≤ j → j ≤ length (get_or bs i []) → IsMoved bs cs i j n (j - h)
-spot_second bs cs i n j h e g is a b =
-    let next = start_next (halved bs i n h) i n e in
-    record {
-      block = omega (arith, ap length is, length-halved bs i n h e g);
-      offset = omega (arith, ap (λ xs. length (get_or xs n [])) is, ap length (second_halved bs i n h e g), length-drop h (get_or bs i []));
-      same = omega (arith, ap (λ xs. start xs n) is, next, start_halved bs i n h e g, ap length (first_halved bs i n h e g), length-take h (get_or bs i []));
-    }
+pub start_second : (bs : List (List Entry)) (i n h : ℕ) → n ≡ suc i → i < length bs → h ≤ length (get_or bs i []) → start (halved bs i n h) n ≡ start bs i + h
+start_second bs i n h e g l =
+    omega (arith, start_next (halved bs i n h) i n e, start_halved bs i n h e g, ap length (first_halved bs i n h e g), length-take h (get_or bs i []))
 
 -- ---- every entry is changed
 
@@ -177,6 +143,9 @@ pub filled_counted : (bs : List (List Entry)) → AreFilled bs → length bs ≤
 filled_counted [] a = omega arith
 filled_counted (b ∷ bs) a = omega (arith, a 0 (omega arith), filled_counted bs (λ i h. a (suc i) (omega arith)), length-append b (joined bs))
 
+pub filled_digits : (bs : List (List Entry)) → AreFilled bs → 0 < length bs → 0 < binary_digits (length (joined bs))
+filled_digits bs a h = digits_some (length (joined bs)) (omega (arith, filled_counted bs a))
+
 -- the other blocks have at least one entry each
 pub filled_beside : (bs : List (List Entry)) (i : ℕ) → AreFilled bs → i < length bs → length bs + length (get_or bs i []) ≤ length (joined bs) + 1
 filled_beside [] i a h = absurd (omega arith)
@@ -186,11 +155,10 @@ filled_beside (b ∷ bs) (suc i) a h = omega (arith, a 0 (omega arith), filled_b
 -- ---- where digests reach a number
 
 pub edge_first : (bs : List (List Entry)) (m k : ℕ) → AreFilled bs → IsEdge (head_at bs) (length bs) m k → k ≡ 0 → IsEdge (digest_at (joined bs)) (length (joined bs)) m (start bs 0 + 0)
-edge_first [] m k a heads e = record { counted = omega arith; below = λ i f. absurd (omega arith); from = λ h. absurd (omega arith) }
-edge_first (b ∷ bs) m k a heads e = record {
-  counted = omega arith;
-  below = λ i f. absurd (omega arith);
-  from = λ h. omega (arith, digest_in (b ∷ bs) 0 0 (omega arith) (a 0 (omega arith)), heads.from (omega arith), ap (head_at (b ∷ bs)) e);
+edge_first bs m k a heads e = record {
+  counted = rank_within bs 0 0 (omega arith);
+  below = λ i f. absurd (omega (arith, start_zero bs));
+  from = λ h. let some = not_past bs 0 0 h in omega (arith, digest_in bs 0 0 some (a 0 some), heads.from (omega arith), ap (head_at bs) e);
 }
 
 pub edge_joined : (bs : List (List Entry)) (m k i j : ℕ) → AreFilled bs → IsEdge (head_at bs) (length bs) m k → k ≡ suc i
@@ -198,7 +166,13 @@ pub edge_joined : (bs : List (List Entry)) (m k i j : ℕ) → AreFilled bs → 
 edge_joined bs m k i j a heads e inside = record {
   counted = rank_within bs i j inside.counted;
   below = λ r f. low j inside r f;
-  from = λ h. by h (cases_lt j (length (get_or bs i [])));
+  from = λ h. elim (cases_lt j (length (get_or bs i []))) [
+    | inl g ↦ omega (arith, digest_in bs i j there g, inside.from g)
+    | inr g ↦
+        let same : start bs i + j ≡ start bs k + 0 = omega (arith, start_next bs i k e, inside.counted) in
+        let next = not_past bs k 0 (omega arith) in
+        omega (arith, ap (digest_at (joined bs)) same, digest_in bs k 0 next (a k next), heads.from next)
+  ];
 }
   where
     there : i < length bs
@@ -210,16 +184,6 @@ edge_joined bs m k i j a heads e inside = record {
         let same : r ≡ start bs i + j = omega arith in
         omega (arith, ap (digest_at (joined bs)) same, digest_in bs i j there (omega (arith, inside.counted)), inside.below j refl)
 
-    next : (k < length bs) ⊎ (length bs ≤ k) → length (get_or bs i []) ≤ j → start bs i + j < length (joined bs) → m ≤ digest_at (joined bs) (start bs i + j)
-    next (inl g) l h =
-        let same : start bs i + j ≡ start bs k + 0 = omega (arith, start_next bs i k e, inside.counted) in
-        omega (arith, ap (digest_at (joined bs)) same, digest_in bs k 0 g (a k g), heads.from g)
-    next (inr g) l h = absurd (omega (arith, start_next bs i k e, start_all bs k g, inside.counted))
-
-    by : start bs i + j < length (joined bs) → (j < length (get_or bs i [])) ⊎ (length (get_or bs i []) ≤ j) → m ≤ digest_at (joined bs) (start bs i + j)
-    by h (inl g) = omega (arith, digest_in bs i j there g, inside.from g)
-    by h (inr g) = next (cases_lt k (length bs)) g h
-
 pub edges_rise : (es : List Entry) (m n j k : ℕ) → AreRising es → IsEdge (digest_at es) (length es) m j → IsEdge (digest_at es) (length es) n k → m ≤ n → j ≤ k
 edges_rise es m n zero k a d e h = omega arith
 edges_rise es m n (suc j) k a d e h = grind (arith, cases_lt k (suc j), d.below j refl, a k j)
@@ -227,16 +191,14 @@ edges_rise es m n (suc j) k a d e h = grind (arith, cases_lt k (suc j), d.below 
 -- between the first entry with a digest and the first with a higher one, all have this digest
 pub edges_narrow : (es : List Entry) (m n j k count : ℕ) → AreRising es → IsEdge (digest_at es) (length es) m j → IsEdge (digest_at es) (length es) n k → n ≡ m + 1 → j + count ≡ k
     → IsNarrowed es m j count
-edges_narrow es m n j k count a d e next c = record { within = omega (arith, e.counted); below = d.below; inside = same; above = after }
-  where
-    last : (i l : ℕ) → i ≤ l → suc l ≡ k → digest_at es i < n
-    last i l h f = omega (arith, e.below l f, a i l h (omega (arith, e.counted)))
-
-    same : (i : ℕ) → j ≤ i → i < j + count → digest_at es i ≡ m
-    same i h g = omega (arith, d.from (omega (arith, e.counted)), a j i h (omega (arith, e.counted)), last i (k - 1) (omega arith) (omega arith))
-
-    after : j + count < length es → m < digest_at es (j + count)
-    after h = omega (arith, ap (digest_at es) c, e.from (omega arith))
+edges_narrow es m n j k count a d e next c = record {
+  within = omega (arith, e.counted);
+  below = d.below;
+  inside = λ i h g.
+      let last = a i (k - 1) (omega arith) (omega (arith, e.counted)) in
+      omega (arith, d.from (omega (arith, e.counted)), a j i h (omega (arith, e.counted)), e.below (k - 1) (omega arith));
+  above = λ h. omega (arith, ap (digest_at es) c, e.from (omega arith));
+}
 
 -- no entry from the first with a digest on has it
 pub edge_past : (es : List Entry) (m j : ℕ) → IsEdge (digest_at es) (length es) m j → (j < length es → m < digest_at es j) → IsNarrowed es m j 0
@@ -250,33 +212,22 @@ edge_past es m j d h = record {
 -- ---- changes of a list of blocks
 
 pub set_before : (bs : List (List Entry)) (i n : ℕ) (b u : List Entry) → n ≡ suc i → i < length bs → set (insert bs n u) i b ≡ insert (set bs i b) n u
-set_before [] i n b u e h = absurd (omega arith)
-set_before (c ∷ bs) i zero b u e h = absurd (omega arith)
 set_before (c ∷ bs) i (suc n) b u e h = grind (arith, set_before bs)
-
-pub get_before : (bs : List (List Entry)) (i n : ℕ) (u d : List Entry) → i < n → i < length bs → get_or (insert bs n u) i d ≡ get_or bs i d
-get_before [] i n u d e h = absurd (omega arith)
-get_before (c ∷ bs) i zero u d e h = absurd (omega arith)
-get_before (c ∷ bs) i (suc n) u d e h = grind (arith, get_before bs)
+set_before bs i n b u e h = absurd (omega arith)
 
 -- a block's upper half is put after it, and it keeps the lower one
-pub halved_made : (xs ys : List (List Entry)) (i n h : ℕ) (upper whole lower : List Entry) → n ≡ suc i → i < length xs → ys ≡ insert xs n upper
-    → upper ≡ drop h (get_or xs i []) → whole ≡ get_or ys i whole → lower ≡ take h whole → set ys i lower ≡ halved xs i n h
-halved_made xs ys i n h upper whole lower e l put u w low =
-    ap (λ zs. set zs i lower) put
-    ∙ set_before xs i n lower upper e l
-    ∙ ap (λ b. insert (set xs i b) n upper) (low ∙ ap (take h) (block_read ys (insert xs n upper) i whole put (omega (arith, l, e, length-insert xs n upper (omega (arith, l, e)))) w ∙ get_before xs i n upper [] (omega (arith, e)) l))
-    ∙ ap (insert (set xs i (take h (get_or xs i []))) n) u
+pub halved_made : (xs : List (List Entry)) {ys : List (List Entry)} (i h : ℕ) {upper whole lower : List Entry} → i < length xs → ys ≡ insert xs (i + 1) upper
+    → upper ≡ drop h (get_or xs i []) → whole ≡ get_or ys i whole → lower ≡ take h whole → set ys i lower ≡ halved xs i (i + 1) h
+halved_made xs {ys} i h {upper} {whole} {lower} l put u w low =
+    let next : i + 1 ≡ suc i = omega arith in
+    let read = block_read put (omega (arith, length-insert xs (i + 1) upper (omega arith))) w ∙ get_or-insert_below xs (i + 1) upper [] i (omega arith) (omega arith) in
+    rw (put, set_before xs i (i + 1) lower upper next l, low, read, u) refl
 
 pub lent_back : {X : Type 0} (n : ℕ) (xs ys : List X) → length xs ≡ n → take n (xs ++ drop (length xs) ys) ≡ xs
 lent_back n xs ys e = take_at xs (drop (length xs) ys) n e
 
 -- of a loop over all blocks that has come to its end
-pub all_lent : (f : List Entry → List Entry) (n len : ℕ) (xs ws ys : List (List Entry)) → length ys ≡ length ws → length ws ≡ len
-    → length ws ≤ n
-    → ys ≡ map f (take n ws) ++ drop n ws → ws ≡ xs → take len (ys ++ drop (length ys) xs) ≡ map f xs
-all_lent f n len xs ws ys l k h e is =
-    lent_back len ys xs (l ∙ k) ∙ e ∙ (λ i. map f (take_all n ws h i) ++ drop_all n ws h i) ∙ append-nil (map f ws) ∙ ap (map f) is
-
-pub not_past : (bs : List (List Entry)) (i j : ℕ) → start bs i + j < length (joined bs) → i < length bs
-not_past bs i j h = grind (arith, cases_lt i (length bs), start_all)
+pub all_lent : (f : List Entry → List Entry) (n : ℕ) {len : ℕ} {xs ws ys : List (List Entry)} → ys ≡ map f (take n ws) ++ drop n ws → length ys ≡ length ws
+    → length ws ≤ n → ws ≡ xs → len ≡ length xs → take len (ys ++ drop (length ys) xs) ≡ map f xs
+all_lent f n {len} {xs} {ws} {ys} e l h is k =
+    lent_back len ys xs (omega (arith, ap length is)) ∙ e ∙ (λ i. map f (take_all n ws h i) ++ drop_all n ws h i) ∙ append-nil (map f ws) ∙ ap (map f) is

@@ -1,15 +1,12 @@
 -- A value within a node, and the array or hash that holds it.
-use Rattle.yaml_tree.proofs.Common.{[], ap, arith, Array, Bool, false, get_or, Hash, integer, is_array, is_hash, IsSome, items_view, List, lookup, not, pos, slice_get, Some, string, subst, suc, sym, T, Tree, true, value_at_index, value_at_text, view, Yaml, zero, ℕ, ◌<◌, ◌^◌, ◌∙◌, ◌∷◌, ◌≡◌}
+use Rattle.yaml_tree.proofs.Common.{[], ap, arith, Array, Bool, false, get_or, Hash, integer, is_array, is_hash, IsSome, items_view, List, lookup, not, pos, slice_get, Some, string, suc, T, Tree, true, value_at_index, value_at_text, view, Yaml, zero, ℕ, ◌<◌, ◌^◌, ◌∙◌, ◌∷◌, ◌≡◌}
 use Rattle.yaml_tree.proofs.ItemsLemmas.{list_of_items, pair_list_of_pairs, at_number}
 
 -- the item that was found at a place
-pub item_there : (ys : List Yaml) (ts : List Tree) (i : ℕ) (y : Yaml) → items_view ys ≡ ts → y ≡ get_or ys i y → IsSome (slice_get ts i) → Some (view y) ≡ slice_get ts i
-item_there ys ts i y is e h = there ys i y e (subst (λ us. IsSome (slice_get us i)) (sym is) h) ∙ ap (λ us. slice_get us i) is
-  where
-    there : (ys : List Yaml) (i : ℕ) (y : Yaml) → y ≡ get_or ys i y → IsSome (slice_get (items_view ys) i) → Some (view y) ≡ slice_get (items_view ys) i
-    there [] i y e h = cc
-    there (x ∷ xs) zero y e h = ap (λ n. Some (view n)) e
-    there (x ∷ xs) (suc i) y e h = there xs i y e h
+pub item_there : (ys : List Yaml) (i : ℕ) (y : Yaml) → y ≡ get_or ys i y → IsSome (slice_get (items_view ys) i) → Some (view y) ≡ slice_get (items_view ys) i
+item_there [] i y e h = cc
+item_there (x ∷ xs) zero y e h = ap (λ n. Some (view n)) e
+item_there (x ∷ xs) (suc i) y e h = item_there xs i y e h
 
 -- ---- a value at a text: the node is a hash
 

@@ -1,10 +1,10 @@
+mod BlocksCommon
 mod Common
 pub mod Comparing
 pub mod Copied
 pub mod DecimalLemmas
 pub mod Digesting
 pub mod Discarding
-pub mod Fed
 pub mod FirstByte
 pub mod Flattened
 pub mod Halving
@@ -18,8 +18,6 @@ pub mod Packing
 pub mod Placed
 pub mod Ranking
 pub mod Rows
-pub mod Seating
-pub mod Sorting
 pub mod Starting
 pub mod TableByFirst
 pub mod TextLemmas

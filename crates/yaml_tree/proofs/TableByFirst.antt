@@ -2,8 +2,8 @@
 use Rattle.std.specs.Option.{option_or}
 use Rattle.std.specs.Int.{IsInRange}
 use Rattle.std.proofs.lemmas.Int.Digits.{digits_value_more}
-use Rattle.std.proofs.lemmas.Str.Parse.{IsNumeralModel, numerals_by_value, tells_all_ascii_digits, digits_value_short, digits_value-take-le, digit_at}
-use Rattle.yaml_tree.proofs.TypingCommon.{[], after_all, all_ascii_digits, ap, arith, begins_in, begins_value, Bool, chars, chars-IsAscii, codes, digit_value, digits_value, false, false_words, fits_i64, get_or, if◌then◌else◌, integer, is_among, is_ascii_digit, is_decimal, is_decimal-read, is_digit, is_empty, is_sign, IsUtf8, length, List, list_all, nat_lt, nat_tests, None, not, null, null_words, Option, option_and_then, option_map, pos, reads_on, refl, signed_number, Some, special_words, string, subst, sym, take, true, true_words, typing, unwrap_or, where_true, ℕ, ℤ, ◌*◌, ◌+◌, ◌-◌, ◌<◌, ◌==◌, ◌^◌, ◌||◌, ◌∙◌, ◌∷◌, ◌≡◌, ◌≤◌, ◌⊎◌}
+use Rattle.std.proofs.lemmas.Str.Parse.{IsNumeralModel, numerals_by_value, tells_all_ascii_digits, digit_at}
+use Rattle.yaml_tree.proofs.TypingCommon.{[], after_all, all_ascii_digits, ap, arith, begins_in, begins_value, Bool, chars, chars-IsAscii, codes, digit_value, digits_value, false, false_words, fits_i64, get_or, if◌then◌else◌, integer, is_among, is_ascii_digit, is_decimal, is_decimal-read, is_digit, is_empty, is_sign, IsUtf8, length, List, list_all, nat_lt, nat_tests, None, not, null, null_words, Option, option_and_then, option_map, pos, reads_on, refl, signed_number, Some, special_words, string, subst, sym, take, true, true_words, typing, unwrap_or, where_true, ℕ, ℤ, ◌*◌, ◌+◌, ◌-◌, ◌<◌, ◌==◌, ◌^◌, ◌||◌, ◌∙◌, ◌∷◌, ◌≡◌, ◌⊎◌}
 use Rattle.yaml_tree.specs.Meanings.{meant, string_or, integer_or}
 use Rattle.yaml_tree.specs.declared.plain.Meaning.{Meaning}
 use Rattle.yaml_tree.specs.declared.plain.Meaning.TheVariants as meaning
@@ -26,13 +26,9 @@ integer_or_real a b w d t = grind arith
 
 -- ---- a text that begins with a digit, by what follows its digits
 
-all_digits : (t : List ℕ) → all_ascii_digits t ≡ is_empty (after_all is_ascii_digit t)
-all_digits [] = refl
-all_digits (c ∷ cs) = grind (arith, all_digits cs)
-
-same_digits : (t : List ℕ) → list_all (is_digit 10) t ≡ is_empty (after_all is_ascii_digit t)
-same_digits [] = refl
-same_digits (c ∷ cs) = grind (arith, nat_tests, same_digits cs)
+all_digits : (t : List ℕ) → (all_ascii_digits t ≡ is_empty (after_all is_ascii_digit t)) × (list_all (is_digit 10) t ≡ is_empty (after_all is_ascii_digit t))
+all_digits [] = (refl, refl)
+all_digits (c ∷ cs) = let rest = all_digits cs in (grind arith, grind (arith, nat_tests))
 
 -- no number after `0` and a letter, where another byte follows the digits
 no_after : (base x c : ℕ) (cs : List ℕ) → is_ascii_digit x ≡ false → begins_in (λ d. x == d) (after_all is_ascii_digit cs) ≡ false
@@ -56,7 +52,7 @@ module _ (c : ℕ) (cs r : List ℕ) (digit : is_ascii_digit c ≡ true) (stays 
   -- digits alone write an integer, where 64 bits hold it
   integer_alone : signed_number 10 (c ∷ cs)
       ≡ option_and_then (λ z. if fits_i64 z then Some z else None) (option_map pos (if is_empty r then Some (digits_value 10 (c ∷ cs)) else None))
-  integer_alone = unsigned c cs no_sign ∙ rw (same_digits (c ∷ cs), ← stays)
+  integer_alone = unsigned c cs no_sign ∙ rw ((all_digits (c ∷ cs)).1, ← stays)
 
   by_digit : {x o s : Option ℤ} → after 16 (codes "0x") (c ∷ cs) ≡ x → after 8 (codes "0o") (c ∷ cs) ≡ o → signed_number 10 (c ∷ cs) ≡ s
       → typing (c ∷ cs) ≡ table (c ∷ cs) x o None false false false s false (reads_on true r)
@@ -69,56 +65,49 @@ abbrev pub begins_digit : List ℕ → Type 0
 begins_digit t = begins_in is_ascii_digit t ≡ true
 
 pub digits_alone : (t r : List ℕ) → begins_digit t → r ≡ after_all is_ascii_digit t → length r < 1 → meant (integer_or meaning.Real (signed_number 10 t)) t ≡ typing t
-digits_alone [] r h e n = absurd (grind arith)
-digits_alone (c ∷ cs) (d ∷ r) h e n = absurd (omega arith)
 digits_alone (c ∷ cs) [] h e n =
     integer_or_real None (signed_number 10 (c ∷ cs)) false true (c ∷ cs)
     ∙ sym (by_digit c cs [] h e (no_letter c cs [] h e 16 120 refl refl) (no_letter c cs [] h e 8 111 refl refl) refl)
+digits_alone t r h e n = absurd (grind arith)
 
 pub digits_x : (t r : List ℕ) → begins_digit t → r ≡ after_all is_ascii_digit t → 0 < length r → get_or r 0 0 ≡ 120
     → meant (integer_or meaning.String (after 16 (codes "0x") t)) t ≡ typing t
-digits_x [] r h e n x = absurd (grind arith)
-digits_x (c ∷ cs) [] h e n x = absurd (omega arith)
 digits_x (c ∷ cs) (d ∷ r) h e n x =
     let stays = sym (ap (λ u. u ∷ r) x) ∙ e in
     integer_or_string (after 16 (codes "0x") (c ∷ cs)) (c ∷ cs)
     ∙ sym (by_digit c cs (120 ∷ r) h stays refl (no_letter c cs (120 ∷ r) h stays 8 111 refl refl) (integer_alone c cs (120 ∷ r) h stays))
+digits_x t r h e n x = absurd (grind arith)
 
 pub digits_o : (t r : List ℕ) → begins_digit t → r ≡ after_all is_ascii_digit t → 0 < length r → get_or r 0 0 ≡ 111
     → meant (integer_or meaning.String (after 8 (codes "0o") t)) t ≡ typing t
-digits_o [] r h e n x = absurd (grind arith)
-digits_o (c ∷ cs) [] h e n x = absurd (omega arith)
 digits_o (c ∷ cs) (d ∷ r) h e n x =
     let stays = sym (ap (λ u. u ∷ r) x) ∙ e in
     integer_or_string (after 8 (codes "0o") (c ∷ cs)) (c ∷ cs)
     ∙ sym (by_digit c cs (111 ∷ r) h stays (no_letter c cs (111 ∷ r) h stays 16 120 refl refl) refl (integer_alone c cs (111 ∷ r) h stays))
+digits_o t r h e n x = absurd (grind arith)
 
 pub digits_other : (t r : List ℕ) → begins_digit t → r ≡ after_all is_ascii_digit t → 0 < length r → (120 == get_or r 0 0) ≡ false → (111 == get_or r 0 0) ≡ false
     → meant (string_or meaning.Real (reads_on true r)) t ≡ typing t
-digits_other [] r h e n x o = absurd (grind arith)
-digits_other (c ∷ cs) [] h e n x o = absurd (omega arith)
 digits_other (c ∷ cs) (d ∷ r) h e n x o =
     integer_or_real None None false (reads_on true (d ∷ r)) (c ∷ cs)
     ∙ sym (by_digit c cs (d ∷ r) h e (no_letter c cs (d ∷ r) h e 16 120 refl x) (no_letter c cs (d ∷ r) h e 8 111 refl o)
     (integer_alone c cs (d ∷ r) h e))
+digits_other t r h e n x o = absurd (grind arith)
 
 -- nothing stands after the digits of a text of digits
 pub only_digits : (t r : List ℕ) → r ≡ after_all is_ascii_digit t → length r < 1 → all_ascii_digits t ≡ true
-only_digits t [] e n = all_digits t ∙ ap is_empty (sym e)
+only_digits t [] e n = (all_digits t).0 ∙ ap is_empty (sym e)
 only_digits t (d ∷ r) e n = absurd (omega arith)
 
 pub number_of_digits : (t : List ℕ) → begins_digit t → all_ascii_digits t ≡ true → digits_value 10 t < 10 ^ 18 → Some (pos (digits_value 10 t)) ≡ signed_number 10 t
 number_of_digits [] h e n = absurd (grind arith)
 number_of_digits (c ∷ cs) h e n =
     let small : nat_lt (digits_value 10 (c ∷ cs)) (2 ^ 63) ≡ true = grind (arith, nat_tests) in
-    sym (integer_alone c cs (after_all is_ascii_digit (c ∷ cs)) h refl ∙ rw (← all_digits (c ∷ cs), e, small))
+    sym (integer_alone c cs (after_all is_ascii_digit (c ∷ cs)) h refl ∙ rw (← (all_digits (c ∷ cs)).0, e, small))
 
 -- texts of digits, as std reads them
 pub own : IsNumeralModel (λ ds. all_ascii_digits ds ≡ true) (digits_value 10)
 own = numerals_by_value (λ ds. all_ascii_digits ds ≡ true) tells_all_ascii_digits
-
-pub short_below : (t : List ℕ) → all_ascii_digits t ≡ true → length t ≤ 18 → digits_value 10 t < 10 ^ 18
-short_below t e n = digits_value_short own t 18 e n
 
 -- one more digit: it is one, and the number so far is no more than the whole
 pub one_digit : (t : List ℕ) (i : ℕ) → all_ascii_digits t ≡ true → i < length t → IsInRange 48 57 (get_or t i 0)
@@ -130,9 +119,6 @@ one_more t i e n = digits_value_more 10 t i n ∙ ap (λ d. digits_value 10 (tak
     value : (c : ℕ) → IsInRange 48 57 c → digit_value c ≡ c - 48
     value c h = grind (arith, nat_tests)
 
-pub no_more : (t : List ℕ) (i : ℕ) → digits_value 10 (take i t) ≤ digits_value 10 t
-no_more t i = digits_value-take-le 10 t i (omega arith)
-
 -- ---- signs
 
 abbrev pub begins_sign : List ℕ → Type 0
@@ -142,7 +128,7 @@ begins_sign t = begins_in is_sign t ≡ true
 abbrev after_sign : List ℕ → Option ℤ
 after_sign t = option_or (after 10 (codes "+") t) (signed_number 10 t)
 
-signed : (t : List ℕ) → begins_sign t
+pub signed : (t : List ℕ) → begins_sign t
     → meant (integer_or (string_or meaning.Real (is_among special_words t || is_decimal t)) (after_sign t)) t ≡ typing t
 signed [] h = absurd (grind arith)
 signed (c ∷ cs) h =
@@ -154,12 +140,6 @@ signed (c ∷ cs) h =
   where
     no_word : (ws : List (List ℕ)) → list_all (λ w. not (begins_in is_sign w)) ws ≡ true → is_among ws (c ∷ cs) ≡ false
     no_word ws w = not_among (λ w. not (begins_in is_sign w)) ws w (c ∷ cs) (ap not h)
-
-pub signed_integer : (t : List ℕ) (z : ℤ) → begins_sign t → Some z ≡ after_sign t → integer z ≡ typing t
-signed_integer t z h e = ap (λ o. meant (integer_or (string_or meaning.Real (is_among special_words t || is_decimal t)) o) t) e ∙ signed t h
-
-pub signed_other : (t : List ℕ) → begins_sign t → None ≡ after_sign t → meant (string_or meaning.Real (is_among special_words t || is_decimal t)) t ≡ typing t
-signed_other t h e = ap (λ o. meant (integer_or (string_or meaning.Real (is_among special_words t || is_decimal t)) o) t) e ∙ signed t h
 
 -- ---- a point
 

@@ -1,7 +1,7 @@
 -- What a plain text stands for: the code's way of reading it.
 use Rattle.std.specs.Result.{result_ok}
 use Rattle.std.specs.Str.Pattern.{LacksTextAt, FindsTextPrefix, StripsPrefix}
-use Rattle.yaml_tree.proofs.TypingCommon.{[], after_prefix, ap, arith, Bool, boolean, bytes_eq-Decides, codes, Err, false, false_words, if◌then◌else◌, integer, is_among, is_decimal, is_decimal-read, List, list_all, nat_tests, None, null, null_words, Ok, Option, option_and_then, option_map, ParsesSigned, reads_decimal, real, refl, Result, signed_number, Some, special_words, string, sym, Tree, true, true_words, typing, unwrap_or, where_true, ℕ, ℤ, ◌++◌, ◌==◌, ◌∙◌, ◌∷◌, ◌≡◌, ◌≢◌}
+use Rattle.yaml_tree.proofs.TypingCommon.{[], after_prefix, ap, arith, Bool, boolean, bytes_eq-Decides, codes, Err, false, false_words, if◌then◌else◌, integer, is_among, is_decimal, is_decimal-read, List, list_all, nat_tests, None, null, null_words, Ok, Option, option_and_then, option_map, ParsesSigned, reads_decimal, real, refl, Result, signed_number, Some, special_words, string, sym, Tree, true, true_words, typing, unwrap_or, where_true, ℕ, ℤ, ◌++◌, ◌==◌, ◌∙◌, ◌∷◌, ◌≡◌}
 use mir.Syntax.{w64}
 use Rattle.defs_tree.proofs.Parsing as parsing
 
@@ -20,15 +20,12 @@ pub after_it : (p t : List ℕ) → after_prefix p (p ++ t) ≡ Some t
 after_it [] t = refl
 after_it (x ∷ p) t = grind (arith, nat_tests, after_it p t)
 
-after_none : (p t : List ℕ) → ((rest : List ℕ) → t ≢ p ++ rest) → after_prefix p t ≡ None
-after_none [] t h = absurd (h t refl)
-after_none (x ∷ p) [] h = refl
-after_none (x ∷ p) (c ∷ cs) h =
-    let later : c ≡ x → after_prefix p cs ≡ None = λ e. after_none p cs (λ rest f. h rest (λ i. e i ∷ f i)) in
-    grind (arith, nat_tests, later)
-
 pub lacks_after : (p t : List ℕ) → LacksTextAt p t 0 → after_prefix p t ≡ None
-lacks_after p t h = after_none p t h
+lacks_after [] t h = absurd (h t refl)
+lacks_after (x ∷ p) [] h = refl
+lacks_after (x ∷ p) (c ∷ cs) h =
+    let later : c ≡ x → after_prefix p cs ≡ None = λ e. lacks_after p cs (λ rest f. h rest (λ i. e i ∷ f i)) in
+    grind (arith, nat_tests, later)
 
 pub strips_after : (p t x : List ℕ) → StripsPrefix (FindsTextPrefix p) t x → after_prefix p t ≡ Some x
 strips_after p t x h = ap (after_prefix p) (h.1.1 ∙ ap (λ u. p ++ u) (sym h.2)) ∙ after_it p x

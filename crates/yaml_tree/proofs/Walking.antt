@@ -1,7 +1,6 @@
 -- What the proofs by hand of `key_mut` and `place_mut` cite.
 pub use mathlib.Core.Path.{◌≡◌, ◌∙◌, refl, sym, ap}
 pub use mathlib.Core.List.{List, [], ◌∷◌}
-pub use Prim.Native.Nat.{ℕ}
 pub use base.Fraction.{full_share}
 pub use base.Logic.{emp, id⊢}
 pub use base.Fml.{ftrue, flft, flent}
@@ -22,7 +21,6 @@ pub use denote.Laws.{Is, shows}
 pub use denote.Lend.{lends_shr}
 pub use denote.Memory.{mem, part_at}
 pub use denote.Plain.{bool_Tells, uint_vals, uint_Tells}
-pub use denote.RattleType.{RattleType}
 pub use denote.Ref.{Bor, MutBor, MutRef, ShrRef, mut_vals, mut_Tells, mut_Lawful}
 pub use denote.Signature.{plain}
 pub use denote.Slice.{shr_slice_vals}

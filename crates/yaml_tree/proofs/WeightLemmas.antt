@@ -25,9 +25,8 @@ items_nodes-append [] vs = omega arith
 items_nodes-append (u ∷ us) vs = omega (arith, items_nodes-append us vs)
 
 items_chain-before : (us : List Tree) (t : Tree) (ts : List Tree) → items_chain (items_of (us ++ t ∷ ts)) ≡ items_chain (items_of (t ∷ ts))
-items_chain-before [] t ts = refl
-items_chain-before (u ∷ []) t ts = refl
 items_chain-before (u ∷ v ∷ us) t ts = items_chain-before (v ∷ us) t ts
+items_chain-before us t ts = refl
 
 -- ---- a descent
 
@@ -92,6 +91,5 @@ parts_weight t big = absurd (big refl)
 -- ---- the last of a collection
 
 pub items_with_last-of : (f : Tree → Tree) (us : List Tree) (t : Tree) → items_of (us ++ f t ∷ []) ≡ items_with_last f (items_of (us ++ t ∷ []))
-items_with_last-of f [] t = refl
-items_with_last-of f (u ∷ []) t = refl
 items_with_last-of f (u ∷ w ∷ us) t = ap (item u) (items_with_last-of f (w ∷ us) t)
+items_with_last-of f us t = refl

@@ -1,5 +1,6 @@
 -- A text with a character that is not ASCII stands for the string of itself.
 use Rattle.yaml_tree.proofs.TypingCommon.{[], and_from, and_parts, arith, Bool, chars, codes, encodes-chars, encodes-IsAscii, false, false_words, is_among, is_decimal, is_digit, IsAscii, IsUtf8, List, list_all, list_all-more, nat_lt, nat_tests, None, null_words, number, refl, signed_number, slice_index, special_words, string, subst, suc, sym, true, true_words, typing, zero, ℕ, ◌<◌, ◌∙◌, ◌∷◌, ◌≡◌, ◌≤◌}
+use Rattle.std.proofs.lemmas.Bool.{false_from_ne_true}
 use Rattle.defs_tree.proofs.RealTexts.{is_real_character, decimal-characters}
 use Rattle.yaml_tree.proofs.TypingLemmas.{after, by_table, not_among}
 
@@ -11,10 +12,6 @@ low t = list_all (λ c. nat_lt c 128) t
 abbrev pub Wide : List ℕ → Type 0
 Wide t = low t ≡ true → ⊥
 
-not_true : (b : Bool) → (b ≡ true → ⊥) → b ≡ false
-not_true true n = absurd (n refl)
-not_true false n = refl
-
 wide_tail : (c : ℕ) (cs : List ℕ) → c < 128 → Wide (c ∷ cs) → Wide cs
 wide_tail c cs h w = λ e. w (and_from (nat_lt c 128) (low cs) (grind (arith, nat_tests)) e)
 
@@ -24,7 +21,7 @@ module _ (base : ℕ) (h : base ≤ 36) where
   no_number : (t : List ℕ) → Wide t → number base t ≡ None
   no_number [] w = refl
   no_number (c ∷ cs) w =
-      rw (not_true (list_all (is_digit base) (c ∷ cs)) (λ e. w (list_all-more (is_digit base) (λ d. nat_lt d 128) low_digit (c ∷ cs) e)))
+      rw (false_from_ne_true (list_all (is_digit base) (c ∷ cs)) (λ e. w (list_all-more (is_digit base) (λ d. nat_lt d 128) low_digit (c ∷ cs) e)))
     where
       low_digit : (d : ℕ) → is_digit base d ≡ true → nat_lt d 128 ≡ true
       low_digit d e = grind (arith, nat_tests)
@@ -46,10 +43,10 @@ typing-wide t w =
     (none_after 10 (omega arith) (codes "+") t refl w)
     (no_word null_words refl) (no_word true_words refl) (no_word false_words refl) (no_integer 10 (omega arith) t w)
     (no_word special_words refl)
-    (not_true (is_decimal t) (λ e. w (list_all-more is_real_character (λ c. nat_lt c 128) low_real t (decimal-characters t e))))
+    (false_from_ne_true (is_decimal t) (λ e. w (list_all-more is_real_character (λ c. nat_lt c 128) low_real t (decimal-characters t e))))
   where
     no_word : (ws : List (List ℕ)) → list_all low ws ≡ true → is_among ws t ≡ false
-    no_word ws h = not_among low ws h t (not_true (low t) w)
+    no_word ws h = not_among low ws h t (false_from_ne_true (low t) w)
 
     low_real : (c : ℕ) → is_real_character c ≡ true → nat_lt c 128 ≡ true
     low_real c h = grind (arith, nat_tests)

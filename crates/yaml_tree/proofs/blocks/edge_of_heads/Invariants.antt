@@ -1,5 +1,4 @@
-use Rattle.yaml_tree.proofs.IndexCommon.{binary_digits, head_at, length, ◌-◌}
-use Rattle.yaml_tree.proofs.Halving.{IsSearch}
+use Rattle.yaml_tree.proofs.BlocksCommon.{binary_digits, head_at, IsSearch, length, ◌-◌}
 use Rattle.yaml_tree.proofs.blocks.edge_of_heads.Given as goal
 
 abbrev pub invariant-loop-low : goal.invariant-loop-low

@@ -1,17 +1,17 @@
 use Rattle.yaml_tree.proofs.Common.{ap, flat, inl, inr, length, on, sym, tree_cmp, view, ◌∙◌, ◌≤◌, ◌⊎◌}
-use Rattle.yaml_tree.proofs.Comparing.{cmp_next, cmp_end, slice_cmp-map, nodes_seen, items_cmp-items_of, flat_cmp, stops}
+use Rattle.yaml_tree.proofs.Comparing.{cmp_next, cmp_end, slice_cmp-map, items_cmp-items_of, flat_cmp, stops}
 use Rattle.yaml_tree.proofs.compare.+compare.Goals as goal
 use Rattle.yaml_tree.proofs.compare.+compare.Goals.{compare_nodes-then-loop-i-test+else-i-b, compare_nodes-else-loop-i-test}
 
 pub compare_items-returns : goal.compare_items-returns
 compare_items-returns t c =
-    c.compare_nodes.ensures ∙ nodes_seen _ _ _ _ _ _ c.as_slice.ensures.value c.as_slice-2.ensures.value c.a.view_is c.b.view_is ∙ sym (items_cmp-items_of c.args.a.now c.args.b.now)
+    rw (c.compare_nodes.ensures, c.as_slice.ensures.value, c.as_slice-2.ensures.value, c.a.view_is, c.b.view_is) (sym (items_cmp-items_of c.args.a.now c.args.b.now))
 
 pub compare_pairs-returns : goal.compare_pairs-returns
 compare_pairs-returns t c =
     let first = c.a.invariant.hash.even ∙ ap flat c.a.view_is in
     let second = c.b.invariant.hash.even ∙ ap flat c.b.view_is in
-    c.compare_nodes.ensures ∙ nodes_seen _ _ _ _ _ _ c.as_slice.ensures.value c.as_slice-2.ensures.value first second ∙ sym (flat_cmp c.args.a.now c.args.b.now)
+    rw (c.compare_nodes.ensures, c.as_slice.ensures.value, c.as_slice-2.ensures.value, first, second) (sym (flat_cmp c.args.a.now c.args.b.now))
 
 pub compare_nodes-returns-in_default : goal.compare_nodes-returns-in_default
 compare_nodes-returns-in_default t c =

@@ -1,5 +1,5 @@
 use Rattle.yaml_tree.proofs.Common.{AreDigests, digest_of_entry, map, pairs_view, place_of_entry}
-use Rattle.yaml_tree.proofs.Sorting.{AreSorted}
+use Rattle.yaml_tree.proofs.Digesting.{AreSorted}
 use Rattle.yaml_tree.proofs.ranks.by_digests.Given as goal
 
 abbrev pub invariant-loop-rank : goal.invariant-loop-rank

@@ -1,5 +1,4 @@
-use Rattle.yaml_tree.proofs.IndexCommon.{ap, arith, digest_at, Entry, length, ◌∙◌}
-use Rattle.yaml_tree.proofs.Joining.{number_got}
+use Rattle.yaml_tree.proofs.BlocksCommon.{ap, arith, digest_at, Entry, length, number_got, ◌∙◌}
 use Rattle.yaml_tree.proofs.block.Block.digest.Goals as goal
 
 pub returns : goal.returns

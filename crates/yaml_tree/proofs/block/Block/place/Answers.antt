@@ -1,5 +1,4 @@
-use Rattle.yaml_tree.proofs.IndexCommon.{ap, arith, Entry, length, place_at, ◌∙◌}
-use Rattle.yaml_tree.proofs.Joining.{number_got}
+use Rattle.yaml_tree.proofs.BlocksCommon.{ap, arith, Entry, length, number_got, place_at, ◌∙◌}
 use Rattle.yaml_tree.proofs.block.Block.place.Goals as goal
 
 pub returns : goal.returns

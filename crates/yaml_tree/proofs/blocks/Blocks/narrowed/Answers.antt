@@ -1,6 +1,4 @@
-use Rattle.yaml_tree.proofs.IndexCommon.{ap, AreFilled, arith, joined, length, nat_tests, rank_of, refl, subst, ◌+◌, ◌<◌}
-use Rattle.yaml_tree.proofs.Halving.{digits_some}
-use Rattle.yaml_tree.proofs.Joining.{edges_rise, edges_narrow, edge_past, filled_counted}
+use Rattle.yaml_tree.proofs.BlocksCommon.{arith, edge_past, edges_narrow, edges_rise, filled_digits, joined, length, nat_tests, rank_of, refl, ◌+◌, ◌<◌}
 use Rattle.yaml_tree.proofs.blocks.Blocks.narrowed.Goals as goal
 
 pub returns-then-is_past-clause-narrowed : goal.returns-then-is_past-clause-narrowed
@@ -18,21 +16,18 @@ returns-clause-narrowed c =
 
 pub returns-then-is_past-clause-compared : goal.returns-then-is_past-clause-compared
 returns-then-is_past-clause-compared c =
-    let bs = c.args.self.now in
-    let blocks : 0 < length bs = grind (arith, nat_tests, c.is_empty.ensures, c.if-is_empty.false, ap length c.self.view_is, c.self.inside.blocks.ok.0) in
-    let some = digits_some (length (joined bs)) (omega (arith, blocks, filled_counted bs (subst AreFilled c.self.view_is c.self.invariant.filled))) in
-    (omega (arith, c.end_below.ensures.compared.0, c.edge-low.ensures.compared.0, c.is_past.ensures.compared.0), omega (arith, some, c.end_below.ensures.compared.1, c.edge-low.ensures.compared.1, c.is_past.ensures.compared.1))
+    let blocks : 0 < length c.self.inside.blocks.items = grind (arith, nat_tests, c.is_empty.ensures, c.if-is_empty.false) in
+    let some = rw c.self.view_is at (filled_digits c.self.inside.blocks.items c.self.invariant.filled blocks) in
+    (omega arith, omega arith)
 
 pub returns-then-is_last-clause-compared : goal.returns-then-is_last-clause-compared
 returns-then-is_last-clause-compared c =
-    let bs = c.args.self.now in
-    let blocks : 0 < length bs = grind (arith, nat_tests, c.is_empty.ensures, c.if-is_empty.false, ap length c.self.view_is, c.self.inside.blocks.ok.0) in
-    let some = digits_some (length (joined bs)) (omega (arith, blocks, filled_counted bs (subst AreFilled c.self.view_is c.self.invariant.filled))) in
-    (omega (arith, c.end_below.ensures.compared.0, c.edge-low.ensures.compared.0, c.is_past.ensures.compared.0, c.is_last.ensures.compared.0), omega (arith, some, c.end_below.ensures.compared.1, c.edge-low.ensures.compared.1, c.is_past.ensures.compared.1, c.is_last.ensures.compared.1))
+    let blocks : 0 < length c.self.inside.blocks.items = grind (arith, nat_tests, c.is_empty.ensures, c.if-is_empty.false) in
+    let some = rw c.self.view_is at (filled_digits c.self.inside.blocks.items c.self.invariant.filled blocks) in
+    (omega arith, omega arith)
 
 pub returns-clause-compared : goal.returns-clause-compared
 returns-clause-compared c =
-    let bs = c.args.self.now in
-    let blocks : 0 < length bs = grind (arith, nat_tests, c.is_empty.ensures, c.if-is_empty.false, ap length c.self.view_is, c.self.inside.blocks.ok.0) in
-    let some = digits_some (length (joined bs)) (omega (arith, blocks, filled_counted bs (subst AreFilled c.self.view_is c.self.invariant.filled))) in
-    (omega (arith, c.end_below.ensures.compared.0, c.edge-low.ensures.compared.0, c.is_past.ensures.compared.0, c.is_last.ensures.compared.0, c.edge-high.ensures.compared.0), omega (arith, some, c.end_below.ensures.compared.1, c.edge-low.ensures.compared.1, c.is_past.ensures.compared.1, c.is_last.ensures.compared.1, c.edge-high.ensures.compared.1))
+    let blocks : 0 < length c.self.inside.blocks.items = grind (arith, nat_tests, c.is_empty.ensures, c.if-is_empty.false) in
+    let some = rw c.self.view_is at (filled_digits c.self.inside.blocks.items c.self.invariant.filled blocks) in
+    (omega arith, omega arith)

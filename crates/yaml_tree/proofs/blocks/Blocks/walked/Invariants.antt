@@ -1,9 +1,9 @@
-use Rattle.yaml_tree.proofs.IndexCommon.{length, rank_of, start, ◌+◌, ◌-◌, ◌≡◌, ◌≤◌}
+use Rattle.yaml_tree.proofs.IndexCommon.{length, rank_of, start, ◌+◌, ◌-◌, ◌<◌, ◌≡◌}
 use Rattle.yaml_tree.proofs.blocks.Blocks.walked.Given as goal
 
 abbrev pub invariant-loop-offset : goal.invariant-loop-offset
 invariant-loop-offset l = record {
-  within : l.block ≤ length l.self;
+  inside : l.block < length l.self;
   at : start l.self l.block + l.offset ≡ rank_of l.self l.fn.spot + l.by;
 }
 

@@ -1,4 +1,4 @@
-use Rattle.yaml_tree.proofs.Common.{absent, arith, places, probed, rules, sym, vec_len, ◌*◌, ◌+◌, ◌<◌}
+use Rattle.yaml_tree.proofs.Common.{absent, arith, probed, sym}
 use Rattle.yaml_tree.proofs.Rows.{placed}
 use Rattle.yaml_tree.proofs.hash.Hash.value_of_probe.Goals as goal
 
@@ -6,23 +6,13 @@ pub returns-in_err-i-clause-value : goal.returns-in_err-i-clause-value
 returns-in_err-i-clause-value c = rw c.from_residual.ensures (sym (absent (probed c.args.probe) c.args.self.now (c.in_err-i.ensures {u = tt}).place).unfound)
 
 pub overflow_mul-i : goal.overflow_mul-i
-overflow_mul-i c =
-    let at = placed (probed c.args.probe) c.self.inside.row.items c.args.self.now (places c.self.inside.ranks.kept) c.in_ok-i.i c.self.invariant.hash c.self.view_is (c.in_ok-i.ensures {u = tt}).place in
-    let inside : 2 * c.in_ok-i.i + 1 < vec_len c.self.inside.row = omega (arith, at.inside, c.self.inside.row.ok.0) in
-    search rules
+overflow_mul-i c = omega (arith, (placed c.self.inside.row.items c.self.invariant.hash (probed c.args.probe) c.in_ok-i.i (rw (← c.self.view_is) at (c.in_ok-i.ensures {u = tt}).place)).inside)
 
 pub overflow_add-i : goal.overflow_add-i
-overflow_add-i c =
-    let at = placed (probed c.args.probe) c.self.inside.row.items c.args.self.now (places c.self.inside.ranks.kept) c.in_ok-i.i c.self.invariant.hash c.self.view_is (c.in_ok-i.ensures {u = tt}).place in
-    let inside : 2 * c.in_ok-i.i + 1 < vec_len c.self.inside.row = omega (arith, at.inside, c.self.inside.row.ok.0) in
-    search rules
+overflow_add-i c = omega (arith, (placed c.self.inside.row.items c.self.invariant.hash (probed c.args.probe) c.in_ok-i.i (rw (← c.self.view_is) at (c.in_ok-i.ensures {u = tt}).place)).inside)
 
 pub index-requires : goal.index-requires
-index-requires c =
-    let at = placed (probed c.args.probe) c.self.inside.row.items c.args.self.now (places c.self.inside.ranks.kept) c.in_ok-i.i c.self.invariant.hash c.self.view_is (c.in_ok-i.ensures {u = tt}).place in
-    omega (arith, at.inside, c.self.inside.row.ok.0)
+index-requires c = omega (arith, (placed c.self.inside.row.items c.self.invariant.hash (probed c.args.probe) c.in_ok-i.i (rw (← c.self.view_is) at (c.in_ok-i.ensures {u = tt}).place)).inside)
 
 pub returns-clause-value : goal.returns-clause-value
-returns-clause-value c =
-    let at = placed (probed c.args.probe) c.self.inside.row.items c.args.self.now (places c.self.inside.ranks.kept) c.in_ok-i.i c.self.invariant.hash c.self.view_is (c.in_ok-i.ensures {u = tt}).place in
-    at.found _ c.index.ensures
+returns-clause-value c = rw (← c.self.view_is) ((placed c.self.inside.row.items c.self.invariant.hash (probed c.args.probe) c.in_ok-i.i (rw (← c.self.view_is) at (c.in_ok-i.ensures {u = tt}).place)).found _ c.index.ensures)

@@ -1,4 +1,4 @@
-use Rattle.yaml_tree.proofs.Common.{ap, insert, pairs_view, places, rank_at, view, ◌∙◌}
+use Rattle.yaml_tree.proofs.Common.{pairs_view, places, rank_at, view}
 use Rattle.yaml_tree.proofs.Ranking.{gap_none, ranked_added}
 use Rattle.yaml_tree.proofs.ranks.Ranks.insert.Goals as goal
 
@@ -8,11 +8,6 @@ add-requires-clause-absent c =
 
 pub returns-in-Few-clause-ranked : goal.returns-in-Few-clause-ranked
 returns-in-Few-clause-ranked c =
-    let few = c.in-Few.few in
-    let at = c.args.gap.spot.offset in
-    let k = view c.args.key.now in
-    let ps = pairs_view c.args.row.now in
     let ranked = rw c.in-Few.is at c.requires.indexed.hash.ranked in
     let gap = rw c.in-Few.is at c.requires.gap in
-    let rs = c.insert.ensures ∙ ap (insert few at) c.len-place.ensures.count in
-    λ v. rw rs (ranked_added few ps at k v ranked gap)
+    λ v. rw (c.insert.ensures, c.len-place.ensures.count) (ranked_added c.in-Few.few (pairs_view c.args.row.now) c.args.gap.spot.offset (view c.args.key.now) v ranked gap)
