@@ -1,5 +1,5 @@
 -- The arms of the productions.
-use Rattle.yaml_parser.proofs.Common.{IsRightAfter, arith, [], BlockMappingKey, fits, answered, Answers, ap, At, BeginAt, Bool, Err, Ev, Event, EventSlot, false, Faulted, Goal, goal_after_event, HasNoText, IfSome, inl, inr, is_end, is_over, is_under, IsAt, IsErrAnd, IsErr, is_err, Reads, IsNamed, IsOfKind, IsPastColon, IsPending, Kind, kind_of, last_position, Leaves, List, Names, names_after, names_at, None, Ok, OnErr, Option, option_map, peeked_tok, placed, Position, position_at, Raw, Reader, refl, resolved_event, Result, shown, Skips, Some, State, Stayed, Fault, subst, sym, Takes, Tok, tok_is, tok_of, tok_of_kind, Token, Took, top, true, ◌++◌, ◌∙◌, ◌∷◌, ◌≡◌, ◌≢◌, ◌⊎◌}
+use Rattle.yaml_parser.proofs.Common.{IsRightAfter, arith, [], answered, Answers, ap, At, BeginAt, Err, Ev, Event, EventSlot, false, Faulted, Goal, goal_after_event, HasNoText, IfSome, is_end, is_over, is_under, IsAt, IsErrAnd, IsErr, is_err, Reads, IsNamed, IsOfKind, IsPastColon, IsPending, Kind, kind_of, last_position, Leaves, List, Names, names_after, names_at, None, Ok, OnErr, Option, option_map, peeked_tok, placed, Position, position_at, Raw, Reader, refl, resolved_event, Result, shown, Skips, Some, State, Stayed, Fault, subst, sym, Takes, Tok, tok_is, tok_of, tok_of_kind, Token, Took, top, true, ◌++◌, ◌∙◌, ◌∷◌, ◌≡◌, ◌≢◌}
 use Rattle.yaml_parser.proofs.Positions.{behind_more}
 use Rattle.yaml_parser.proofs.Steps.{looked, took, left, Named, breaks, if_some_at, gave, gave_none}
 use Rattle.defs_token.specs.Token as defs
@@ -151,23 +151,11 @@ faulted_as {T} p given h f = subst (Faulted p given) (sym h) f
 
 -- ---- one of several kinds
 
-pub as_kind : (test : Kind → Bool) {b : Bool} {k k' : Kind} → test k ≡ b → k' ≡ k → test k' ≡ b
-as_kind test e h = ap test h ∙ e
-
-pub one_of : {A : Type 0} (test : Kind → Bool) {b : Bool} {k a : Kind} → test a ≡ b → (A → test k ≡ b) → (k ≡ a) ⊎ A → test k ≡ b
-one_of test x f (inl h) = as_kind test x h
-one_of test x f (inr h) = f h
-
 pub not_as : {k k' x : Kind} → k ≢ x → k' ≡ k → k' ≢ x
 not_as a h e = a (sym h ∙ e)
 
 pub names_nothing : {T : Type 0} {g : Goal} {p : Reader T} {names : Names} {e : Raw} {v : Ev} → resolved_event names e ≡ Some v → names_after p.names.keeping.tags names e ≡ names → names_at p.names.keeping.tags g names ≡ names → Bare g p names e v
 names_nothing a b c = record { resolves = a; after_it = b; seen = c }
-
--- ---- tokens that are refused
-
-pub no_key : (k : Kind) → k ≢ kind.Key → k ≢ kind.BlockEnd → fits BlockMappingKey k ≡ true
-no_key k a b = grind arith
 
 -- ---- after a comma
 

@@ -15,7 +15,7 @@ pub use Rattle.model_parser.proofs.Common.{[], anchor_of, and_parts, ap, append-
 pub use Rattle.model_parser.proofs.Document.{after_refuses, after_unmarked, content_empty, directed_more, directed_refuses, documents_bare, documents_directives, documents_explicit, explicit_refuses, start_refuses, document_turns}
 pub use Rattle.model_parser.proofs.Endings.{end_events, end_tokens, ends_so, goes_so, past_tokens}
 pub use Rattle.model_parser.proofs.Falls.{after_text_events, grammar_completes, text, text_event}
-pub use Rattle.model_parser.proofs.First.{not_document, not_entry, not_flow_key, not_flow_pair, not_indentless, not_item, not_item_key, not_part, tok_is}
+pub use Rattle.model_parser.proofs.First.{tok_is}
 pub use Rattle.model_parser.proofs.Flow.{comma_flow_has_pair, flow_after_empty, flow_empties, flow_pair_node, flow_pairs_pair, flow_valued_empty, flow_valued_node, item_node, items_item, more_flow_refuses, more_items_refuses, pair_ends, pair_value_empty, flow_turns}
 pub use Rattle.model_parser.proofs.Nodes.{after_braces, after_brackets, after_dash, after_mapping, after_scalar, after_sequence, anchor_alone, anchor_tag, block_flow, node_anchor, node_tag, nothing_refuses, part_block, properties_only, tag_alone, tag_anchor}
 pub use Rattle.model_parser.proofs.Places.{nowhere, plain_before, plain_work, with_positions}

@@ -1,5 +1,5 @@
 -- The arms of the productions of documents.
-use Rattle.yaml_parser.proofs.Common.{[], all_shown, and_from, and_left, and_parts, and_right, ap, append-nil, append_assoc, are_allowed, arith, At, at_document, BeginAt, Bool, Carries, declared, Declares, Derives, directed_more, Directing, Directive, directive_token, directives_tokens, DirectsTo, documents_directives, Err, Ev, events_of, false, Faulted, fits, Goal, grammar, HasRead, IfSome, if◌then◌else◌, inl, is_directive, is_each_once, is_end, is_of_names, is_over, IsAfter, IsCause, IsNamed, IsOfKind, IsOwn, Kind, kind_of, last_position, Leaves, List, lt-leb, named, nat_le, needs_tokens, none_by, None, Ok, Option, option_map, OutOfMemory, Position, Problem, Raw, Reader, reading, refl, RepeatedHandle, Result, taken_by, said_by, SecondVersion, shown, Skips, Some, SpoilsDirectives, Stayed, Fault, subst, sym, taken_toks, Takes, Tok, tok_is, tok_of, Token, Tokens, toks, true, UndeclaredHandle, versions, with_directives, Works, works, ℕ, ◌++◌, ◌+◌, ◌<◌, ◌∙◌, ◌∷◌, ◌≡◌, ◌≢◌, resolved_event, document_turns}
+use Rattle.yaml_parser.proofs.Common.{[], all_shown, and_from, and_left, and_parts, and_right, ap, append-nil, append_assoc, are_allowed, arith, At, at_document, BeginAt, Bool, Carries, declared, Declares, Derives, directed_more, Directing, Directive, directive_token, directives_tokens, DirectsTo, documents_directives, Err, Ev, events_of, false, Faulted, fits, Goal, grammar, HasRead, IfSome, if◌then◌else◌, inl, is_directive, is_each_once, is_end, is_of_names, is_over, IsAfter, IsCause, IsNamed, IsOfKind, IsOwn, Kind, kind_of, last_position, Leaves, List, lt-leb, named, nat_le, needs_tokens, none_by, None, Ok, Option, option_map, OutOfMemory, Position, Problem, Raw, Reader, reading, refl, RepeatedHandle, Result, taken_by, said_by, SecondVersion, shown, Skips, Some, SpoilsDirectives, Stayed, Fault, subst, sym, taken_toks, Takes, Tok, tok_is, tok_of, Token, Tokens, toks, true, UndeclaredHandle, versions, with_directives, Works, works, ℕ, ◌++◌, ◌+◌, ◌<◌, ◌∙◌, ◌∷◌, ◌≡◌, resolved_event, document_turns}
 use Rattle.yaml_parser.specs.declared.names.Names.{Names}
 use Rattle.yaml_parser.proofs.Steps.{looked, taken_snoc, took, left, if_some_at, gave, gave_none}
 use Rattle.yaml_parser.proofs.Arms.{Skipped, here_at, faulted_as}
@@ -65,9 +65,6 @@ stream_ends {T} m {p} {r} {k} {names} {given} here h mark skip a =
     )
 
 -- ---- directives
-
-pub not_directive : (k : Kind) → k ≢ kind.VersionDirective → k ≢ kind.TagDirective → is_directive k ≡ false
-not_directive k a b = grind arith
 
 pub directives_begin : {T : Type 0} {p q : Reader T} (k : Kind) {names : defs.Names} {given : List (Ev × Position)}
     → IsOfKind k p.tokens.peeked → is_directive k ≡ true → q.tokens ≡ p.tokens → q.stack ≡ p.stack → q.names.keeping ≡ p.names.keeping → Starts p.names q.names → ((ns : defs.Names) → IsNamed p.names ns → IsOwn q.names [])

@@ -1,8 +1,8 @@
 -- A key or a value that is taken at once with the token before it: as if both tokens were looked at and taken, one after the other.
-use Rattle.yaml_parser.proofs.Common.{HasNoText, is_end, Kind, kind_of, names_at, Takes, tok_of, tok_of_kind, [], after_scalar, all_shown, answered, Answers, ap, append-nil, append_assoc, At, ends_part, Err, Ev, EventSlot, false, Faulted, Goal, HandsOut, IfNone, indicator_of, is_over, IsHanded, List, mapping_under, Names, None, Ok, OnErr, OnOk, Option, OutOfMemory, part_has_node, placed, Position, Reader, refl, Result, scalar_of, Scanned, scanned, shown, shown_list, Skips, Some, State, Stayed, string_chars, Style, subst, sym, TakesBoth, Token, Tokens, ◌++◌, ◌∙◌, ◌∷◌, ◌≡◌}
+use Rattle.yaml_parser.proofs.Common.{HasNoText, is_end, Kind, kind_of, names_at, Takes, tok_of, tok_of_kind, [], after_scalar, all_shown, answered, Answers, ap, append-nil, append_assoc, At, Err, Ev, EventSlot, false, Faulted, Goal, HandsOut, IfNone, indicator_of, is_over, IsHanded, List, mapping_under, Names, None, Ok, OnErr, OnOk, Option, OutOfMemory, part_has_node, placed, Position, Reader, refl, Result, scalar_of, Scanned, scanned, shown, shown_list, Skips, Some, State, Stayed, string_chars, Style, subst, sym, TakesBoth, Token, Tokens, ◌++◌, ◌∙◌, ◌∷◌, ◌≡◌, arith}
 use Rattle.yaml_tokens.specs.declared.token.TokenType.{TokenType}
 use Rattle.yaml_scanner.specs.declared.key_value.PlainNode.{PlainNode}
-use Rattle.yaml_parser.proofs.Arms.{Skipped, stays, stay, goes, as_kind, answers_written, under_no_colon}
+use Rattle.yaml_parser.proofs.Arms.{Skipped, stays, stay, goes, answers_written, under_no_colon}
 use Rattle.yaml_parser.proofs.NodeArms.{scalar_taken, bare, in_flow}
 use Rattle.yaml_parser.proofs.Steps.{looks_on, if_some_at}
 use Rattle.yaml_tokens.specs.declared.token.TokenType.TheVariants as token
@@ -43,7 +43,7 @@ part_scalar : {T : Type 0} (p r : Reader T) (s : Scanned) (n : PlainNode) {names
 part_scalar {T} p r s n {names} {given} none h skips stack same a =
     let q : Reader T = record p { tokens = looking p.tokens s (scalar_of n) } in
     let one : At Goal.part q names given = looks p s (scalar_of n) none h refl a in
-    let two : At (Goal.node context.Part) q names given = stays {k = kind.Scalar} refl stay (λ t e. part_has_node _ t (as_kind ends_part refl e)) refl tt (λ o. tt) refl one in
+    let two : At (Goal.node context.Part) q names given = stays {k = kind.Scalar} refl stay (λ t e. part_has_node _ t (grind arith)) refl tt (λ o. tt) refl one in
     let three = in_flow {k = kind.Scalar} context.Part None refl ((λ e. cc), (λ e. cc), (λ e. cc)) (bare {k = kind.Scalar} context.Part refl ((λ e. cc), (λ e. cc), (λ e. cc)) two) in
     scalar_taken n.mark {p = q} {q = r} {r = r} {x = None} refl refl skips stack same refl (after_scalar _ None _ _)
     (λ _ c. record { value = (refl, refl); tokens = refl; stack = refl; keep = refl; code = c }) (under_no_colon p.stack (mapping_under p.stack a.stands.fits)) (record { both = refl; anchor = refl; tag = refl }) three
