@@ -16,6 +16,7 @@ pub record BlockTurns (ss : List State) : Type 0 where
   pub indentless_entry_empty : (t : Tok) → ends_indentless_entry (kind_of t) ≡ true → Leaves Goal.indentless_entry ss (Some t) (Some nothing_written) Goal.done (state.IndentlessSequenceEntry ∷ ss)
   pub indentless_entry_node : (t : Tok) → ends_indentless_entry (kind_of t) ≡ false → Leaves Goal.indentless_entry ss (Some t) None (Goal.node context.Block) (state.IndentlessSequenceEntry ∷ ss)
   pub pairs_value : Takes Goal.pairs ss Tok.value (Some nothing_written) Goal.done (state.BlockMappingPart ∷ state.BlockMappingKey ∷ ss)
+  pub pairs_take_key : Takes Goal.pairs ss Tok.key None Goal.part (state.BlockMappingValue ∷ ss)
   pub key_pairs_end : Takes Goal.key_pairs ss Tok.block_end (Some Raw.mapping_end) Goal.done ss
   pub key_pairs_key : Takes Goal.key_pairs ss Tok.key None Goal.part (state.BlockMappingValue ∷ ss)
   pub after_key_value : Takes Goal.after_key ss Tok.value None Goal.part (state.BlockMappingKey ∷ ss)

@@ -1,7 +1,7 @@
 -- The arms of the productions.
-use Rattle.yaml_parser.proofs.Common.{all_shown, behind, IsRightAfter, Tokens, arith, [], BlockMappingKey, fits, answered, Answers, ap, At, BeginAt, Bool, Err, Ev, Event, EventSlot, false, Faulted, Goal, goal_after_event, HasNoText, IfSome, inl, inr, is_end, is_over, is_under, IsAt, IsErrAnd, IsErr, is_err, Carries, Passes, Reads, IsNamed, IsOfKind, IsPastColon, IsPending, Kind, kind_of, last_position, Leaves, List, Names, names_after, names_at, None, Ok, OnErr, Option, option_map, peeked_tok, placed, Position, position_at, Raw, Reader, refl, resolved_event, Result, shown, Skips, Some, State, Stayed, Fault, subst, sym, Takes, Tok, tok_is, tok_of, tok_of_kind, Token, Took, top, true, ◌++◌, ◌∙◌, ◌∷◌, ◌≡◌, ◌≢◌, ◌⊎◌}
+use Rattle.yaml_parser.proofs.Common.{IsRightAfter, arith, [], answered, Answers, ap, At, BeginAt, Err, Ev, Event, EventSlot, false, Faulted, Goal, goal_after_event, HasNoText, IfSome, is_end, is_over, is_under, IsAt, IsErrAnd, IsErr, is_err, Reads, IsNamed, IsOfKind, IsPastColon, IsPending, Kind, kind_of, last_position, Leaves, List, Names, names_after, names_at, None, Ok, OnErr, Option, option_map, peeked_tok, placed, Position, position_at, Raw, Reader, refl, resolved_event, Result, shown, Skips, Some, State, Stayed, Fault, subst, sym, Takes, Tok, tok_is, tok_of, tok_of_kind, Token, Took, top, true, ◌++◌, ◌∙◌, ◌∷◌, ◌≡◌, ◌≢◌}
 use Rattle.yaml_parser.proofs.Positions.{behind_more}
-use Rattle.yaml_parser.proofs.Steps.{looked, took, took_on, left, left_on, Named, breaks, if_some_at}
+use Rattle.yaml_parser.proofs.Steps.{looked, took, left, Named, breaks, if_some_at, gave, gave_none}
 use Rattle.defs_token.specs.Token as defs
 use Rattle.model_parser.specs.declared.kind.Kind.TheVariants as kind
 
@@ -46,83 +46,71 @@ here_at b e k m here same = subst (λ o. IfSome o (λ p. m ≡ p)) (sym (here b 
 abbrev pub HasNoColon : Goal → List State → Type 0
 HasNoColon g ss = (o : Option Position) → IsPastColon (top g ss) o
 
--- The token is taken, and an event is given, which stands there.
-pub gives_at : {T : Type 0} (m : Position) {g : Goal} {p r : Reader T} {k k' : Kind} {ss : List State} {e : Raw} {v : Ev} {names : Names} {given : List (Ev × Position)}
-    → IsOfKind k' p.tokens.peeked → k' ≡ k → HasNoText k → Skipped p r ss → Takes g p.stack (tok_of_kind k) (Some e) Goal.done ss
-    → Bare g p names e v → is_over g ≡ false → is_end (tok_of_kind k) ≡ false → ((t : Token) → p.tokens.peeked ≡ Some t → IsAt (last_position p.tokens) (shown t) (Some e) m × IsPastColon (top Goal.done ss) (Some t.0))
-    → At g p names given → (names' : Names) × At Goal.done r names' (given ++ (v, m) ∷ [])
-gives_at {T} m {g} {p} {r} {k} {k'} {ss} {e} {v} {names} {given} o h plain s turn y over end places a =
-    let l = looked k' p.tokens.peeked o in
-    let t = l.0 in
-    let x = s t l.1 in
-    let same : tok_of t.1 ≡ tok_of_kind k = tok_is (l.2 ∙ h) plain in (
-      names,
-      took m l.1 x.tokens x.stack (subst (λ u. Takes g p.stack u (Some e) Goal.done ss) (sym same) turn) (plain_named y x.names a) (λ w. (over, ap is_end same ∙ end)) (places t l.1).0 (places t l.1).1 a,
-    )
+module _ {T : Type 0} {g : Goal} {p r : Reader T} {ss : List State} {names : Names} {given : List (Ev × Position)} where
+  -- The token is taken, and an event is given, which stands there.
+  pub gives_at : {k k' : Kind} {e : Raw} {v : Ev} (m : Position) → IsOfKind k' p.tokens.peeked → k' ≡ k → HasNoText k → Skipped p r ss → Takes g p.stack (tok_of_kind k) (Some e) Goal.done ss
+      → Bare g p names e v → is_over g ≡ false → is_end (tok_of_kind k) ≡ false → ((t : Token) → p.tokens.peeked ≡ Some t → IsAt (last_position p.tokens) (shown t) (Some e) m × IsPastColon (top Goal.done ss) (Some t.0))
+      → At g p names given → (names' : Names) × At Goal.done r names' (given ++ (v, m) ∷ [])
+  gives_at {k' = k'} {e} m o h plain s turn y over end places a =
+      let l = looked k' p.tokens.peeked o in
+      let t = l.0 in
+      let x = s t l.1 in
+      let same = tok_is (l.2 ∙ h) plain in (
+        names,
+        took l.1 x.tokens x.stack (subst (λ u. Takes g p.stack u (Some e) Goal.done ss) (sym same) turn) a (gave m (plain_named y x.names a) a) (λ w. (over, ap is_end same ∙ end)) (places t l.1).0 (places t l.1).1,
+      )
 
--- It stands at the token, which may be the `:` of a value that is next.
-pub gives_past : {T : Type 0} (m : Position) {g : Goal} {p r : Reader T} {k k' : Kind} {ss : List State} {e : Raw} {v : Ev} {names : Names} {given : List (Ev × Position)}
-    → IsOfKind k' p.tokens.peeked → k' ≡ k → HasNoText k → IfSome p.tokens.peeked (λ t. t.0 ≡ m) → Skipped p r ss → Takes g p.stack (tok_of_kind k) (Some e) Goal.done ss
-    → Bare g p names e v → StandsHere e → ((t : Token) → t.0 ≡ m → IsPastColon (top Goal.done ss) (Some t.0)) → is_over g ≡ false → is_end (tok_of_kind k) ≡ false → At g p names given → (names' : Names) × At Goal.done r names' (given ++ (v, m) ∷ [])
-gives_past {T} m {p = p} {e = e} o h plain mark s turn y here colon over end a =
-    gives_at m o h plain s turn y over end (λ t is. let there = if_some_at (λ (u : Token). u.0 ≡ m) mark is in (here_at (last_position p.tokens) e (shown t) m here there, colon t there)) a
+  -- It stands at the token, which may be the `:` of a value that is next.
+  pub gives : {k k' : Kind} {e : Raw} {v : Ev} (m : Position) → IsOfKind k' p.tokens.peeked → k' ≡ k → HasNoText k → IfSome p.tokens.peeked (λ t. t.0 ≡ m) → Skipped p r ss → Takes g p.stack (tok_of_kind k) (Some e) Goal.done ss
+      → Bare g p names e v → StandsHere e → ((t : Token) → t.0 ≡ m → IsPastColon (top Goal.done ss) (Some t.0)) → is_over g ≡ false → is_end (tok_of_kind k) ≡ false
+      → At g p names given → (names' : Names) × At Goal.done r names' (given ++ (v, m) ∷ [])
+  gives {e = e} m o h plain mark s turn y here colon over end a =
+      gives_at m o h plain s turn y over end (λ t is. let there = if_some_at (λ (u : Token). u.0 ≡ m) mark is in (here_at (last_position p.tokens) e (shown t) m here there, colon t there)) a
 
--- No value is next whose `:` was just taken.
-pub gives : {T : Type 0} (m : Position) {g : Goal} {p r : Reader T} {k k' : Kind} {ss : List State} {e : Raw} {v : Ev} {names : Names} {given : List (Ev × Position)}
-    → IsOfKind k' p.tokens.peeked → k' ≡ k → HasNoText k → IfSome p.tokens.peeked (λ t. t.0 ≡ m) → Skipped p r ss → Takes g p.stack (tok_of_kind k) (Some e) Goal.done ss
-    → Bare g p names e v → StandsHere e → HasNoColon Goal.done ss → is_over g ≡ false → is_end (tok_of_kind k) ≡ false → At g p names given → (names' : Names) × At Goal.done r names' (given ++ (v, m) ∷ [])
-gives {T} m o h plain mark s turn y here colon over end a = gives_past m o h plain mark s turn y here (λ t there. colon (Some t.0)) over end a
+  -- The token is taken, and it goes on.
+  pub goes_by : {g' : Goal} {t : Token} {x : Tok} → p.tokens.peeked ≡ Some t → Skips p.tokens t r.tokens → r.stack ≡ ss → r.names ≡ p.names → tok_of t.1 ≡ x → Takes g p.stack x None g' ss
+      → names_at p.names.keeping.tags g' names ≡ names_at p.names.keeping.tags g names → IsPending names g' → is_over g ≡ false → is_end x ≡ false → IsPastColon (top g' ss) (Some t.0) → At g p names given → At g' r names given
+  goes_by {g' = g'} here skips to same tok turn seen pending over end past a =
+      took here skips to (subst (λ u. Takes g p.stack u None g' ss) (sym tok) turn) a (gave_none (ap (λ n. n.keeping) same)
+      (subst (λ n. IsNamed n (names_at n.keeping.tags g' names)) (sym same) (subst (IsNamed p.names) (sym seen) a.code)) pending a) (λ w. (over, ap is_end tok ∙ end)) tt past
 
--- The token is taken, and it goes on.
-pub goes_by : {T : Type 0} {g g' : Goal} {p r : Reader T} {t : Token} {x : Tok} {ss : List State} {names : Names} {given : List (Ev × Position)}
-    → p.tokens.peeked ≡ Some t → Skips p.tokens t r.tokens → r.stack ≡ ss → r.names ≡ p.names → tok_of t.1 ≡ x → Takes g p.stack x None g' ss
-    → names_at p.names.keeping.tags g' names ≡ names_at p.names.keeping.tags g names → IsPending names g' → is_over g ≡ false → is_end x ≡ false → IsPastColon (top g' ss) (Some t.0) → At g p names given → At g' r names given
-goes_by {T} {g} {g'} {p} {r} {t} {x} {ss} {names} {given} here skips to same tok turn seen pending over end past a =
-    took_on here skips to (subst (λ u. Takes g p.stack u None g' ss) (sym tok) turn) (ap (λ n. n.keeping) same)
-    (subst (λ n. IsNamed n (names_at n.keeping.tags g' names)) (sym same) (subst (IsNamed p.names) (sym seen) a.code)) pending (λ w. (over, ap is_end tok ∙ end)) past a
+  pub goes : {g' : Goal} {k k' : Kind} → IsOfKind k' p.tokens.peeked → k' ≡ k → HasNoText k → Skipped p r ss → Takes g p.stack (tok_of_kind k) None g' ss
+      → names_at p.names.keeping.tags g' names ≡ names_at p.names.keeping.tags g names → IsPending names g' → is_over g ≡ false → is_end (tok_of_kind k) ≡ false
+      → ((t : Token) → p.tokens.peeked ≡ Some t → IsPastColon (top g' ss) (Some t.0)) → At g p names given → At g' r names given
+  goes {k' = k'} o h plain s turn seen pending over end past a =
+      let l = looked k' p.tokens.peeked o in
+      let x = s l.0 l.1 in
+      goes_by l.1 x.tokens x.stack x.names (tok_is (l.2 ∙ h) plain) turn seen pending over end (past l.0 l.1) a
 
-pub goes : {T : Type 0} {g g' : Goal} {p r : Reader T} {k k' : Kind} {ss : List State} {names : Names} {given : List (Ev × Position)}
-    → IsOfKind k' p.tokens.peeked → k' ≡ k → HasNoText k → Skipped p r ss → Takes g p.stack (tok_of_kind k) None g' ss
-    → names_at p.names.keeping.tags g' names ≡ names_at p.names.keeping.tags g names → IsPending names g' → is_over g ≡ false → is_end (tok_of_kind k) ≡ false
-    → ((t : Token) → p.tokens.peeked ≡ Some t → IsPastColon (top g' ss) (Some t.0)) → At g p names given → At g' r names given
-goes {T} {g} {g'} {p} {r} {k} {k'} {ss} {names} {given} o h plain s turn seen pending over end past a =
-    let l = looked k' p.tokens.peeked o in
-    let x = s l.0 l.1 in
-    goes_by l.1 x.tokens x.stack x.names (tok_is (l.2 ∙ h) plain) turn seen pending over end (past l.0 l.1) a
+  -- The token stays, and an event is given, which stands somewhere.
+  pub leaves_at : {k : Kind} {e : Raw} {v : Ev} (m : Position) → IsOfKind k p.tokens.peeked → Stayed p r ss → ((t : Tok) → kind_of t ≡ k → Leaves g p.stack (Some t) (Some e) Goal.done ss)
+      → Bare g p names e v → ((k : defs.Token) → BeginAt p.tokens.peeked (k ∷ []) → IsAt (last_position p.tokens) k (Some e) m) → HasNoColon Goal.done ss → breaks g Goal.done ≡ false
+      → At g p names given → (names' : Names) × At Goal.done r names' (given ++ (v, m) ∷ [])
+  leaves_at {k = k} m o s turn y spot colon over a =
+      let l = looked k p.tokens.peeked o in
+      (names, left (ap (option_map (λ (x : Token). tok_of x.1)) l.1) s.tokens s.stack (turn (tok_of l.0.1) l.2) a (gave m (plain_named y s.names a) a) over spot (colon (last_position p.tokens)))
 
--- The token stays, and an event is given, which stands somewhere.
-pub leaves_at : {T : Type 0} (m : Position) {g : Goal} {p r : Reader T} {k : Kind} {ss : List State} {e : Raw} {v : Ev} {names : Names} {given : List (Ev × Position)}
-    → IsOfKind k p.tokens.peeked → Stayed p r ss → ((t : Tok) → kind_of t ≡ k → Leaves g p.stack (Some t) (Some e) Goal.done ss)
-    → Bare g p names e v → ((k : defs.Token) → BeginAt p.tokens.peeked (k ∷ []) → IsAt (last_position p.tokens) k (Some e) m) → HasNoColon Goal.done ss → breaks g Goal.done ≡ false
-    → At g p names given → (names' : Names) × At Goal.done r names' (given ++ (v, m) ∷ [])
-leaves_at {T} m {g} {p} {r} {k} {ss} {e} {v} {names} {given} o s turn y spot colon over a =
-    let l = looked k p.tokens.peeked o in
-    (names, left m (ap (option_map (λ (x : Token). tok_of x.1)) l.1) s.tokens s.stack (turn (tok_of l.0.1) l.2) (plain_named y s.names a) over spot (colon (last_position p.tokens)) a)
+  -- It stands at the token.
+  pub leaves : {k : Kind} {e : Raw} {v : Ev} (m : Position) → IsOfKind k p.tokens.peeked → Stayed p r ss → ((t : Tok) → kind_of t ≡ k → Leaves g p.stack (Some t) (Some e) Goal.done ss)
+      → Bare g p names e v → StandsHere e → IfSome r.tokens.peeked (λ t. t.0 ≡ m) → HasNoColon Goal.done ss → breaks g Goal.done ≡ false → At g p names given → (names' : Names) × At Goal.done r names' (given ++ (v, m) ∷ [])
+  leaves {k = k} {e} m o s turn y here mark colon over a =
+      let l = looked k p.tokens.peeked o in
+      let there : l.0.0 ≡ m = if_some_at (λ (u : Token). u.0 ≡ m) (subst (λ x. IfSome x.peeked (λ t. t.0 ≡ m)) s.tokens mark) l.1 in
+      leaves_at m o s turn y (λ j begins. here_at (last_position p.tokens) e j m here (subst (λ q. BeginAt q (j ∷ [])) l.1 begins ∙ there)) colon over a
 
--- It stands at the token.
-pub leaves : {T : Type 0} (m : Position) {g : Goal} {p r : Reader T} {k : Kind} {ss : List State} {e : Raw} {v : Ev} {names : Names} {given : List (Ev × Position)}
-    → IsOfKind k p.tokens.peeked → Stayed p r ss → ((t : Tok) → kind_of t ≡ k → Leaves g p.stack (Some t) (Some e) Goal.done ss)
-    → Bare g p names e v → StandsHere e → IfSome r.tokens.peeked (λ t. t.0 ≡ m) → HasNoColon Goal.done ss → breaks g Goal.done ≡ false
-    → At g p names given → (names' : Names) × At Goal.done r names' (given ++ (v, m) ∷ [])
-leaves {T} m {g} {p} {r} {k} {ss} {e} {v} {names} {given} o s turn y here mark colon over a =
-    let l = looked k p.tokens.peeked o in
-    let there : l.0.0 ≡ m = if_some_at (λ (u : Token). u.0 ≡ m) (subst (λ x. IfSome x.peeked (λ t. t.0 ≡ m)) s.tokens mark) l.1 in
-    leaves_at m o s turn y (λ j begins. here_at (last_position p.tokens) e j m here (subst (λ q. BeginAt q (j ∷ [])) l.1 begins ∙ there)) colon over a
+  -- The token stays, and it goes on.
+  pub stays : {g' : Goal} {k : Kind} → IsOfKind k p.tokens.peeked → Stayed p r ss → ((t : Tok) → kind_of t ≡ k → Leaves g p.stack (Some t) None g' ss)
+      → names_at p.names.keeping.tags g' names ≡ names_at p.names.keeping.tags g names → IsPending names g' → HasNoColon g' ss → breaks g g' ≡ false → At g p names given → At g' r names given
+  stays {g' = g'} {k} o s turn seen pending colon over a =
+      let l = looked k p.tokens.peeked o in
+      left (ap (option_map (λ (x : Token). tok_of x.1)) l.1) s.tokens s.stack (turn (tok_of l.0.1) l.2) a
+      (gave_none (ap (λ n. n.keeping) s.names) (subst (λ n. IsNamed n (names_at n.keeping.tags g' names)) (sym s.names) (subst (IsNamed p.names) (sym seen) a.code)) pending a) over (λ k b. tt) (colon (last_position p.tokens))
 
--- The token stays, and it goes on.
-pub stays : {T : Type 0} {g g' : Goal} {p r : Reader T} {k : Kind} {ss : List State} {names : Names} {given : List (Ev × Position)}
-    → IsOfKind k p.tokens.peeked → Stayed p r ss → ((t : Tok) → kind_of t ≡ k → Leaves g p.stack (Some t) None g' ss)
-    → names_at p.names.keeping.tags g' names ≡ names_at p.names.keeping.tags g names → IsPending names g' → HasNoColon g' ss → breaks g g' ≡ false → At g p names given → At g' r names given
-stays {T} {g} {g'} {p} {r} {k} {ss} {names} {given} o s turn seen pending colon over a =
-    let l = looked k p.tokens.peeked o in
-    left_on (ap (option_map (λ (x : Token). tok_of x.1)) l.1) s.tokens s.stack (turn (tok_of l.0.1) l.2) s.names seen pending over (colon (last_position p.tokens)) a
-
--- No token is looked at, and an event is given whose position is not promised.
-pub went : {T : Type 0} (m : Position) {g : Goal} {p r : Reader T} {ss : List State} {e : Raw} {v : Ev} {names : Names} {given : List (Ev × Position)}
-    → Stayed p r ss → Leaves g p.stack (peeked_tok p.tokens) (Some e) Goal.done ss → Bare g p names e v → ((b : Option Position) (k : defs.Token) → position_at k b e ≡ None) → HasNoColon Goal.done ss → breaks g Goal.done ≡ false
-    → At g p names given → (names' : Names) × At Goal.done r names' (given ++ (v, m) ∷ [])
-went {T} m {g} {p} {r} {ss} {e} {v} {names} {given} s turn y anywhere colon over a =
-    (names, left m refl s.tokens s.stack turn (plain_named y s.names a) over (λ k begins. subst (λ o. IfSome o (λ q. m ≡ q)) (sym (anywhere (last_position p.tokens) k)) tt) (colon (last_position p.tokens)) a)
+  -- No token is looked at, and an event is given whose position is not promised.
+  pub went : {e : Raw} {v : Ev} (m : Position) → Stayed p r ss → Leaves g p.stack (peeked_tok p.tokens) (Some e) Goal.done ss → Bare g p names e v → ((b : Option Position) (k : defs.Token) → position_at k b e ≡ None) → HasNoColon Goal.done ss → breaks g Goal.done ≡ false
+      → At g p names given → (names' : Names) × At Goal.done r names' (given ++ (v, m) ∷ [])
+  went m s turn y anywhere colon over a =
+      (names, left refl s.tokens s.stack turn a (gave m (plain_named y s.names a) a) over (λ k begins. subst (λ o. IfSome o (λ q. m ≡ q)) (sym (anywhere (last_position p.tokens) k)) tt) (colon (last_position p.tokens)))
 
 -- after a node none is
 pub under_no_colon : (ss : List State) → is_under ss ≡ true → HasNoColon Goal.done ss
@@ -148,10 +136,6 @@ is_error r x h = ap is_err (error_is r x h)
 pub reads : {T E : Type 0} {g : Goal} {old new : Reader T} {result : Result (Unit {0}) E} {slot : EventSlot} → ((names : Names) (given : List (Ev × Position)) → At g old names given → Answers new given (answered result slot)) → Reads g old new result slot
 reads f = record { so = f }
 
--- What is awaited is carried on.
-pub passes : {T : Type 0} {g : Goal} {old new : Reader T} → Carries g old new → Passes g old new
-passes carries = λ final result slot f. reads (λ names given a. f.so names given (carries names given a))
-
 pub answers_written : {T : Type 0} (p : Reader T) (given : List (Ev × Position)) (r : Event × Position) {x : Ev × Position} → placed r ≡ x
     → ((names : Names) × At (goal_after_event x.0) p names (given ++ x ∷ [])) → Answers p given (Ok r)
 answers_written {T} p given r {x} h a = subst (λ y. (names : Names) × At (goal_after_event y.0) p names (given ++ y ∷ [])) (sym h) a
@@ -167,23 +151,11 @@ faulted_as {T} p given h f = subst (Faulted p given) (sym h) f
 
 -- ---- one of several kinds
 
-pub as_kind : (test : Kind → Bool) {b : Bool} {k k' : Kind} → test k ≡ b → k' ≡ k → test k' ≡ b
-as_kind test e h = ap test h ∙ e
-
-pub one_of : {A : Type 0} (test : Kind → Bool) {b : Bool} {k a : Kind} → test a ≡ b → (A → test k ≡ b) → (k ≡ a) ⊎ A → test k ≡ b
-one_of test x f (inl h) = as_kind test x h
-one_of test x f (inr h) = f h
-
 pub not_as : {k k' x : Kind} → k ≢ x → k' ≡ k → k' ≢ x
 not_as a h e = a (sym h ∙ e)
 
 pub names_nothing : {T : Type 0} {g : Goal} {p : Reader T} {names : Names} {e : Raw} {v : Ev} → resolved_event names e ≡ Some v → names_after p.names.keeping.tags names e ≡ names → names_at p.names.keeping.tags g names ≡ names → Bare g p names e v
 names_nothing a b c = record { resolves = a; after_it = b; seen = c }
-
--- ---- tokens that are refused
-
-pub no_key : (k : Kind) → k ≢ kind.Key → k ≢ kind.BlockEnd → fits BlockMappingKey k ≡ true
-no_key k a b = grind arith
 
 -- ---- after a comma
 
@@ -192,6 +164,3 @@ pub comma_skipped : {T : Type 0} {m : Position} {p r : Reader T} (k : Kind) {ss 
 comma_skipped {T} {m} {p} {r} k o mark s =
     let l = looked k p.tokens.peeked o in
     behind_more p.tokens.taken.items l.0 r.tokens.taken.items (s l.0 l.1).tokens.taken ∙ ap Some (if_some_at (λ (u : Token). u.0 ≡ m) mark l.1)
-
-pub still_after : {T : Type 0} {m : Position} (p r : Tokens T) → r.taken ≡ p.taken → IsRightAfter m p → IsRightAfter m r
-still_after p r same after = ap (λ x. behind None (all_shown x.items)) same ∙ after

@@ -1,25 +1,21 @@
 -- The words of other crates and of specs/ that many proofs here use, passed on from one place. Declares nothing.
 pub use Rattle.defs_event.proofs.NameLemmas.{after_append, append_named, both_some, named_append, NamedFirst}
 pub use Rattle.defs_event.proofs.Shaped.{named_shaped, Shaped}
-pub use Rattle.defs_event.specs.Event.{Ev}
-pub use Rattle.defs_event.specs.Grammar.{cases, empty_event, event_of, grammar, Held, in_pair, nothing_held, Place}
-pub use Rattle.defs_event.specs.Names.{are_allowed, at_document, both, declared, is_each_once, named, Names, names_after, names_after_all, no_names, number, perhaps_resolved, prefix_or_undeclared, resolved, resolved_event, undeclared, under_name, versions, with_anchor}
-pub use Rattle.defs_event.specs.Place.{block_mapping, block_sequence, Collection, directive_next, flow_mapping, flow_sequence, Next, next_after, node_next, open_after, other_next}
-pub use Rattle.defs_event.specs.Properties.{anchor_of, directive_token, directives_tokens, perhaps_anchor_of}
+pub use Rattle.defs_event.specs.Grammar.{event_of}
+pub use Rattle.defs_event.specs.Names.{are_allowed, at_document, both, declared, is_each_once, names_after_all, number, perhaps_resolved, prefix_or_undeclared, resolved, undeclared, under_name, versions, with_anchor}
+pub use Rattle.defs_event.specs.Place.{block_mapping, block_sequence, directive_next, flow_mapping, flow_sequence, node_next}
+pub use Rattle.defs_event.specs.Properties.{directives_tokens}
 pub use Rattle.defs_event.specs.Push.{between, ends, inside, load, load_from, Loaded, push}
-pub use Rattle.defs_event.specs.Raw.{Directive, nothing_written, Raw, tag, version}
-pub use Rattle.defs_event.specs.Stream.{BeginsPlaced, by_leaving, events_of, Extent, HasPlacedTo, nothing_left, placed_before, PlacedWork, Places, position_at, positions_of, raws_of, says, StreamPlaces, StreamPlacesTo, StreamSays, takes_last, to_end, to_last, to_next, wants_token}
-pub use Rattle.defs_event.specs.Table.{before, Derives, empty, reading, Row, row_of, saying, show, takes}
-pub use Rattle.defs_text.specs.Position.{Position}
+pub use Rattle.defs_event.specs.Raw.{tag, version}
+pub use Rattle.defs_event.specs.Stream.{by_leaving, nothing_left, says}
 pub use Rattle.defs_text.specs.Text.{is_empty}
 unfoldable pub use Rattle.defs_text.specs.Text.{string_chars}
-pub use Rattle.defs_token.specs.Token.{Style, Tok}
-pub use Rattle.defs_token.specs.Toks.{toks}
 pub use Rattle.model_parser.proofs.Block.{after_key_empty, entries_refuses, indentless_entries_end, key_pairs_refuses, pairs_key, part_empty, part_has_node, block_turns}
+pub use Rattle.model_parser.proofs.Common.{[], anchor_of, and_parts, ap, append-nil, append_assoc, arith, as_tokens, at_directive, Awaits, AwaitsAt, before, begins_content, begins_node, BeginsPlaced, Bool, both_ways, cases, codes, Collection, Derives, Directive, directive_token, empty, empty_event, ends_content, ends_document, ends_entry, ends_flow_key, ends_flow_pair, ends_indentless_entry, ends_item, ends_item_key, ends_part, Ev, event_at, event_then, events_of, Extent, false, first_may, Goal, goal_of, grammar, HasNoText, HasPlacedTo, Held, in_pair, inl, inr, is_after, is_directive, is_in_mapping, is_over_document, is_under, IsAt, IsAtFirst, IsFor, IsGoing, IsNested, IsNext, IsNoDirective, IsSettled, IsThere, kind_of, Leaves, List, map, may_begin, named, Names, names_after, nat_lt, Next, next_after, next_at, no_names, None, not, nothing_held, nothing_written, open_after, open_at, Option, other_next, past, perhaps_anchor_of, Place, placed_before, PlacedWork, Places, Position, position_at, positions_of, Raw, raws_of, reading, refl, Refuses, resolved_event, Row, row_of, saying, show, Some, StreamPlaces, StreamPlacesTo, StreamSays, Style, subst, suc, sym, Takes, takes, takes_last, then_event, to_end, to_last, to_next, Tok, tok_of_kind, toks, top, true, wants_token, work_of, Works, works, zero, ℕ, ◌&&◌, ◌++◌, ◌+◌, ◌<◌, ◌||◌, ◌∙◌, ◌∷◌, ◌≡◌, ◌≢◌, ◌⊎◌}
 pub use Rattle.model_parser.proofs.Document.{after_refuses, after_unmarked, content_empty, directed_more, directed_refuses, documents_bare, documents_directives, documents_explicit, explicit_refuses, start_refuses, document_turns}
 pub use Rattle.model_parser.proofs.Endings.{end_events, end_tokens, ends_so, goes_so, past_tokens}
 pub use Rattle.model_parser.proofs.Falls.{after_text_events, grammar_completes, text, text_event}
-pub use Rattle.model_parser.proofs.First.{not_document, not_entry, not_flow_key, not_flow_pair, not_indentless, not_item, not_item_key, not_part, tok_is}
+pub use Rattle.model_parser.proofs.First.{tok_is}
 pub use Rattle.model_parser.proofs.Flow.{comma_flow_has_pair, flow_after_empty, flow_empties, flow_pair_node, flow_pairs_pair, flow_valued_empty, flow_valued_node, item_node, items_item, more_flow_refuses, more_items_refuses, pair_ends, pair_value_empty, flow_turns}
 pub use Rattle.model_parser.proofs.Nodes.{after_braces, after_brackets, after_dash, after_mapping, after_scalar, after_sequence, anchor_alone, anchor_tag, block_flow, node_anchor, node_tag, nothing_refuses, part_block, properties_only, tag_alone, tag_anchor}
 pub use Rattle.model_parser.proofs.Places.{nowhere, plain_before, plain_work, with_positions}
@@ -28,17 +24,14 @@ pub use Rattle.model_parser.proofs.Settling.{mapping_under}
 pub use Rattle.model_parser.proofs.Standing.{first_of, looks, pops, top_of}
 pub use Rattle.model_parser.proofs.Completions.{left_by, none_by, said_by, taken_by}
 pub use Rattle.model_parser.proofs.StepRows.{by_steps, first_any, needs_tokens, not_refused, steps}
-pub use Rattle.model_parser.specs.Goal.{Goal}
-pub use Rattle.model_parser.specs.Kinds.{begins_content, begins_node, ends_content, ends_document, ends_entry, ends_flow_key, ends_flow_pair, ends_indentless_entry, ends_item, ends_item_key, ends_part, HasNoText, is_directive, kind_of, tok_of_kind}
-pub use Rattle.model_parser.specs.Place.{is_after, is_over_document, IsNoDirective, next_at, open_at, open_under, top}
-pub use Rattle.model_parser.specs.Rest.{Awaits, AwaitsAt, first_may, goal_of, is_in_mapping, is_under, IsBottom, IsFor, IsGoing, IsNested, may_begin, past, with_directives, work_of, Works, works}
-pub use Rattle.model_parser.specs.Stands.{as_tokens, at_directive, GoesOn, IsNext, IsOnTrack, IsSettled}
-pub use Rattle.model_parser.specs.Turn.{event_then, IsAt, IsAtFirst, IsThere, Leaves, Refuses, Takes, event_at, then_event}
+pub use Rattle.model_parser.specs.Place.{open_under}
+pub use Rattle.model_parser.specs.Rest.{IsBottom, with_directives}
+pub use Rattle.model_parser.specs.Stands.{GoesOn, IsOnTrack}
 pub use Rattle.model_parser.specs.declared.kind.Kind.{Kind}
 pub use Rattle.model_parser.specs.declared.state.State.{State}
-pub use Rattle.std.proofs.Common.{[], ap, append-nil, append_assoc, arith, Bool, bytes_eq, codes, cond, Err, false, IfOk, if◌then◌else◌, inl, inr, is_some, length, List, map, nat_le, nat_lt, None, not, Ok, Option, option_map, refl, Result, rules, Some, String, string_bytes, subst, suc, sym, true, unwrap_or, zero, ℕ, ◌&&◌, ◌++◌, ◌+◌, ◌<◌, ◌==◌, ◌||◌, ◌∙◌, ◌∷◌, ◌≡◌, ◌≢◌, ◌≤◌, ◌⊎◌}
+pub use Rattle.std.proofs.Common.{bytes_eq, cond, Err, IfOk, if◌then◌else◌, is_some, length, nat_le, Ok, option_map, Result, rules, String, string_bytes, unwrap_or, ◌==◌, ◌≤◌}
 pub use Rattle.std.proofs.Math.Bool.{or-false, or-true, or_assoc}
-pub use Rattle.std.proofs.lemmas.Bool.{and_from, and_left, and_parts, and_right, both_ways, false_from_ne_true, lt-leb, not-true, not_from_true, or_cases, or_from, or_parts}
+pub use Rattle.std.proofs.lemmas.Bool.{and_from, and_left, and_right, false_from_ne_true, lt-leb, not-true, not_from_true, or_cases, or_from, or_parts}
 pub use Rattle.std.proofs.lemmas.Bool.Decides.{Decides-like, nat_tests, same_from_decides}
 pub use Rattle.std.proofs.lemmas.Grind.{common_steps}
 pub use Rattle.std.proofs.lemmas.List.{length-append, map-append, nil_from_length}
@@ -49,7 +42,7 @@ pub use Rattle.std.specs.Result.{is_err, IfErr, IsErr, IsErrAnd, OnErr, OnOk}
 pub use Rattle.std.specs.declared.alloc.Global.{Global}
 pub use Rattle.yaml_parser.specs.Ahead.{indicator_of, scalar_of, Skips, SkipsOne, TakesBoth}
 pub use Rattle.yaml_parser.specs.Apart.{GoesApart, GoesOnBy, GoesOnWith, IsOpen, SaysBefore, StandsApart, StandsBefore, token_at, two_that_come}
-pub use Rattle.yaml_parser.specs.At.{answered, Answers, At, Carries, Passes, Stops, Fails, Faulted, goal_after_event, is_done, is_idle, is_over, is_pair_end, IsPastColon, IsPending, named_by, names_at, names_by, Reads, Stayed, Took}
+pub use Rattle.yaml_parser.specs.At.{answered, Answers, At, Carries, Passes, Stops, Fails, Faulted, goal_after_event, is_done, is_idle, is_over, is_pair_end, IsPastColon, IsPending, IsPlaced, IsTold, named_by, names_at, names_by, Reads, Stayed, Took}
 pub use Rattle.yaml_parser.specs.Blames.{Blames, EndsInAnchor, fits, HasUndeclaredHandle, HasUnknownAnchor, is_of_names, IsCause, problem_at, problem_for, problem_in, problem_of, SpoilsDirectives, StandsAt}
 pub use Rattle.yaml_parser.specs.Declares.{Declares, HasRead}
 pub use Rattle.yaml_parser.specs.Derived.{IsDerived, stood}

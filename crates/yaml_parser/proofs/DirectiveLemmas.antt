@@ -1,5 +1,5 @@
 -- Directives, one after the other.
-use Rattle.yaml_parser.proofs.Common.{[], and_left, and_right, ap, append-nil, append_assoc, arith, at_document, Bool, both_ways, bytes_eq, bytes_eq-Decides, declared, Directive, false, false_from_ne_true, get_by_text, Global, HasRead, IfSome, if◌then◌else◌, is_each_once, is_own, is_some, IsNamed, IsOwn, List, nat_lt, nat_tests, None, not, not_from_true, Option, option_map, prefix_of, refl, Some, String, string_bytes, string_chars, subst, sym, tag, true, under_name, version, versions, ℕ, ◌&&◌, ◌++◌, ◌+◌, ◌∙◌, ◌∷◌, ◌≡◌, ◌≤◌}
+use Rattle.yaml_parser.proofs.Common.{[], ap, append-nil, append_assoc, arith, at_document, Bool, bytes_eq, bytes_eq-Decides, declared, Directive, false, get_by_text, Global, HasRead, IfSome, if◌then◌else◌, is_each_once, is_own, is_some, IsNamed, IsOwn, List, nat_lt, nat_tests, None, Option, option_map, prefix_of, refl, Some, String, string_bytes, string_chars, subst, sym, tag, true, under_name, version, versions, ℕ, ◌++◌, ◌+◌, ◌∙◌, ◌∷◌, ◌≡◌, ◌≤◌}
 use Rattle.yaml_parser.specs.declared.names.Declaration.{Declaration}
 use Rattle.yaml_parser.specs.declared.names.Names.{Names}
 use Rattle.defs_event.specs.Names as defs
@@ -10,23 +10,17 @@ use Rattle.defs_event.specs.Names as defs
 under_both : (b : Bool) (v : List ℕ) (o : Option (List ℕ)) → (if b then Some v else o) ≡ None → (b ≡ false) × (o ≡ None)
 under_both b v o h = grind arith
 
-swap_tests : (a b : Bool) (u v : List ℕ) (o : Option (List ℕ)) → (a ≡ true → b ≡ false) → (if a then Some u else (if b then Some v else o)) ≡ (if b then Some v else (if a then Some u else o))
-swap_tests a b u v o h = grind arith
-
 -- A name that was not there counts wherever it is put in.
 insert_under : (x h p : List ℕ) (xs more : List (List ℕ × List ℕ)) → under_name h xs ≡ None → under_name x (xs ++ (h, p) ∷ more) ≡ (if bytes_eq x h then Some p else under_name x (xs ++ more))
 insert_under x h p [] more e = refl
 insert_under x h p (q ∷ xs) more e =
     let b = under_both (bytes_eq h q.0) q.1 (under_name h xs) e in
-    ap (λ o. if bytes_eq x q.0 then Some q.1 else o) (insert_under x h p xs more b.1)
-    ∙ swap_tests (bytes_eq x q.0) (bytes_eq x h) q.1 p (under_name x (xs ++ more)) (λ y. (false_from_ne_true (bytes_eq x h) (λ e. both_ways (bytes_eq h q.0) b.0 ((bytes_eq-Decides h q.0).1 (sym ((bytes_eq-Decides x h).0 e) ∙ (bytes_eq-Decides x q.0).0 y)))))
-
-some_if : (b : Bool) (v : List ℕ) (o : Option (List ℕ)) → is_some o ≡ true → is_some (if b then Some v else o) ≡ true
-some_if b v o h = grind arith
+    let i = insert_under x h p xs more b.1 in
+    grind (arith, bytes_eq-Decides)
 
 is_there : (h p : List ℕ) (xs more : List (List ℕ × List ℕ)) → is_some (under_name h (xs ++ (h, p) ∷ more)) ≡ true
 is_there h p [] more = ap (λ b. is_some (if b then Some p else under_name h more)) ((bytes_eq-Decides h h).1 refl)
-is_there h p (q ∷ xs) more = some_if (bytes_eq h q.0) q.1 (under_name h (xs ++ (h, p) ∷ more)) (is_there h p xs more)
+is_there h p (q ∷ xs) more = let i = is_there h p xs more in grind arith
 
 -- ---- each once
 
@@ -34,20 +28,13 @@ once_more : (h p : List ℕ) (xs : List (List ℕ × List ℕ)) → under_name h
 once_more h p [] e = refl
 once_more h p (q ∷ xs) e =
     let b = under_both (bytes_eq h q.0) q.1 (under_name h xs) e in
-    let same : under_name q.0 (xs ++ (h, p) ∷ []) ≡ under_name q.0 xs =
-    insert_under q.0 h p xs [] b.1 ∙ ap (λ c. if c then Some p else under_name q.0 (xs ++ [])) (false_from_ne_true (bytes_eq q.0 h) (λ e. both_ways (bytes_eq h q.0) b.0 ((bytes_eq-Decides h q.0).1 (sym ((bytes_eq-Decides q.0 h).0 e))))) ∙ ap (under_name q.0) (append-nil xs) in
-    ap (λ o. not (is_some o) && is_each_once (xs ++ (h, p) ∷ [])) same ∙ ap (λ c. not (is_some (under_name q.0 xs)) && c) (once_more h p xs b.1)
-
-twice_at : (h p : List ℕ) (q : List ℕ × List ℕ) (xs more : List (List ℕ × List ℕ)) (b : Bool) → bytes_eq h q.0 ≡ b → is_some (if b then Some q.1 else under_name h xs) ≡ true
-    → (is_some (under_name h xs) ≡ true → is_each_once (xs ++ (h, p) ∷ more) ≡ false) → (not (is_some (under_name q.0 (xs ++ (h, p) ∷ more))) && is_each_once (xs ++ (h, p) ∷ more)) ≡ false
-twice_at h p q xs more true e k f =
-    let same : h ≡ q.0 = (bytes_eq-Decides h q.0).0 e in
-    and_left (not (is_some (under_name q.0 (xs ++ (h, p) ∷ more)))) (is_each_once (xs ++ (h, p) ∷ more)) (not_from_true (is_some (under_name q.0 (xs ++ (h, p) ∷ more))) (subst (λ z. is_some (under_name z (xs ++ (h, p) ∷ more)) ≡ true) same (is_there h p xs more)))
-twice_at h p q xs more false e k f = and_right (not (is_some (under_name q.0 (xs ++ (h, p) ∷ more)))) (is_each_once (xs ++ (h, p) ∷ more)) (f k)
+    let i = once_more h p xs b.1 in
+    let j = insert_under q.0 h p xs [] b.1 in
+    grind (arith, append-nil, bytes_eq-Decides)
 
 once_twice : (h p : List ℕ) (xs more : List (List ℕ × List ℕ)) → is_some (under_name h xs) ≡ true → is_each_once (xs ++ (h, p) ∷ more) ≡ false
 once_twice h p [] more e = cc
-once_twice h p (q ∷ xs) more e = twice_at h p q xs more (bytes_eq h q.0) refl e (once_twice h p xs more)
+once_twice h p (q ∷ xs) more e = let there = is_there h p xs more in grind (arith, once_twice h p xs more, bytes_eq-Decides)
 
 -- ---- what directives declare
 
@@ -78,9 +65,6 @@ some_map f o h = grind arith
 pub none_if : {A : Type 0} (o : Option A) → is_some o ≡ false → o ≡ None
 none_if o h = grind arith
 
-of_if : {A B : Type 0} (f : A → B) (b : Bool) (x y : A) → f (if b then x else y) ≡ (if b then f x else f y)
-of_if f b x y = grind arith
-
 -- A handle of which the code knows nothing of this document is declared now, under this number.
 pub has_declared : {code new : Names} {keep : Bool} {names : defs.Names} {read : List Directive} (handle : String Global) (d : Declaration)
     → HasRead code keep names read → new.count ≡ code.count → new.anchors ≡ code.anchors → new.earlier ≡ code.earlier → new.declared ≡ code.declared + 1 → d.number ≡ code.declared + 1
@@ -98,23 +82,18 @@ has_declared {code} {new} {keep} {names} {read} handle d h count anchors earlier
         named = record {
           count = count ∙ h.named.count;
           anchors = λ x. ap (λ m. get_by_text m (string_bytes x)) anchors ∙ h.named.anchors x;
-          handles = λ x. ap (option_map prefix_of) (handles x) ∙ of_if (option_map prefix_of) (bytes_eq (string_chars x) hs) (Some d) (get_by_text code.handles (string_bytes x))
-              ∙ ap (λ o. if bytes_eq (string_chars x) hs then Some ps else o) (h.named.handles x)
-              ∙ sym (insert_under (string_chars x) hs ps (declared read) older free)
-              ∙ sym (ap (under_name (string_chars x)) (append_assoc (declared read) ((hs, ps) ∷ []) older))
-              ∙ sym (ap (λ xs. under_name (string_chars x) (xs ++ older)) all);
+          handles = λ x.
+              let i = insert_under (string_chars x) hs ps (declared read) older free in
+              let n = h.named.handles x in
+              rw (handles x, all, append_assoc) (grind arith);
           numbers = λ x. subst (λ n. IfSome (get_by_text new.handles (string_bytes x)) (λ e. e.number ≤ n)) (sym more)
               (subst (λ o. IfSome o (λ e. e.number ≤ code.declared + 1)) (sym (handles x)) (grind arith));
         };
         own = record {
-          own = λ x. ap (λ n. is_own n (get_by_text new.handles (string_bytes x))) earlier ∙ ap (is_own code.earlier) (handles x)
-              ∙ of_if (is_own code.earlier) (bytes_eq (string_chars x) hs) (Some d) (get_by_text code.handles (string_bytes x))
-              ∙ ap (λ b. if bytes_eq (string_chars x) hs then b else is_own code.earlier (get_by_text code.handles (string_bytes x))) later
-              ∙ ap (λ b. if bytes_eq (string_chars x) hs then true else b) (h.own.own x)
-              ∙ sym (of_if is_some (bytes_eq (string_chars x) hs) (Some ps) (under_name (string_chars x) (declared read)))
-              ∙ sym (ap (λ xs. is_some (if bytes_eq (string_chars x) hs then Some ps else under_name (string_chars x) xs)) (append-nil (declared read)))
-              ∙ sym (ap is_some (insert_under (string_chars x) hs ps (declared read) [] free))
-              ∙ sym (ap (λ xs. is_some (under_name (string_chars x) xs)) all);
+          own = λ x.
+              let i = insert_under (string_chars x) hs ps (declared read) [] free in
+              let n = h.own.own x in
+              rw (earlier, handles x, all) (grind (arith, append-nil));
           earlier = omega (arith, earlier, more, h.own.earlier);
         };
       },

@@ -1,11 +1,11 @@
 -- The arms of the productions of documents.
-use Rattle.yaml_parser.proofs.Common.{[], all_shown, and_from, and_left, and_parts, and_right, ap, append-nil, append_assoc, are_allowed, arith, At, at_document, BeginAt, Bool, Carries, declared, Declares, Derives, directed_more, Directing, Directive, directive_token, directives_tokens, DirectsTo, documents_directives, Err, Ev, events_of, false, Faulted, fits, Goal, grammar, HasRead, IfSome, if◌then◌else◌, inl, is_directive, is_each_once, is_end, is_of_names, is_over, IsAfter, IsCause, IsNamed, IsOfKind, IsOwn, Kind, kind_of, last_position, Leaves, List, lt-leb, named, nat_le, needs_tokens, none_by, None, Ok, Option, option_map, OutOfMemory, Position, Problem, Raw, Reader, reading, refl, RepeatedHandle, Result, taken_by, said_by, SecondVersion, shown, Skips, Some, SpoilsDirectives, Stayed, Fault, subst, sym, taken_toks, Takes, Tok, tok_is, tok_of, Token, Tokens, toks, true, UndeclaredHandle, versions, with_directives, Works, works, ℕ, ◌++◌, ◌+◌, ◌<◌, ◌∙◌, ◌∷◌, ◌≡◌, ◌≢◌, resolved_event, document_turns}
+use Rattle.yaml_parser.proofs.Common.{[], all_shown, and_from, and_left, and_parts, and_right, ap, append-nil, append_assoc, are_allowed, arith, At, at_document, BeginAt, Bool, Carries, declared, Declares, Derives, directed_more, Directing, Directive, directive_token, directives_tokens, DirectsTo, documents_directives, Err, Ev, events_of, false, Faulted, fits, Goal, grammar, HasRead, IfSome, if◌then◌else◌, inl, is_directive, is_each_once, is_end, is_of_names, is_over, IsAfter, IsCause, IsNamed, IsOfKind, IsOwn, Kind, kind_of, last_position, Leaves, List, lt-leb, named, nat_le, needs_tokens, none_by, None, Ok, Option, option_map, OutOfMemory, Position, Problem, Raw, Reader, reading, refl, RepeatedHandle, Result, taken_by, said_by, SecondVersion, shown, Skips, Some, SpoilsDirectives, Stayed, Fault, subst, sym, taken_toks, Takes, Tok, tok_is, tok_of, Token, Tokens, toks, true, UndeclaredHandle, versions, with_directives, Works, works, ℕ, ◌++◌, ◌+◌, ◌<◌, ◌∙◌, ◌∷◌, ◌≡◌, resolved_event, document_turns}
 use Rattle.yaml_parser.specs.declared.names.Names.{Names}
-use Rattle.yaml_parser.proofs.Steps.{looked, taken_snoc, took, took_on, left, left_as, if_some_at}
+use Rattle.yaml_parser.proofs.Steps.{looked, taken_snoc, took, left, if_some_at, gave, gave_none}
 use Rattle.yaml_parser.proofs.Arms.{Skipped, here_at, faulted_as}
 use Rattle.yaml_parser.proofs.NodeArms.{unnamed_at, unnameable_first}
 use Rattle.yaml_parser.proofs.Ends.{StandsBeside}
-use Rattle.yaml_parser.proofs.Ways.{apart_as, directed_ways}
+use Rattle.yaml_parser.proofs.Ways.{apart_as, opens}
 use Rattle.yaml_parser.proofs.DirectiveLemmas.{named_alike, own_alike, version_ignored, version_snoc, tag_snoc, versions_append}
 use Rattle.yaml_tokens.specs.declared.problem.Fault.TheVariants as fault
 use Rattle.defs_event.specs.Raw as raw
@@ -28,9 +28,9 @@ pub bare_begins : {T : Type 0} (m : Position) {p q r : Reader T} {k : Kind} {nam
 bare_begins {T} m {p} {q} {r} {k} {names} {given} here mark turn tokens keep starts stayed a =
     let l = looked k p.tokens.peeked here in (
       at_document p.names.keeping.tags names [],
-      left m (ap (option_map (λ (x : Token). tok_of x.1)) l.1) (stayed.tokens ∙ tokens) stayed.stack (turn (tok_of l.0.1) l.2)
-          (record { resolves = refl; after_it = refl; keep = ap (λ n. n.keeping) stayed.names ∙ keep; code = subst (λ n. IsNamed n (at_document p.names.keeping.tags names [])) (sym stayed.names) (starts names a.code); pending = tt })
-          refl (λ j begins. here_at (last_position p.tokens) (Raw.document_start []) j m (λ b k. refl) (subst (λ o. BeginAt o (j ∷ [])) l.1 begins ∙ if_some_at (λ (u : Token). u.0 ≡ m) (subst (λ x. IfSome x.peeked (λ u. u.0 ≡ m)) (stayed.tokens ∙ tokens) mark) l.1)) tt a,
+      left (ap (option_map (λ (x : Token). tok_of x.1)) l.1) (stayed.tokens ∙ tokens) stayed.stack (turn (tok_of l.0.1) l.2) a
+          (gave m (record { resolves = refl; after_it = refl; keep = ap (λ n. n.keeping) stayed.names ∙ keep; code = subst (λ n. IsNamed n (at_document p.names.keeping.tags names [])) (sym stayed.names) (starts names a.code); pending = tt }) a)
+          refl (λ j begins. here_at (last_position p.tokens) (Raw.document_start []) j m (λ b k. refl) (subst (λ o. BeginAt o (j ∷ [])) l.1 begins ∙ if_some_at (λ (u : Token). u.0 ≡ m) (subst (λ x. IfSome x.peeked (λ u. u.0 ≡ m)) (stayed.tokens ∙ tokens) mark) l.1)) tt,
     )
 
 -- A document begins with `---`, after these directives.
@@ -44,10 +44,10 @@ marked_begins {T} m {p} {q} {r} {k} g read {names} {given} here h mark tokens st
     let x = skip t (ap (λ y. y.peeked) tokens ∙ l.1) in
     let same : tok_of t.1 ≡ Tok.document_start = tok_is (l.2 ∙ h) refl in (
       at_document p.names.keeping.tags names read,
-      took m l.1 (subst (λ y. Skips y t r.tokens) tokens x.tokens) (x.stack ∙ ap (λ ss. state.DocumentContent ∷ ss) stack)
-          (subst (λ u. Takes g p.stack u (Some (Raw.document_start read)) Goal.done (state.DocumentContent ∷ p.stack)) (sym same) turn)
-          (record { resolves = resolves; after_it = refl; keep = ap (λ n. n.keeping) x.names ∙ keep; code = subst (λ n. IsNamed n (at_document p.names.keeping.tags names read)) (sym x.names) code; pending = tt })
-          (λ b. (over, ap is_end same)) (here_at (last_position p.tokens) (Raw.document_start read) (shown t) m (λ b k. refl) (if_some_at (λ (u : Token). u.0 ≡ m) mark l.1)) tt a,
+      took l.1 (subst (λ y. Skips y t r.tokens) tokens x.tokens) (x.stack ∙ ap (λ ss. state.DocumentContent ∷ ss) stack)
+          (subst (λ u. Takes g p.stack u (Some (Raw.document_start read)) Goal.done (state.DocumentContent ∷ p.stack)) (sym same) turn) a
+          (gave m (record { resolves = resolves; after_it = refl; keep = ap (λ n. n.keeping) x.names ∙ keep; code = subst (λ n. IsNamed n (at_document p.names.keeping.tags names read)) (sym x.names) code; pending = tt }) a)
+          (λ b. (over, ap is_end same)) (here_at (last_position p.tokens) (Raw.document_start read) (shown t) m (λ b k. refl) (if_some_at (λ (u : Token). u.0 ≡ m) mark l.1)) tt,
     )
 
 -- The stream ends.
@@ -59,15 +59,12 @@ stream_ends {T} m {p} {r} {k} {names} {given} here h mark skip a =
     let x = skip t l.1 in
     let same : tok_of t.1 ≡ Tok.stream_end = tok_is (l.2 ∙ h) refl in (
       names,
-      took m l.1 x.tokens x.stack (subst (λ u. Takes Goal.explicit p.stack u (Some Raw.stream_end) Goal.ended p.stack) (sym same) (document_turns p.stack).explicit_end)
-          (record { resolves = refl; after_it = refl; keep = ap (λ n. n.keeping) x.names; code = subst (λ n. IsNamed n names) (sym x.names) a.code; pending = tt })
-          (λ b. let no : true ≡ false = b in cc) (here_at (last_position p.tokens) Raw.stream_end (shown t) m (λ b k. refl) (if_some_at (λ (u : Token). u.0 ≡ m) mark l.1)) tt a,
+      took l.1 x.tokens x.stack (subst (λ u. Takes Goal.explicit p.stack u (Some Raw.stream_end) Goal.ended p.stack) (sym same) (document_turns p.stack).explicit_end) a
+          (gave m (record { resolves = refl; after_it = refl; keep = ap (λ n. n.keeping) x.names; code = subst (λ n. IsNamed n names) (sym x.names) a.code; pending = tt }) a)
+          (λ b. let no : true ≡ false = b in cc) (here_at (last_position p.tokens) Raw.stream_end (shown t) m (λ b k. refl) (if_some_at (λ (u : Token). u.0 ≡ m) mark l.1)) tt,
     )
 
 -- ---- directives
-
-pub not_directive : (k : Kind) → k ≢ kind.VersionDirective → k ≢ kind.TagDirective → is_directive k ≡ false
-not_directive k a b = grind arith
 
 pub directives_begin : {T : Type 0} {p q : Reader T} (k : Kind) {names : defs.Names} {given : List (Ev × Position)}
     → IsOfKind k p.tokens.peeked → is_directive k ≡ true → q.tokens ≡ p.tokens → q.stack ≡ p.stack → q.names.keeping ≡ p.names.keeping → Starts p.names q.names → ((ns : defs.Names) → IsNamed p.names ns → IsOwn q.names [])
@@ -77,8 +74,8 @@ directives_begin {T} {p} {q} k {names} {given} here h tokens stack keep starts o
     let e : is_directive (kind_of (tok_of l.0.1)) ≡ true = ap is_directive l.2 ∙ h in
     record {
       read = [];
-      here = left_as (ap (option_map (λ (x : Token). tok_of x.1)) l.1) tokens stack (documents_directives p.stack (tok_of l.0.1) e (grind arith)) keep
-          (subst (λ b. IsNamed q.names (at_document b.tags names [])) (sym keep) (starts names a.code)) refl refl tt a;
+      here = left (ap (option_map (λ (x : Token). tok_of x.1)) l.1) tokens stack (documents_directives p.stack (tok_of l.0.1) e (grind arith)) a (gave_none keep
+          (subst (λ b. IsNamed q.names (at_document b.tags names [])) (sym keep) (starts names a.code)) refl a) refl (λ k b. tt) tt;
       own = own names a.code;
       version = refl;
       taken = (taken_toks q.tokens, sym (append-nil (taken_toks q.tokens)));
@@ -131,9 +128,9 @@ version_taken {T} {p} {r} {names} {given} here skip d =
     let same = version_ignored d.read v.0 v.1 in
     record {
       read = read;
-      here = took_on l.1 x.tokens x.stack (subst (λ u. Takes (Goal.directed d.read) p.stack u None (Goal.directed read) p.stack) (sym v.2) (directed_more p.stack d.read (raw.version v.0 v.1)))
-          (ap (λ n. n.keeping) x.names) (subst (λ n. IsNamed n (at_document n.keeping.tags names read)) (sym x.names) (named_alike p.names.keeping.tags names d.read read same d.here.code))
-          (allowed_version d.read v.0 v.1 d.here.pending d.version) (λ b. (refl, ap is_end v.2)) tt d.here;
+      here = took l.1 x.tokens x.stack (subst (λ u. Takes (Goal.directed d.read) p.stack u None (Goal.directed read) p.stack) (sym v.2) (directed_more p.stack d.read (raw.version v.0 v.1))) d.here
+          (gave_none (ap (λ n. n.keeping) x.names) (subst (λ n. IsNamed n (at_document n.keeping.tags names read)) (sym x.names) (named_alike p.names.keeping.tags names d.read read same d.here.code))
+          (allowed_version d.read v.0 v.1 d.here.pending d.version) d.here) (λ b. (refl, ap is_end v.2)) tt tt;
       own = subst (λ n. IsOwn n read) (sym x.names) (own_alike d.read read same d.own);
       version = version_snoc d.read v.0 v.1 ∙ ap (λ n. n + 1) d.version;
       taken = read_more d.read (raw.version v.0 v.1) x.tokens v.2 d.taken;
@@ -174,7 +171,7 @@ version_refused {T} {p} {r} {m} {names} {given} here mark skip d =
     let l = looked kind.VersionDirective p.tokens.peeked here in
     let v = version_text (tok_of l.0.1) l.2 in
     let x = skip l.0 l.1 in
-    refused_directive SecondVersion d.read (raw.version v.0 v.1) refl refl (λ e. cc) (if_some_at (λ (t : Token). t.0 ≡ m) mark l.1) l.1 x.tokens (ap (λ n. n.keeping) x.names) v.2 (λ more. second_version d.read v.0 v.1 more d.version) d.taken (λ before last x. x) (apart_as refl (directed_ways d.read)) d.here
+    refused_directive SecondVersion d.read (raw.version v.0 v.1) refl refl (λ e. cc) (if_some_at (λ (t : Token). t.0 ≡ m) mark l.1) l.1 x.tokens (ap (λ n. n.keeping) x.names) v.2 (λ more. second_version d.read v.0 v.1 more d.version) d.taken (λ before last x. x) (apart_as (opens (Goal.directed d.read) _ refl) refl refl) d.here
 
 abbrev pub own : {A : Type 0} → Result A Fault → Result A (Option Fault)
 own (Ok x) = Ok x
@@ -190,8 +187,8 @@ tag_directive_taken {T} {p} r {t} m {h} {x} {versioned} {names} {given} (Ok u) m
     let read = d.read ++ raw.tag h x ∷ [] in
     record {
       read = read;
-      here = took_on here skips stack (subst (λ u. Takes (Goal.directed d.read) p.stack u None (Goal.directed read) p.stack) (sym tok) (directed_more p.stack d.read (raw.tag h x)))
-          keep (subst (λ b. IsNamed r.names (at_document b.tags names read)) (sym keep) k.0.named) (allowed_tag d.read h x d.here.pending k.1) (λ b. (refl, ap is_end tok)) tt d.here;
+      here = took here skips stack (subst (λ u. Takes (Goal.directed d.read) p.stack u None (Goal.directed read) p.stack) (sym tok) (directed_more p.stack d.read (raw.tag h x))) d.here
+          (gave_none keep (subst (λ b. IsNamed r.names (at_document b.tags names read)) (sym keep) k.0.named) (allowed_tag d.read h x d.here.pending k.1) d.here) (λ b. (refl, ap is_end tok)) tt tt;
       own = k.0.own;
       version = tag_snoc d.read h x ∙ d.version;
       taken = read_more d.read (raw.tag h x) skips tok d.taken;
@@ -200,7 +197,7 @@ tag_directive_taken {T} {p} r {t} m {h} {x} {versioned} {names} {given} (Err Out
 tag_directive_taken {T} {p} r {t} m {h} {x} {versioned} {names} {given} (Err (fault.At q n)) mark here skips stack keep tok declares d =
     let k = declares p.names.keeping.tags names d.read (record { named = d.here.code; own = d.own }) in
     faulted_as r given (ap (λ y. Some (fault.At y n)) k.1 ∙ ap (λ y. Some (fault.At RepeatedHandle y)) k.2)
-    (refused_directive RepeatedHandle d.read (raw.tag h x) refl refl (λ e. cc) mark here skips keep tok (λ more. and_right (nat_le (versions ((d.read ++ raw.tag h x ∷ []) ++ more)) 1) (is_each_once (declared ((d.read ++ raw.tag h x ∷ []) ++ more))) (k.0 more)) d.taken (λ before last x. x) (apart_as refl (directed_ways d.read)) d.here)
+    (refused_directive RepeatedHandle d.read (raw.tag h x) refl refl (λ e. cc) mark here skips keep tok (λ more. and_right (nat_le (versions ((d.read ++ raw.tag h x ∷ []) ++ more)) 1) (is_each_once (declared ((d.read ++ raw.tag h x ∷ []) ++ more))) (k.0 more)) d.taken (λ before last x. x) (apart_as (opens (Goal.directed d.read) _ refl) refl refl) d.here)
 
 -- a look at the next token
 pub directing_on : {T : Type 0} {p r : Reader T} {versioned : Bool} {names : defs.Names} {given : List (Ev × Position)} → ((g : Goal) → is_over g ≡ false → Carries g p r) → r.names ≡ p.names → r.tokens.taken ≡ p.tokens.taken → Directing p names given versioned → Directing r names given versioned

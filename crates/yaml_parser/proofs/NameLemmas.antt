@@ -53,24 +53,18 @@ pub primary_is : (s : String Global) → bytes_eq (string_bytes s) (codes "!") �
 unfolding chars encode
 primary_is s = same_codes s (codes "!") refl refl
 
-pub core_chars : chars (codes "tag:yaml.org,2002:") ≡ codes "tag:yaml.org,2002:"
-unfolding chars
-core_chars = refl
-
 pub undeclared_secondary : (h : List ℕ) → bytes_eq h (codes "!!") ≡ true → undeclared h ≡ Some (codes "tag:yaml.org,2002:")
 undeclared_secondary h e = ap (λ b. if b then Some (codes "tag:yaml.org,2002:") else (if bytes_eq h (codes "!") then Some (codes "!") else None)) e
 
 pub undeclared_primary : (h : List ℕ) → bytes_eq h (codes "!!") ≡ false → bytes_eq h (codes "!") ≡ true → undeclared h ≡ Some h
-undeclared_primary h a b = ap (λ x. if x then Some (codes "tag:yaml.org,2002:") else (if bytes_eq h (codes "!") then Some (codes "!") else None)) a
-    ∙ ap (λ x. if x then Some (codes "!") else None) b ∙ ap Some (sym ((bytes_eq-Decides h (codes "!")).0 b))
+undeclared_primary h a b = grind (arith, bytes_eq-Decides)
 
 pub undeclared_other : (h : List ℕ) → bytes_eq h (codes "!!") ≡ false → bytes_eq h (codes "!") ≡ false → undeclared h ≡ None
-undeclared_other h a b = ap (λ x. if x then Some (codes "tag:yaml.org,2002:") else (if bytes_eq h (codes "!") then Some (codes "!") else None)) a
-    ∙ ap (λ x. if x then Some (codes "!") else None) b
+undeclared_other h a b = grind arith
 
 pub core_is : (s : String Global) → string_bytes s ≡ codes "tag:yaml.org,2002:" → string_chars s ≡ codes "tag:yaml.org,2002:"
-unfolding string_chars
-core_is s h = ap chars h ∙ core_chars
+unfolding string_chars chars
+core_is s h = ap chars h
 
 pub undeclared_resolves : (mark : Position) (names : Names) (h x : List ℕ) (r : Result Tag Fault) → h ≢ [] → under_name h names.handles ≡ None → IsUndeclared mark h x r → Resolves mark names (record { handle = h; suffix = x }) r
 undeclared_resolves mark names h x (Ok t) a e u = resolved_nonempty names.handles h x None a e ∙ ap (option_map (λ p. record { handle = p; suffix = x })) u.0 ∙ ap (λ y. Some (record { handle = (tag_of t).handle; suffix = y })) (sym u.1)

@@ -75,9 +75,6 @@ IsOutside v = (os : List Open) → in_document os ≡ true → open_after v os �
 end_is_outside : IsOutside Ev.stream_end
 end_is_outside os h = grind arith
 
-start_is_outside : IsOutside Ev.document_start
-start_is_outside os h = grind arith
-
 -- What closes goes on after its first event.
 closes_on : (x : Option (List Open)) (es : List Ev) {P : Type 0} → ((new : List Open) → x ≡ Some new → closes es new ≡ true → P) → there_and (closes es) x ≡ true → P
 closes_on None es f c = cc
@@ -132,7 +129,7 @@ explicit_outside {T} {p} {names} {given} a =
 pub directed_outside : {T : Type 0} {p : Reader T} {ds : List Directive} {names : Names} {given : List (Ev × Position)} → At (Goal.directed ds) p names given → is_open false (events_of given) ≡ false
 directed_outside {T} {p} {ds} {names} {given} a =
     let n = nested_with a (Raw.document_start ds) (goes_so (Goal.directed ds) p.stack Tok.document_start [] refl refl) (ap (λ b. if b then Some Ev.document_start else None) a.pending) (works_free p.stack) in
-    false_from_ne_true (is_open false (events_of given)) (λ o. never_nested Ev.document_start start_is_outside (events_of given) n.0 o n.1)
+    false_from_ne_true (is_open false (events_of given)) (λ o. never_nested Ev.document_start (λ os h. grind arith) (events_of given) n.0 o n.1)
 
 never_starts : (es more : List Ev) (os : List Open) → closes (es ++ Ev.stream_start ∷ more) os ≡ true → ⊥
 never_starts [] more os h = cc

@@ -7,12 +7,12 @@ use Rattle.model_parser.specs.Stands.{IsNext as Starts}
 use Rattle.model_parser.proofs.Standing.{next_more}
 use Rattle.yaml_parser.specs.declared.node.Properties.{Properties}
 use Rattle.model_parser.proofs.OnePlacing.{some_is}
-use Rattle.yaml_parser.proofs.Steps.{looked, took, left, Named, breaks, map_snoc, if_some_at}
+use Rattle.yaml_parser.proofs.Steps.{looked, took, left, Named, map_snoc, if_some_at, gave}
 use Rattle.yaml_parser.proofs.Arms.{StandsHere, HasNoColon, here_at, under_no_colon, Skipped, stays, stay, not_as, faulted_as}
 use Rattle.yaml_parser.proofs.Ends.{at_derived, StandsBeside, at_peeked}
 use Rattle.yaml_parser.proofs.Completed.{completed}
 use Rattle.yaml_parser.proofs.Since.{since_stops}
-use Rattle.yaml_parser.proofs.Ways.{apart_as, node_apart, node_ways, anchored_ways, node_comes}
+use Rattle.yaml_parser.proofs.Ways.{apart_as, node_apart, node_comes, opens}
 use Rattle.defs_token.specs.Token as defs
 use Rattle.yaml_tokens.specs.declared.problem.Fault.TheVariants as fault
 use Rattle.defs_event.specs.Event as event
@@ -63,9 +63,9 @@ starts {T} {E} m {p} {q} r {k} {k'} {w} {o} {x} {ss} mk f {s} {given} (Ok e) slo
     let same : tok_of t.1 ≡ tok_of_kind k = tok_is (l.2 ∙ h) plain in
     let v : Ev × Position = (f (number s (name_of x)) (kept_tag x), m) in
     let one : At Goal.done r (with_anchor s (name_of x)) (given ++ v ∷ []) =
-    took m l.1 (subst (λ u. Skips p.tokens t u) (sym g.tokens) y.tokens) (g.stack ∙ y.stack) (subst (λ u. Takes (Goal.after_properties w o) p.stack u (Some (mk (perhaps_anchor_of o) (perhaps_tag_of o))) Goal.done ss) (sym same) turn)
-    (made_named makes has (g.keep ∙ ap (λ n. n.keeping) y.names) g.code) (λ b. (refl, ap is_end same ∙ end))
-    (here_at (last_position p.tokens) (mk (perhaps_anchor_of o) (perhaps_tag_of o)) (shown t) m (alike (perhaps_anchor_of o) (perhaps_tag_of o)) (if_some_at (λ (z : Token). z.0 ≡ m) mark l.1)) (colon (Some t.0)) a in
+    took l.1 (subst (λ u. Skips p.tokens t u) (sym g.tokens) y.tokens) (g.stack ∙ y.stack) (subst (λ u. Takes (Goal.after_properties w o) p.stack u (Some (mk (perhaps_anchor_of o) (perhaps_tag_of o))) Goal.done ss) (sym same) turn) a
+    (gave m (made_named makes has (g.keep ∙ ap (λ n. n.keeping) y.names) g.code) a) (λ b. (refl, ap is_end same ∙ end))
+    (here_at (last_position p.tokens) (mk (perhaps_anchor_of o) (perhaps_tag_of o)) (shown t) m (alike (perhaps_anchor_of o) (perhaps_tag_of o)) (if_some_at (λ (z : Token). z.0 ≡ m) mark l.1)) (colon (Some t.0)) in
     let two : (names : Names) × At (goal_after_event v.0) r names (given ++ v ∷ []) = (with_anchor s (name_of x), subst (λ g. At g r (with_anchor s (name_of x)) (given ++ v ∷ [])) (sym (no_end _ _)) one) in
     subst (λ z. (names : Names) × At (goal_after_event z.0) r names (given ++ z ∷ [])) (sym g.value) two
 
@@ -81,9 +81,9 @@ scalar_taken {T} m {p} {q} {r} {y} {v} {n} {u} {w} {o} {x} {ss} {s} {given} {t} 
     let makes : Makes (λ a b. Raw.scalar v y a b) (λ a b. Ev.scalar v y a b) = record { resolves = λ s a b. refl; after_it = λ k s a b. refl } in (
       with_anchor s (name_of x),
       subst (λ z. At Goal.done r (with_anchor s (name_of x)) (given ++ (z, m) ∷ [])) e
-          (took m here (subst (λ z. Skips p.tokens t z) (sym g.tokens) skips) (g.stack ∙ stack) (subst (λ z. Takes (Goal.after_properties w o) p.stack z (Some (Raw.scalar v y (perhaps_anchor_of o) (perhaps_tag_of o))) Goal.done ss) (sym tok) turn)
-          (made_named makes has (g.keep ∙ ap (λ z. z.keeping) names_same) g.code) (λ b. (refl, ap is_end tok))
-          (here_at (last_position p.tokens) (Raw.scalar v y (perhaps_anchor_of o) (perhaps_tag_of o)) (shown t) m (λ b k. refl) mark) (colon (Some t.0)) a),
+          (took here (subst (λ z. Skips p.tokens t z) (sym g.tokens) skips) (g.stack ∙ stack) (subst (λ z. Takes (Goal.after_properties w o) p.stack z (Some (Raw.scalar v y (perhaps_anchor_of o) (perhaps_tag_of o))) Goal.done ss) (sym tok) turn) a
+          (gave m (made_named makes has (g.keep ∙ ap (λ z. z.keeping) names_same) g.code) a) (λ b. (refl, ap is_end tok))
+          (here_at (last_position p.tokens) (Raw.scalar v y (perhaps_anchor_of o) (perhaps_tag_of o)) (shown t) m (λ b k. refl) mark) (colon (Some t.0))),
     )
 
 -- Properties alone are registered, and the token stays.
@@ -99,9 +99,9 @@ properties_left {T} m {p} {r} {k} {n} {u} (Some o) {x} {s} {given} here mark tur
     let makes : Makes (λ a b. Raw.empty_scalar a b) (λ a b. Ev.scalar [] Style.plain a b) = record { resolves = λ s a b. refl; after_it = λ k s a b. refl } in (
       with_anchor s (name_of (Some x)),
       subst (λ z. At Goal.done r (with_anchor s (name_of (Some x))) (given ++ (z, m) ∷ [])) e
-          (left m (ap (option_map (λ (z : Token). tok_of z.1)) l.1) g.tokens g.stack (turn o (tok_of l.0.1) l.2) (made_named makes has g.keep g.code) refl
+          (left (ap (option_map (λ (z : Token). tok_of z.1)) l.1) g.tokens g.stack (turn o (tok_of l.0.1) l.2) a (gave m (made_named makes has g.keep g.code) a) refl
           (λ j begins. here_at (last_position p.tokens) (Raw.empty_scalar (written.anchor_of o) (written.tag_of o)) j m (λ b k. refl) (subst (λ q. BeginAt q (j ∷ [])) l.1 begins ∙ if_some_at (λ (z : Token). z.0 ≡ m) mark l.1))
-          (under_no_colon p.stack a.stands.fits.0 (last_position p.tokens)) a),
+          (under_no_colon p.stack a.stands.fits.0 (last_position p.tokens))),
     )
 
 -- ---- a name that stands for nothing
@@ -161,44 +161,36 @@ unnamed_at {T} {g} {g'} {p} {r} {t} {m} {ss} {e} {names} {given} q fit of_names 
 
 -- ---- small steps
 
--- whether a comma may stand before it does not depend on the context
-pub breaks_none : (w u : positions.NodeContext) (o : Option written.Properties) → breaks (Goal.after_properties w o) (Goal.after_properties u o) ≡ false
-breaks_none w u o = grind arith
-
 -- what is pending does not depend on the position
 pub pending_same : (w u : positions.NodeContext) (names : Names) (o : Option written.Properties) → IsPending names (Goal.after_properties w o) → IsPending names (Goal.after_properties u o)
 pending_same w u names o h = grind arith
 
 -- no token of properties, and no alias
-pub record HasNoProperties (k : Kind) : Type 0 where
-  pub alias : k ≢ kind.Alias
-  pub anchor : k ≢ kind.Anchor
-  pub tag : k ≢ kind.Tag
+abbrev pub HasNoProperties : Kind → Type 0
+HasNoProperties k = (k ≢ kind.Alias) × (k ≢ kind.Anchor) × (k ≢ kind.Tag)
 
 pub block_alone : {k : Kind} → (k ≡ kind.BlockEntry) ⊎ ((k ≡ kind.BlockSequenceStart) ⊎ (k ≡ kind.BlockMappingStart)) → HasNoProperties k
-block_alone h = record { alias = λ e. grind arith; anchor = λ e. grind arith; tag = λ e. grind arith }
+block_alone h = ((λ e. grind arith), (λ e. grind arith), (λ e. grind arith))
 
 -- a node without properties
 pub bare : {T : Type 0} {p : Reader T} {k : Kind} (w : positions.NodeContext) {names : Names} {given : List (Ev × Position)} → IsOfKind k p.tokens.peeked → HasNoProperties k
     → At (Goal.node w) p names given → At (Goal.after_properties w None) p names given
-bare w here plain a = stays here stay (λ t h. turn.node_content _ _ t (not_as plain.alias h) (not_as plain.anchor h) (not_as plain.tag h)) refl tt (λ o. tt) refl a
+bare w here plain a = stays here stay (λ t h. turn.node_content _ _ t (not_as plain.0 h) (not_as plain.1 h) (not_as plain.2 h)) refl tt (λ o. tt) refl a
 
 -- what begins no block collection
-pub record BeginsNoBlock (k : Kind) : Type 0 where
-  pub entry : k ≢ kind.BlockEntry
-  pub sequence : k ≢ kind.BlockSequenceStart
-  pub mapping : k ≢ kind.BlockMappingStart
+abbrev pub BeginsNoBlock : Kind → Type 0
+BeginsNoBlock k = (k ≢ kind.BlockEntry) × (k ≢ kind.BlockSequenceStart) × (k ≢ kind.BlockMappingStart)
 
 block_in_flow : {T : Type 0} {p : Reader T} {k : Kind} (o : Option written.Properties) {names : Names} {given : List (Ev × Position)} → IsOfKind k p.tokens.peeked → BeginsNoBlock k
     → At (Goal.after_properties context.Block o) p names given → At (Goal.after_properties context.Flow o) p names given
-block_in_flow o {names} here none a = stays here stay (λ t e. turn.block_flow _ o t (not_as none.sequence e) (not_as none.mapping e)) refl (pending_same context.Block context.Flow names o a.pending) (λ z. tt) (breaks_none context.Block context.Flow o) a
+block_in_flow o {names} here none a = stays here stay (λ t e. turn.block_flow _ o t (not_as none.1 e) (not_as none.2 e)) refl (pending_same context.Block context.Flow names o a.pending) (λ z. tt) refl a
 
 -- What begins no block collection is flow content, wherever it stands.
 pub in_flow : {T : Type 0} {p : Reader T} {k : Kind} (w : positions.NodeContext) (o : Option written.Properties) {names : Names} {given : List (Ev × Position)} → IsOfKind k p.tokens.peeked → BeginsNoBlock k
     → At (Goal.after_properties w o) p names given → At (Goal.after_properties context.Flow o) p names given
 in_flow context.Flow o here none a = a
 in_flow context.Block o here none a = block_in_flow o here none a
-in_flow context.Part o {names} here none a = block_in_flow o here none (stays here stay (λ t e. turn.part_block _ o t (not_as none.entry e)) refl (pending_same context.Part context.Block names o a.pending) (λ o. tt) (breaks_none context.Part context.Block o) a)
+in_flow context.Part o {names} here none a = block_in_flow o here none (stays here stay (λ t e. turn.part_block _ o t (not_as none.0 e)) refl (pending_same context.Part context.Block names o a.pending) (λ o. tt) refl a)
 
 pub taken_with : {T : Type 0} {p q : Tokens T} {t : Token} → SkipsOne p q → p.peeked ≡ Some t → Skips p t q
 taken_with {T} {p} {q} {t} h e = if_some_at (λ u. Skips p u q) h.token e
@@ -220,9 +212,9 @@ pub alias_taken : {T : Type 0} (m : Position) {p r : Reader T} {t : Token} {w : 
     → At (Goal.node w) p names given → (names' : Names) × At Goal.done r names' (given ++ (Ev.alias n, m) ∷ [])
 alias_taken {T} m {p} {r} {t} {w} {x} {n} {names} {given} here mark skips stack same tok found a = (
   names,
-  took m here skips stack (subst (λ u. Takes (Goal.node w) p.stack u (Some (Raw.alias x)) Goal.done p.stack) (sym tok) (turn.node_alias w p.stack x))
-      (record { resolves = ap (option_map Ev.alias) found; after_it = refl; keep = ap (λ z. z.keeping) same; code = subst (λ z. IsNamed z names) (sym same) a.code; pending = tt })
-      (λ b. (refl, ap is_end tok)) (here_at (last_position p.tokens) (Raw.alias x) (shown t) m (λ b k. refl) mark) (under_no_colon p.stack a.stands.fits.0 (Some t.0)) a,
+  took here skips stack (subst (λ u. Takes (Goal.node w) p.stack u (Some (Raw.alias x)) Goal.done p.stack) (sym tok) (turn.node_alias w p.stack x)) a
+      (gave m (record { resolves = ap (option_map Ev.alias) found; after_it = refl; keep = ap (λ z. z.keeping) same; code = subst (λ z. IsNamed z names) (sym same) a.code; pending = tt }) a)
+      (λ b. (refl, ap is_end tok)) (here_at (last_position p.tokens) (Raw.alias x) (shown t) m (λ b k. refl) mark) (under_no_colon p.stack a.stands.fits.0 (Some t.0)),
 )
 
 pub alias_unknown : {T : Type 0} {p r : Reader T} {t : Token} {m : Position} {w : positions.NodeContext} {x : List ℕ} {names : Names} {given : List (Ev × Position)}
@@ -288,14 +280,14 @@ pub tag_unknown : {T : Type 0} {p r : Reader T} {t : Token} {m : Position} {w : 
 tag_unknown {T} {p} {r} {t} {m} {w} {x} {names} {given} here mark skips same tok missing a =
     unnamed_at UndeclaredHandle (ap (λ u. fits UndeclaredHandle (kind_of u)) tok) refl (inl (sym mark, λ e q before. no_anchor_before w a before)) here skips (ap (λ z. z.keeping) same) (subst (λ z. Takes (Goal.node w) p.stack z None (Goal.after_tag w x) p.stack) (sym tok) (turn.node_tag w p.stack x))
     (λ ts es y. tagged_unnameable p.names.keeping.tags names _ _ _ ts es (ap (option_map Some) missing) y.0)
-    (subst (HasUndeclaredHandle names) (sym tok) (no_prefix x (prefix_of names.handles x.handle) missing)) (apart_as refl (node_ways w)) a
+    (subst (HasUndeclaredHandle names) (sym tok) (no_prefix x (prefix_of names.handles x.handle) missing)) (apart_as (opens (Goal.node w) _ refl) refl refl) a
 
 pub tag_unknown_after : {T : Type 0} {p r : Reader T} {t : Token} {m : Position} {w : positions.NodeContext} {v : List ℕ} {x : event.Tag} {names : Names} {given : List (Ev × Position)}
     → p.tokens.peeked ≡ Some t → EndsInAnchor (all_shown p.tokens.taken.items) m → Skips p.tokens t r.tokens → r.names ≡ p.names → tok_of t.1 ≡ written.tag_token x → resolved names.handles x ≡ None → At (Goal.after_anchor w v) p names given → Faulted r given (Some (fault.At UndeclaredHandle m))
 tag_unknown_after {T} {p} {r} {t} {m} {w} {v} {x} {names} {given} here anchored skips same tok missing a =
     unnamed_at UndeclaredHandle (ap (λ u. fits UndeclaredHandle (kind_of u)) tok) refl (inr (refl, anchored)) here skips (ap (λ z. z.keeping) same) (subst (λ z. Takes (Goal.after_anchor w v) p.stack z None (Goal.after_properties w (Some (written.anchored_tagged v x))) p.stack) (sym tok) (turn.anchor_tag w p.stack v x))
     (λ ts es y. content_unnameable p.names.keeping.tags names _ _ _ ts es (ap (option_map Some) missing) y.0)
-    (subst (HasUndeclaredHandle names) (sym tok) (no_prefix x (prefix_of names.handles x.handle) missing)) (apart_as refl (anchored_ways w v)) a
+    (subst (HasUndeclaredHandle names) (sym tok) (no_prefix x (prefix_of names.handles x.handle) missing)) (apart_as (opens (Goal.after_anchor w v) _ refl) refl refl) a
 
 -- An anchor was taken, and then a token was looked at.
 pub anchor_before : {T : Type 0} {p q : Tokens T} (r : Tokens T) {t : Token} {m : Position} → Skips p t q → r.taken ≡ q.taken → kind_of (tok_of t.1) ≡ kind.Anchor → t.0 ≡ m → EndsInAnchor (all_shown r.taken.items) m

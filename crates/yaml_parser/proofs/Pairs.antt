@@ -1,8 +1,8 @@
 -- A key or a value that is taken at once with the token before it: as if both tokens were looked at and taken, one after the other.
-use Rattle.yaml_parser.proofs.Common.{[], after_scalar, all_shown, answered, Answers, ap, append-nil, append_assoc, At, ends_part, Err, Ev, EventSlot, false, Faulted, Goal, HandsOut, IfNone, indicator_of, is_over, IsHanded, List, mapping_under, Names, None, Ok, OnErr, OnOk, Option, OutOfMemory, pairs_key, part_has_node, placed, Position, Reader, refl, Result, scalar_of, Scanned, scanned, shown, shown_list, Skips, Some, State, Stayed, string_chars, Style, subst, sym, TakesBoth, Token, Tokens, ◌++◌, ◌∙◌, ◌∷◌, ◌≡◌, ◌≢◌, block_turns}
+use Rattle.yaml_parser.proofs.Common.{HasNoText, is_end, Kind, kind_of, names_at, Takes, tok_of, tok_of_kind, [], after_scalar, all_shown, answered, Answers, ap, append-nil, append_assoc, At, Err, Ev, EventSlot, false, Faulted, Goal, HandsOut, IfNone, indicator_of, is_over, IsHanded, List, mapping_under, Names, None, Ok, OnErr, OnOk, Option, OutOfMemory, part_has_node, placed, Position, Reader, refl, Result, scalar_of, Scanned, scanned, shown, shown_list, Skips, Some, State, Stayed, string_chars, Style, subst, sym, TakesBoth, Token, Tokens, ◌++◌, ◌∙◌, ◌∷◌, ◌≡◌, arith}
 use Rattle.yaml_tokens.specs.declared.token.TokenType.{TokenType}
 use Rattle.yaml_scanner.specs.declared.key_value.PlainNode.{PlainNode}
-use Rattle.yaml_parser.proofs.Arms.{Skipped, stays, stay, goes, goes, as_kind, not_as, answers_written, under_no_colon}
+use Rattle.yaml_parser.proofs.Arms.{Skipped, stays, stay, goes, answers_written, under_no_colon}
 use Rattle.yaml_parser.proofs.NodeArms.{scalar_taken, bare, in_flow}
 use Rattle.yaml_parser.proofs.Steps.{looks_on, if_some_at}
 use Rattle.yaml_tokens.specs.declared.token.TokenType.TheVariants as token
@@ -24,13 +24,10 @@ looking_handed : {T : Type 0} (p : Tokens T) {s : Scanned} (t : Token) → p.pee
 looking_handed p {s} t none h a =
     h.given ∙ ap (λ ts. ts ++ shown t ∷ []) (a ∙ ap (λ o. all_shown p.taken.items ++ shown_list o) none ∙ append-nil (all_shown p.taken.items))
 
-no_token : {A : Type 0} {o : Option Token} {t : Token} → o ≡ None → o ≡ Some t → A
-no_token none some = let e : None ≡ Some _ = sym none ∙ some in cc
-
 -- The next token is looked at.
 looks : {T : Type 0} (p : Reader T) (s : Scanned) (t : Token) {g : Goal} {names : Names} {given : List (Ev × Position)}
     → p.tokens.peeked ≡ None → HandsOut (scanned p.tokens.scanner) (shown t) s → is_over g ≡ false → At g p names given → At g (record p { tokens = looking p.tokens s t }) names given
-looks p s t none h going a = looks_on refl (λ u e. no_token none e) (looking_handed p.tokens t none h) (λ _. (h.ended, h.fault)) refl refl going a
+looks p s t none h going a = looks_on refl (λ u e. let no : None ≡ Some u = sym none ∙ e in cc) (looking_handed p.tokens t none h) (λ _. (h.ended, h.fault)) refl refl going a
 
 -- It is taken, and a state more is awaited.
 takes : {T : Type 0} (p : Reader T) (s : Scanned) (t : Token) (x : State)
@@ -46,8 +43,8 @@ part_scalar : {T : Type 0} (p r : Reader T) (s : Scanned) (n : PlainNode) {names
 part_scalar {T} p r s n {names} {given} none h skips stack same a =
     let q : Reader T = record p { tokens = looking p.tokens s (scalar_of n) } in
     let one : At Goal.part q names given = looks p s (scalar_of n) none h refl a in
-    let two : At (Goal.node context.Part) q names given = stays {k = kind.Scalar} refl stay (λ t e. part_has_node _ t (as_kind ends_part refl e)) refl tt (λ o. tt) refl one in
-    let three = in_flow {k = kind.Scalar} context.Part None refl (record { entry = λ e. cc; sequence = λ e. cc; mapping = λ e. cc }) (bare {k = kind.Scalar} context.Part refl (record { alias = λ e. cc; anchor = λ e. cc; tag = λ e. cc }) two) in
+    let two : At (Goal.node context.Part) q names given = stays {k = kind.Scalar} refl stay (λ t e. part_has_node _ t (grind arith)) refl tt (λ o. tt) refl one in
+    let three = in_flow {k = kind.Scalar} context.Part None refl ((λ e. cc), (λ e. cc), (λ e. cc)) (bare {k = kind.Scalar} context.Part refl ((λ e. cc), (λ e. cc), (λ e. cc)) two) in
     scalar_taken n.mark {p = q} {q = r} {r = r} {x = None} refl refl skips stack same refl (after_scalar _ None _ _)
     (λ _ c. record { value = (refl, refl); tokens = refl; stack = refl; keep = refl; code = c }) (under_no_colon p.stack (mapping_under p.stack a.stands.fits)) (record { both = refl; anchor = refl; tag = refl }) three
 
@@ -65,36 +62,17 @@ both_taken {T} {old} {k} {n} {new} b = record {
   scanner = ap (λ t. record new.scanner { start = t }) b.start;
 }
 
--- what a key or a value comes to, where the reader stands before a part once its first token is taken
-both : {T : Type 0} (p q r : Reader T) {k : TokenType} {n : PlainNode} (x : State) {names : Names} {given : List (Ev × Position)} (b : TakesBoth p.tokens k n q.tokens)
-    → q.stack ≡ p.stack → q.names ≡ p.names → Stayed q r (x ∷ q.stack) → At Goal.part (past_first p b.hands.between (indicator_of k n) x) names given
-    → (names' : Names) × At Goal.done r names' (given ++ (Ev.scalar (string_chars n.text) Style.plain 0 None, n.mark) ∷ [])
-both p q r {k} {n} x b stack same s a =
-    part_scalar (past_first p b.hands.between (indicator_of k n) x) r (scanned q.tokens.scanner) n refl b.hands.second
-    (subst (λ u. Skips (looking (taking (looking p.tokens b.hands.between (indicator_of k n)) (indicator_of k n)) (scanned q.tokens.scanner) (scalar_of n)) (scalar_of n) u) (sym s.tokens) (both_taken b))
-    (s.stack ∙ ap (λ ss. x ∷ ss) stack) (s.names ∙ same) a
-
-key_no_value : kind.Key ≢ kind.Value
-key_no_value e = cc
-
-pub key_taken : {T : Type 0} {p q r : Reader T} {n : PlainNode} {names : Names} {given : List (Ev × Position)} → TakesBoth p.tokens token.Key n q.tokens
-    → q.stack ≡ p.stack → q.names ≡ p.names → Stayed q r (state.BlockMappingValue ∷ q.stack) → At Goal.pairs p names given
-    → (names' : Names) × At Goal.done r names' (given ++ (Ev.scalar (string_chars n.text) Style.plain 0 None, n.mark) ∷ [])
-key_taken {T} {p} {q} {r} {n} {names} {given} b stack same s a =
-    let l : Reader T = record p { tokens = looking p.tokens b.hands.between (indicator_of token.Key n) } in
-    let one : At Goal.pairs l names given = looks p b.hands.between (indicator_of token.Key n) b.none b.hands.first refl a in
-    let two : At Goal.key_pairs l names given = stays {k = kind.Key} refl stay (λ t e. pairs_key _ t (not_as key_no_value e)) refl tt (λ o. tt) refl one in
-    both p q r state.BlockMappingValue b stack same s
-    (goes {k = kind.Key} refl refl refl (takes p b.hands.between (indicator_of token.Key n) state.BlockMappingValue) (block_turns _).key_pairs_key refl tt refl refl (λ t i. tt) two)
-
-pub value_taken : {T : Type 0} {p q r : Reader T} {n : PlainNode} {names : Names} {given : List (Ev × Position)} → TakesBoth p.tokens token.Value n q.tokens
-    → q.stack ≡ p.stack → q.names ≡ p.names → Stayed q r (state.BlockMappingKey ∷ q.stack) → At Goal.after_key p names given
-    → (names' : Names) × At Goal.done r names' (given ++ (Ev.scalar (string_chars n.text) Style.plain 0 None, n.mark) ∷ [])
-value_taken {T} {p} {q} {r} {n} {names} {given} b stack same s a =
-    let l : Reader T = record p { tokens = looking p.tokens b.hands.between (indicator_of token.Value n) } in
-    let one : At Goal.after_key l names given = looks p b.hands.between (indicator_of token.Value n) b.none b.hands.first refl a in
-    both p q r state.BlockMappingKey b stack same s
-    (goes {k = kind.Value} refl refl refl (takes p b.hands.between (indicator_of token.Value n) state.BlockMappingKey) (block_turns _).after_key_value refl tt refl refl (λ t i. tt) one)
+-- What a key or a value comes to, with the scalar after it.
+pub pair_taken : {T : Type 0} {p q r : Reader T} {k : TokenType} {n : PlainNode} {d : Kind} {x : State} {names : Names} {given : List (Ev × Position)} (g : Goal) → kind_of (tok_of k) ≡ d → HasNoText d → is_end (tok_of_kind d) ≡ false → is_over g ≡ false
+    → names_at p.names.keeping.tags Goal.part names ≡ names_at p.names.keeping.tags g names → Takes g p.stack (tok_of_kind d) None Goal.part (x ∷ p.stack) → TakesBoth p.tokens k n q.tokens → q.stack ≡ p.stack → q.names ≡ p.names → Stayed q r (x ∷ q.stack)
+    → At g p names given → (names' : Names) × At Goal.done r names' (given ++ (Ev.scalar (string_chars n.text) Style.plain 0 None, n.mark) ∷ [])
+pair_taken {T} {p} {q} {r} {k} {n} {d} {x} {names} {given} g is plain no_end going seen turn b stack same s a =
+    let t = indicator_of k n in
+    let one : At g (record p { tokens = looking p.tokens b.hands.between t }) names given = looks p b.hands.between t b.none b.hands.first going a in
+    let two : At Goal.part (past_first p b.hands.between t x) names given = goes {k = d} is refl plain (takes p b.hands.between t x) turn seen tt going no_end (λ u i. tt) one in
+    part_scalar (past_first p b.hands.between t x) r (scanned q.tokens.scanner) n refl b.hands.second
+    (subst (λ u. Skips (looking (taking (looking p.tokens b.hands.between t) t) (scanned q.tokens.scanner) (scalar_of n)) (scalar_of n) u) (sym s.tokens) (both_taken b))
+    (s.stack ∙ ap (λ ss. x ∷ ss) stack) (s.names ∙ same) two
 
 -- ---- what is answered
 

@@ -1,40 +1,42 @@
 -- What is known of a parser, from call to call.
 use Rattle.std.specs.Bool.{beq}
-use Rattle.yaml_parser.proofs.Common.{IsSome, ◌≤◌, ◌+◌, [], Advances, all_placed, and_parts, ap, append-nil, AreAll, arith, Bool, both_ways, Continues, Err, ErrorReport, Ev, ev_of, Event, EventReader, events_left, Explains, false, false_from_ne_true, fault_kept, fault_of_all, fault_seen, GivesEvent, GivesFault, has_end, Holds, IfSome, if◌then◌else◌, inl, inr, is_fresh, is_some, is_stream_end, IsHeld, IsSound, Keeping, length, List, map-append, nil_from_length, no_document, None, not, not-true, Notes, Ok, Option, option_map, or_cases, Parsed, placed, Position, read_so, Reader, refl, Result, scanned, Some, stays_steady, Fault, subst, sym, true, Waits, work, ◌&&◌, ◌++◌, ◌<◌, ◌||◌, ◌∙◌, ◌∷◌, ◌≡◌, ◌≢◌}
-use Rattle.yaml_parser.proofs.Holding.{KnowsSteady, closed, keeps, failed_as, set_stands, held_sound, held_explained, has_end_snoc}
+use Rattle.yaml_parser.proofs.Common.{IsSome, ◌≤◌, ◌+◌, [], Advances, all_placed, and_parts, ap, append-nil, AreAll, arith, Bool, both_ways, Continues, Err, ErrorReport, Ev, ev_of, Event, EventReader, events_left, Explains, false, false_from_ne_true, fault_kept, fault_of_all, fault_seen, GivesEvent, GivesFault, has_end, Holds, IfSome, if◌then◌else◌, inl, inr, is_fresh, is_some, is_stream_end, IsHeld, IsSound, Keeping, length, List, map-append, nil_from_length, no_document, None, not, not-true, Notes, Ok, Option, option_map, or_cases, Parsed, placed, read, Position, read_so, Reader, refl, Result, scanned, Some, stays_steady, Fault, subst, sym, true, Waits, work, ◌&&◌, ◌++◌, ◌<◌, ◌||◌, ◌∙◌, ◌∷◌, ◌≡◌, ◌≢◌, Faulted}
+use Rattle.yaml_parser.proofs.Holding.{KnowsSteady, closed, keeps, set_stands, held_sound, held_explained, has_end_snoc}
 use Rattle.yaml_parser.proofs.DirectiveLemmas.{none_if, some_map}
 use Rattle.yaml_parser.proofs.Since.{all_more}
+use Rattle.yaml_parser.specs.declared.parser.Parser.TheInside.{Inside}
+use Rattle.yaml_chars.specs.declared.ghost_list.GhostList.{GhostList}
 
 -- ---- what clauses see
 
--- as the parser's view is made of its parts
-abbrev pub seen : {T : Type 0} → EventReader T → List (Ev × Position) → Option (Event × Position) → Bool → Bool → Option Position → Parsed
-seen pull given current started ended misplaced = record {
-  scanner = scanned pull.reader.tokens.scanner;
-  given = given;
-  ahead = option_map placed current;
-  fault = fault_of_all misplaced pull;
-  started = started;
-  ended = ended;
-  keep_tags = pull.reader.names.keeping.tags;
-  steady = pull.reader.names.keeping.steady;
-  settings = pull.reader.names.keeping.settings.items;
-  left = events_left pull.reader current;
+-- as the parser's view is made of its fields
+abbrev pub seen : {T : Type 0} → Inside T → Parsed
+seen p = record {
+  scanner = scanned p.pull.reader.tokens.scanner;
+  given = all_placed p.given.items;
+  ahead = option_map placed p.current;
+  fault = fault_of_all p.misplaced p.pull;
+  started = p.started;
+  ended = p.ended;
+  keep_tags = p.pull.reader.names.keeping.tags;
+  steady = p.pull.reader.names.keeping.steady;
+  settings = p.pull.reader.names.keeping.settings.items;
+  left = events_left p.pull.reader p.current;
 }
 
-pub read_none : (given : List (Ev × Position)) (b : Bool) → read_so given b None ≡ given
-read_none given b = grind arith
+-- what is known of the fields
+abbrev pub Known : {T : Type 0} → Inside T → Type 0
+Known p = Holds p.pull (all_placed p.given.items) (option_map placed p.current) p.started p.ended p.misplaced
 
 read_next : (given : List (Ev × Position)) (b : Bool) (e : Ev × Position) → read_so given b (Some e) ≡ given ++ (if b then [] else e ∷ [])
 read_next given true e = sym (append-nil given)
 read_next given false e = refl
 
-no_fault : {T : Type 0} (pull : EventReader T) (misplaced : Option Position) → pull.kept ≡ None → misplaced ≡ None → fault_of_all misplaced pull ≡ None
-no_fault {T} pull misplaced h k = ap (λ m. fault_of_all m pull) k ∙ ap (option_map (λ x. fault_seen x.0 x.1 (scanned pull.reader.tokens.scanner).fault)) h
+no_fault : {T : Type 0} (p : Inside T) → p.pull.kept ≡ None → p.misplaced ≡ None → (seen p).fault ≡ None
+no_fault p h k = ap (λ m. fault_of_all m p.pull) k ∙ ap (option_map (λ x. fault_seen x.0 x.1 (scanned p.pull.reader.tokens.scanner).fault)) h
 
-sound : {T : Type 0} (pull : EventReader T) (given : List (Ev × Position)) (current : Option (Event × Position)) (started ended : Bool) (misplaced : Option Position)
-    → pull.kept ≡ None → misplaced ≡ None → IsHeld pull.reader (read_so given ended (option_map placed current)) pull.kept → KnowsSteady pull.reader → IsSound (seen pull given current started ended misplaced)
-sound {T} pull given current started ended misplaced h k x known = held_sound pull.reader (seen pull given current started ended misplaced) (subst (IsHeld pull.reader (read_so given ended (option_map placed current))) h x) known (no_fault pull misplaced h k)
+sound : {T : Type 0} (p : Inside T) → Known p → p.pull.kept ≡ None → p.misplaced ≡ None → IsSound (seen p)
+sound p h none clear = held_sound p.pull.reader (seen p) (subst (IsHeld p.pull.reader (read (seen p))) none h.held) h.steady (no_fault p none clear)
 
 -- ---- at the beginning
 
@@ -50,36 +52,29 @@ fresh_holds {T} pull given x kept none h = record {
 
 -- ---- a look
 
-settings_if : {A : Type 0} (b c : Bool) (x y : A) → b ≡ true → (if b || c then x else y) ≡ x
-settings_if b c x y h = grind arith
-
 -- One waits already.
-pub waits_still : {T : Type 0} (pull : EventReader T) (given : List (Ev × Position)) (current : Option (Event × Position)) (started ended : Bool) (misplaced : Option Position)
-    → Holds pull given (option_map placed current) started ended misplaced → is_some current ≡ true → Waits (seen pull given current started ended misplaced) (seen pull given current started ended misplaced)
-waits_still {T} pull given current started ended misplaced h some =
-    let there = some_map placed current some in
+pub waits_still : {T : Type 0} (p : Inside T) → Known p → is_some p.current ≡ true → Waits (seen p) (seen p)
+waits_still {T} p h some =
+    let there = some_map placed p.current some in
     let c = h.clear there in
-    let ks = pull.reader.names.keeping.settings.items in
-    let over : ended ≡ true → IfSome (option_map placed current) (λ e. e.0 ≡ Ev.stream_end) = λ b. (h.over b).2 in
-    let left : IfSome (option_map placed current) (λ e. e.0 ≢ Ev.stream_end → events_left pull.reader current ≤ events_left pull.reader current) = if_any (option_map placed current) (λ e n. omega arith) in
-    let noted = sym (settings_if (is_some (option_map placed current)) ended ks (ks ++ pull.reader.names.keeping.tags ∷ []) there) in
-    assumption (there, over, left, noted, no_fault pull misplaced c.0 c.1, sound pull given current started ended misplaced c.0 c.1 h.held h.steady)
+    let ks = (seen p).settings in
+    let over : p.ended ≡ true → IfSome (seen p).ahead (λ e. e.0 ≡ Ev.stream_end) = λ b. (h.over b).2 in
+    let left : IfSome (seen p).ahead (λ e. e.0 ≢ Ev.stream_end → (seen p).left ≤ (seen p).left) = if_any (seen p).ahead (λ e n. omega arith) in
+    let noted : ks ≡ (if is_some (seen p).ahead || p.ended then ks else ks ++ (seen p).keep_tags ∷ []) = rw there in
+    assumption (there, over, left, noted, no_fault p c.0 c.1, sound p h c.0 c.1)
   where
     if_any : {A : Type 0} {P : A → Type 0} (o : Option A) → ((x : A) → P x) → IfSome o P
     if_any None f = tt
     if_any (Some x) f = f x
 
 -- `load` met another event than a document's start.
-pub fault_misplaced : {T : Type 0} (pull : EventReader T) (given : List (Ev × Position)) (current : Option (Event × Position)) (started ended : Bool) (misplaced : Option Position) (p : Position)
-    → Holds pull given (option_map placed current) started ended misplaced → is_some current ≡ false → misplaced ≡ Some p
-    → GivesFault (seen pull given current started ended misplaced) (no_document p) (seen pull given current started ended misplaced)
-fault_misplaced {T} pull given current started ended misplaced p h none m =
-    let f : fault_of_all misplaced pull ≡ Some (no_document p) = ap (λ x. fault_of_all x pull) m in
-    let going : ended ≡ false = false_from_ne_true ended (λ b. let no : None ≡ Some p = sym (h.over b).1 ∙ m in cc) in
-    let a = ap (option_map placed) (none_if current none) in
-    let v = seen pull given current started ended misplaced in
-    let again = subst (λ o. IfSome o (λ g. (no_document p ≡ g) × (v ≡ v))) (sym f) (refl, refl) in
-    let why : fault_of_all misplaced pull ≡ None → Explains (no_document p) v = λ b. let no : None ≡ Some (no_document p) = sym b ∙ f in cc in
+pub fault_misplaced : {T : Type 0} (p : Inside T) (m : Position) → Known p → is_some p.current ≡ false → p.misplaced ≡ Some m → GivesFault (seen p) (no_document m) (seen p)
+fault_misplaced {T} p m h none at =
+    let f : (seen p).fault ≡ Some (no_document m) = ap (λ x. fault_of_all x p.pull) at in
+    let going : p.ended ≡ false = false_from_ne_true p.ended (λ b. let no : None ≡ Some m = sym (h.over b).1 ∙ at in cc) in
+    let a = ap (option_map placed) (none_if p.current none) in
+    let again = subst (λ o. IfSome o (λ g. (no_document m ≡ g) × (seen p ≡ seen p))) (sym f) (refl, refl) in
+    let why : (seen p).fault ≡ None → Explains (no_document m) (seen p) = λ b. let no : None ≡ Some (no_document m) = sym b ∙ f in cc in
     assumption (f, going, a, again, why)
 
 -- ---- where nothing waited
@@ -95,214 +90,175 @@ fault_open : {T : Type 0} (p : Reader T) (es : List (Ev × Position)) (o : Optio
 fault_open {T} p es None h x = cc
 fault_open {T} p es (Some k) h x = x
 
--- what the code knows of the settings
-abbrev IsKnownSteady : Keeping → Type 0
-IsKnownSteady k = k.steady ≡ true → AreAll k.tags k.settings.items
-
-err_same : {x y : ErrorReport} → ◌≡◌ {A = Result (Event × Position) ErrorReport} (Err x) (Err y) → x ≡ y
-err_same {x} {y} h = cc
-
 none_before : {A B : Type 0} (f : A → B) (o : Option A) → option_map f o ≡ None → o ≡ None
 none_before f o h = grind arith
 
 -- A fault is met.
-pub fault_met : {T : Type 0} (pull new : EventReader T) (given : List (Ev × Position)) (current : Option (Event × Position)) (started ended : Bool) (misplaced : Option Position) (f : ErrorReport)
-    → Holds pull given (option_map placed current) started ended misplaced → is_some current ≡ false → misplaced ≡ None
-    → Continues pull (read_so given ended (option_map placed current)) (Err f) new → fault_kept new ≡ Some f
-    → IfSome (fault_kept pull) (λ g. (◌≡◌ {A = Result (Event × Position) ErrorReport} (Err f) (Err g)) × (new ≡ pull))
-    → Holds new given (option_map placed current) started ended misplaced × GivesFault (seen pull given current started ended misplaced) f (seen new given current started ended misplaced)
-fault_met {T} pull new given current started ended misplaced f h none clear x kept again =
-    let es = read_so given ended (option_map placed current) in
+pub fault_met : {T : Type 0} (p : Inside T) (new : EventReader T) (f : ErrorReport) → Known p → is_some p.current ≡ false → p.misplaced ≡ None → Continues p.pull (read (seen p)) (Err f) new → fault_kept new ≡ Some f
+    → IfSome (fault_kept p.pull) (λ g. (◌≡◌ {A = Result (Event × Position) ErrorReport} (Err f) (Err g)) × (new ≡ p.pull)) → Known (record p { pull = new }) × GivesFault (seen p) f (seen (record p { pull = new }))
+fault_met {T} p new f h none clear x kept again =
     let keeping = x.0 in
-    let going : ended ≡ false = sym (end_known given current ended h.end none) ∙ fault_open new.reader es new.kept kept x.1 in
-    let ahead : option_map placed current ≡ None = ap (option_map placed) (none_if current none) in
-    let shut : IsSome (option_map placed current) → (new.kept ≡ None) × (misplaced ≡ None) = λ b. absurd (both_ways (is_some (option_map placed current)) (ap is_some ahead) b) in
-    let over : ended ≡ true → (new.kept ≡ None) × (misplaced ≡ None) × IfSome (option_map placed current) (λ e. e.0 ≡ Ev.stream_end) = λ b. absurd (both_ways ended going b) in
-    let same = subst (λ m. IfSome (fault_of_all m pull) (λ g. (f ≡ g) × (seen new given current started ended misplaced ≡ seen pull given current started ended misplaced))) (sym clear) (again_seen (fault_kept pull) again) in (
-      assumption (shut, over, subst IsKnownSteady (sym keeping) h.steady),
+    let going : p.ended ≡ false = sym (end_known (seen p).given p.current p.ended h.end none) ∙ fault_open new.reader (read (seen p)) new.kept kept x.1 in
+    let ahead : (seen p).ahead ≡ None = ap (option_map placed) (none_if p.current none) in
+    let shut : IsSome (seen p).ahead → (new.kept ≡ None) × (p.misplaced ≡ None) = λ b. absurd (both_ways (is_some (seen p).ahead) (ap is_some ahead) b) in
+    let over : p.ended ≡ true → (new.kept ≡ None) × (p.misplaced ≡ None) × IfSome (seen p).ahead (λ e. e.0 ≡ Ev.stream_end) = λ b. absurd (both_ways p.ended going b) in
+    let same = subst (λ m. IfSome (fault_of_all m p.pull) (λ g. (f ≡ g) × (seen (record p { pull = new }) ≡ seen p))) (sym clear) (again_seen (fault_kept p.pull) again) in (
+      assumption (shut, over, subst KnowsSteady (sym keeping) h.steady),
       assumption (ap (λ m. fault_of_all m new) clear ∙ kept, going, ahead, ap (λ k. k.tags) keeping, ap (λ k. k.steady) keeping, ap (λ k. k.settings.items) keeping, same, why),
     )
   where
-    why : (seen pull given current started ended misplaced).fault ≡ None → Explains f (seen new given current started ended misplaced)
+    why : (seen p).fault ≡ None → Explains f (seen (record p { pull = new }))
     why b =
-        let none = none_before (λ k. fault_seen k.0 k.1 (scanned pull.reader.tokens.scanner).fault) pull.kept (ap (λ m. fault_of_all m pull) (sym clear) ∙ b) in
-        held_explained new.reader (seen new given current started ended misplaced) new.kept f kept (x.2 none) (subst IsKnownSteady (sym x.0) h.steady)
+        let none = none_before (λ k. fault_seen k.0 k.1 (scanned p.pull.reader.tokens.scanner).fault) p.pull.kept (ap (λ m. fault_of_all m p.pull) (sym clear) ∙ b) in
+        held_explained new.reader (seen (record p { pull = new })) new.kept f kept (x.2 none) (subst KnowsSteady (sym x.0) h.steady)
 
-    again_seen : (o : Option ErrorReport) → IfSome o (λ g. (◌≡◌ {A = Result (Event × Position) ErrorReport} (Err f) (Err g)) × (new ≡ pull)) → IfSome o (λ g. (f ≡ g) × (seen new given current started ended misplaced ≡ seen pull given current started ended misplaced))
+    again_seen : (o : Option ErrorReport) → IfSome o (λ g. (◌≡◌ {A = Result (Event × Position) ErrorReport} (Err f) (Err g)) × (new ≡ p.pull)) → IfSome o (λ g. (f ≡ g) × (seen (record p { pull = new }) ≡ seen p))
     again_seen None a = tt
-    again_seen (Some g) a = (err_same a.0, ap (λ p. seen p given current started ended misplaced) a.1)
+    again_seen (Some g) a = (cc a.0, ap (λ r. seen (record p { pull = r })) a.1)
 
 -- An event is read.
-record Next {T : Type 0} (pull new : EventReader T) (given : List (Ev × Position)) (started ended : Bool) (e : Event × Position) : Type 0 where
-  pub held : IsHeld new.reader (read_so given ended (Some (placed e))) new.kept
-  pub over : ended ≡ true → ev_of e.0 ≡ Ev.stream_end
-  pub less : ev_of e.0 ≢ Ev.stream_end → work new.reader < work pull.reader
-  pub before : pull.kept ≡ None
+record Next {T : Type 0} (p : Inside T) (new : EventReader T) (e : Event × Position) : Type 0 where
+  pub held : IsHeld new.reader (read_so (seen p).given p.ended (Some (placed e))) new.kept
+  pub over : p.ended ≡ true → ev_of e.0 ≡ Ev.stream_end
+  pub less : ev_of e.0 ≢ Ev.stream_end → work new.reader < work p.pull.reader
+  pub before : p.pull.kept ≡ None
   pub after : new.kept ≡ None
-  pub tags : new.reader.names.keeping.tags ≡ pull.reader.names.keeping.tags
-  pub steady : new.reader.names.keeping.steady ≡ pull.reader.names.keeping.steady
-  pub known : IsKnownSteady pull.reader.names.keeping → IsKnownSteady new.reader.names.keeping
-  pub settings : new.reader.names.keeping.settings.items ≡ (if ended then pull.reader.names.keeping.settings.items else pull.reader.names.keeping.settings.items ++ pull.reader.names.keeping.tags ∷ [])
+  pub tags : new.reader.names.keeping.tags ≡ (seen p).keep_tags
+  pub steady : new.reader.names.keeping.steady ≡ (seen p).steady
+  pub known : KnowsSteady new.reader.names.keeping
+  pub settings : new.reader.names.keeping.settings.items ≡ (if p.ended then (seen p).settings else (seen p).settings ++ (seen p).keep_tags ∷ [])
 
-more_known : (old new : Keeping) → Notes old new → IsKnownSteady old → IsKnownSteady new
+more_known : (old new : Keeping) → Notes old new → KnowsSteady old → KnowsSteady new
 more_known old new n known b = subst (AreAll new.tags) (sym n.settings) (subst (λ k. AreAll k (old.settings.items ++ old.tags ∷ [])) (sym n.tags) (all_more old.tags old.settings.items (known (sym n.steady ∙ b))))
 
-next_held : {T : Type 0} (pull new : EventReader T) (given : List (Ev × Position)) (current : Option (Event × Position)) (started ended : Bool) (e : Event × Position)
-    → ended ≡ has_end given → IsHeld pull.reader (read_so given ended (option_map placed current)) pull.kept → is_some current ≡ false
-    → Continues pull (read_so given ended (option_map placed current)) (Ok e) new → Next pull new given started ended e
-next_held {T} pull new given current started ended e end held none (k, l, inl a) =
-    let es = read_so given ended (option_map placed current) in
-    let over : ended ≡ true = sym (end_known given current ended end none) ∙ a.0 in
-    let same : es ≡ read_so given ended (Some (placed e)) = reads_given given current ended none ∙ ap (λ b. read_so given b (Some (placed e))) (sym over) in
-    let ks = pull.reader.names.keeping.settings.items in
-    record {
-      held = subst (λ xs. IsHeld new.reader xs new.kept) same (subst (λ p. IsHeld p.reader es p.kept) (sym a.1) held);
-      over = λ b. a.2;
-      less = λ n. absurd (n a.2);
-      before = k;
-      after = l;
-      tags = ap (λ p. p.reader.names.keeping.tags) a.1;
-      steady = ap (λ p. p.reader.names.keeping.steady) a.1;
-      settings = ap (λ p. p.reader.names.keeping.settings.items) a.1 ∙ ap (λ c. if c then ks else ks ++ pull.reader.names.keeping.tags ∷ []) (sym over);
-      known = λ h. subst (λ p. IsKnownSteady p.reader.names.keeping) (sym a.1) h;
-    }
-next_held {T} pull new given current started ended e end held none (k, l, inr b) =
-    let es = read_so given ended (option_map placed current) in
-    let going : ended ≡ false = sym (end_known given current ended end none) ∙ b.0 in
-    let same : es ++ placed e ∷ [] ≡ read_so given ended (Some (placed e)) = ap (λ xs. xs ++ placed e ∷ []) (reads_given given current ended none) ∙ ap (λ c. read_so given c (Some (placed e))) (sym going) in
-    let ks = pull.reader.names.keeping.settings.items in
-    record {
-      held = subst (λ o. IsHeld new.reader (read_so given ended (Some (placed e))) o) (sym l) (subst (λ xs. IsHeld new.reader xs None) same b.3);
-      over = λ c. absurd (both_ways ended going c);
-      less = λ n. b.1;
-      before = k;
-      after = l;
-      tags = b.2.tags;
-      steady = b.2.steady;
-      settings = b.2.settings ∙ ap (λ c. if c then ks else ks ++ pull.reader.names.keeping.tags ∷ []) (sym going);
-      known = more_known pull.reader.names.keeping new.reader.names.keeping b.2;
-    }
+next_held : {T : Type 0} (p : Inside T) (new : EventReader T) (e : Event × Position) → Known p → is_some p.current ≡ false → Continues p.pull (read (seen p)) (Ok e) new → Next p new e
+next_held {T} p new e h none (k, l, inl a) =
+    let over : p.ended ≡ true = sym (end_known (seen p).given p.current p.ended h.end none) ∙ a.0 in
+    let same = reads_given (seen p).given p.current p.ended none ∙ ap (λ b. read_so (seen p).given b (Some (placed e))) (sym over) in
+    let held = subst (λ xs. IsHeld p.pull.reader xs p.pull.kept) same h.held in
+    let less : ev_of e.0 ≢ Ev.stream_end → work p.pull.reader < work p.pull.reader = λ n. absurd (n a.2) in
+    let noted = ap (λ c. if c then (seen p).settings else (seen p).settings ++ (seen p).keep_tags ∷ []) (sym over) in
+    subst (λ q. Next p q e) (sym a.1) (assumption (held, less, a.2, noted))
+next_held {T} p new e h none (k, l, inr b) =
+    let going : p.ended ≡ false = sym (end_known (seen p).given p.current p.ended h.end none) ∙ b.0 in
+    let same : read (seen p) ++ placed e ∷ [] ≡ read_so (seen p).given p.ended (Some (placed e)) = ap (λ xs. xs ++ placed e ∷ []) (reads_given (seen p).given p.current p.ended none) ∙ ap (λ c. read_so (seen p).given c (Some (placed e))) (sym going) in
+    let held = subst (λ o. IsHeld new.reader (read_so (seen p).given p.ended (Some (placed e))) o) (sym l) (subst (λ xs. IsHeld new.reader xs None) same b.3) in
+    let over : p.ended ≡ true → ev_of e.0 ≡ Ev.stream_end = λ c. absurd (both_ways p.ended going c) in
+    let noted = b.2.settings ∙ ap (λ c. if c then (seen p).settings else (seen p).settings ++ (seen p).keep_tags ∷ []) (sym going) in
+    assumption (held, over, b.1, b.2, noted, more_known p.pull.reader.names.keeping new.reader.names.keeping b.2 h.steady)
 
 -- An event is read, and waits.
-pub next_read : {T : Type 0} (pull new : EventReader T) (given : List (Ev × Position)) (current : Option (Event × Position)) (started ended : Bool) (misplaced : Option Position) (e : Event × Position)
-    → Holds pull given (option_map placed current) started ended misplaced → is_some current ≡ false → misplaced ≡ None
-    → Continues pull (read_so given ended (option_map placed current)) (Ok e) new
-    → Holds new given (Some (placed e)) started ended misplaced × Waits (seen pull given current started ended misplaced) (seen new given (Some e) started ended misplaced)
-next_read {T} pull new given current started ended misplaced e h none clear x =
-    let n = next_held pull new given current started ended e h.end h.held none x in
-    let ahead : is_some (option_map placed current) ≡ false = ap (λ o. is_some (option_map placed o)) (none_if current none) in
-    let ks = pull.reader.names.keeping.settings.items in
-    let waited : IsSome (option_map placed current) → seen new given (Some e) started ended misplaced ≡ seen pull given current started ended misplaced = λ b. absurd (both_ways (is_some (option_map placed current)) ahead b) in
-    let left : ev_of e.0 ≢ Ev.stream_end → events_left new.reader (Some e) ≤ events_left pull.reader current = λ k. let less = n.less k in omega arith in
-    let noted = n.settings ∙ ap (λ b. if b || ended then ks else ks ++ pull.reader.names.keeping.tags ∷ []) (sym ahead) in (
-      record { held = n.held; steady = n.known h.steady; first = h.first; end = h.end; clear = λ b. (n.after, clear); over = λ b. (n.after, clear, n.over b) },
-      assumption (waited, left, noted, no_fault pull misplaced n.before clear, sound new given (Some e) started ended misplaced n.after clear n.held (n.known h.steady)),
-    )
+pub next_read : {T : Type 0} (p : Inside T) (new : EventReader T) (e : Event × Position) → Known p → is_some p.current ≡ false → p.misplaced ≡ None → Continues p.pull (read (seen p)) (Ok e) new
+    → Known (record p { pull = new; current = Some e }) × Waits (seen p) (seen (record p { pull = new; current = Some e }))
+next_read {T} p new e h none clear x =
+    let n = next_held p new e h none x in
+    let ahead : is_some (seen p).ahead ≡ false = ap (λ o. is_some (option_map placed o)) (none_if p.current none) in
+    let ks = (seen p).settings in
+    let waited : IsSome (seen p).ahead → seen (record p { pull = new; current = Some e }) ≡ seen p = λ b. absurd (both_ways (is_some (seen p).ahead) ahead b) in
+    let left : ev_of e.0 ≢ Ev.stream_end → events_left new.reader (Some e) ≤ (seen p).left = λ k. let less = n.less k in omega arith in
+    let noted = n.settings ∙ ap (λ b. if b || p.ended then ks else ks ++ (seen p).keep_tags ∷ []) (sym ahead) in
+    let known : Known (record p { pull = new; current = Some e }) = record { held = n.held; steady = n.known; first = h.first; end = h.end; clear = λ b. (n.after, clear); over = λ b. (n.after, clear, n.over b) } in
+    (known, assumption (waited, left, noted, no_fault p n.before clear, sound (record p { pull = new; current = Some e }) known n.after clear))
 
 -- ---- an event is given
 
-pub given_holds : {T : Type 0} (pull : EventReader T) (given new : List (Ev × Position)) (e : Ev × Position) (started ended ended' : Bool) (misplaced : Option Position)
-    → Holds pull given (Some e) started ended misplaced → new ≡ given ++ (if ended then [] else e ∷ []) → ended' ≡ ended || is_stream_end e.0
-    → Holds pull new None true ended' misplaced
-given_holds {T} pull given new e started ended ended' misplaced h more end =
+all_noted : (xs ys : List (Event × Position)) (x : Event × Position) (b : Bool) → ys ≡ xs ++ (if b then [] else x ∷ []) → all_placed ys ≡ all_placed xs ++ (if b then [] else placed x ∷ [])
+all_noted xs ys x true h = ap all_placed h ∙ map-append placed xs []
+all_noted xs ys x false h = ap all_placed h ∙ map-append placed xs (x ∷ [])
+
+-- after it, with these events given
+abbrev pub after : {T : Type 0} → Inside T → GhostList (Event × Position) → Bool → Inside T
+after p given ended = record p { current = None; given = given; started = true; ended = ended }
+
+pub event_given : {T : Type 0} (p : Inside T) (e : Event × Position) (given : GhostList (Event × Position)) (ended : Bool) → Known p → p.current ≡ Some e
+    → given.items ≡ p.given.items ++ (if p.ended then [] else e ∷ []) → ended ≡ p.ended || is_stream_end (ev_of e.0) → Known (after p given ended) × GivesEvent (seen p) (placed e) (seen (after p given ended))
+event_given {T} p e given ended k here noted end =
+    let h : Known (record p { current = Some e }) = subst (λ o. Known (record p { current = o })) here k in
     let c = h.clear refl in
-    record {
-      held = subst (λ es. IsHeld pull.reader es pull.kept) (read_next given ended e ∙ sym more ∙ sym (read_none new ended')) h.held;
+    let more = all_noted p.given.items given.items e p.ended noted in
+    let known : Known (after p given ended) = record {
+      held = subst (λ es. IsHeld p.pull.reader es p.pull.kept) (read_next (seen p).given p.ended (placed e) ∙ sym more ∙ sym (read_none (all_placed given.items) ended)) h.held;
       steady = h.steady;
       first = λ b. let no : true ≡ false = b in cc;
-      end = end ∙ ends_alike ended h.end ∙ ap has_end (sym more);
+      end = end ∙ ends_alike p.ended h.end ∙ ap has_end (sym more);
       clear = λ b. let no : false ≡ true = b in cc;
       over = λ b. (c.0, c.1, tt);
-    }
+    } in
+    let over : p.ended ≡ true → ev_of e.0 ≡ Ev.stream_end = λ b. (h.over b).2 in
+    let left : ev_of e.0 ≢ Ev.stream_end → work p.pull.reader + 0 < work p.pull.reader + 1 = λ n. omega arith in
+    let gives : GivesEvent (seen (record p { current = Some e })) (placed e) (seen (after p given ended)) = assumption (more, end, over, left, no_fault p c.0 c.1, sound (after p given ended) known c.0 c.1) in
+    (known, subst (λ o. GivesEvent (seen (record p { current = o })) (placed e) (seen (after p given ended))) (sym here) gives)
   where
-    ends_alike : (b : Bool) → b ≡ has_end given → (b || is_stream_end e.0) ≡ has_end (given ++ (if b then [] else e ∷ []))
-    ends_alike true k = k ∙ ap has_end (sym (append-nil given))
-    ends_alike false k = ap (λ b. b || is_stream_end e.0) k ∙ sym (has_end_snoc given e)
+    read_none : (given : List (Ev × Position)) (b : Bool) → read_so given b None ≡ given
+    read_none given b = grind arith
 
-pub event_given : {T : Type 0} (pull : EventReader T) (given new : List (Ev × Position)) (e : Event × Position) (started ended ended' : Bool) (misplaced : Option Position)
-    → Holds pull given (Some (placed e)) started ended misplaced → new ≡ given ++ (if ended then [] else placed e ∷ []) → ended' ≡ ended || is_stream_end (ev_of e.0)
-    → GivesEvent (seen pull given (Some e) started ended misplaced) (placed e) (seen pull new None true ended' misplaced)
-event_given {T} pull given new e started ended ended' misplaced h more end =
-    let c = h.clear refl in
-    let n = given_holds pull given new (placed e) started ended ended' misplaced h more end in
-    let over : ended ≡ true → ev_of e.0 ≡ Ev.stream_end = λ b. (h.over b).2 in
-    let left : ev_of e.0 ≢ Ev.stream_end → work pull.reader + 0 < work pull.reader + 1 = λ k. omega arith in
-    assumption (more, end, over, left, no_fault pull misplaced c.0 c.1, sound pull new None true ended' misplaced c.0 c.1 n.held n.steady)
+    ends_alike : (b : Bool) → b ≡ has_end (seen p).given → (b || is_stream_end (ev_of e.0)) ≡ has_end ((seen p).given ++ (if b then [] else placed e ∷ []))
+    ends_alike true k = k ∙ ap has_end (sym (append-nil (seen p).given))
+    ends_alike false k = ap (λ b. b || is_stream_end (ev_of e.0)) k ∙ sym (has_end_snoc (seen p).given (placed e))
 
 pub none_waits : (current : Option (Event × Position)) → is_some (option_map placed current) ≡ false → is_some current ≡ false
 none_waits current h = grind arith
 
 -- An event is read, and given at once.
-pub given_at_once : {T : Type 0} (pull new : EventReader T) (given more : List (Ev × Position)) (current : Option (Event × Position)) (started ended ended' : Bool) (misplaced : Option Position) (e : Event × Position)
-    → Holds pull given (option_map placed current) started ended misplaced → is_some current ≡ false → misplaced ≡ None
-    → Continues pull (read_so given ended (option_map placed current)) (Ok e) new
-    → more ≡ given ++ (if ended then [] else placed e ∷ []) → ended' ≡ ended || is_stream_end (ev_of e.0)
-    → Holds new more (option_map placed current) true ended' misplaced × GivesEvent (seen pull given current started ended misplaced) (placed e) (seen new more current true ended' misplaced)
-given_at_once {T} pull new given more current started ended ended' misplaced e h none clear x noted end =
-    let no = none_if current none in
-    let less = (next_held pull new given current started ended e h.end h.held none x).less in
-    let read = next_read pull new given current started ended misplaced e h none clear x in
-    let gives = event_given new given more e started ended ended' misplaced read.0 noted end in
-    let waited = subst (λ o. IfSome (option_map placed o) (λ y. placed e ≡ y)) (sym no) tt in
-    let left : ev_of e.0 ≢ Ev.stream_end → events_left new.reader current < events_left pull.reader current = λ k. let w = less k in omega arith in
-    let sounds = subst (λ o. IsSound (seen new more o true ended' misplaced)) (sym no) gives.sound in (
-      subst (λ o. Holds new more (option_map placed o) true ended' misplaced) (sym no) (given_holds new given more (placed e) started ended ended' misplaced read.0 noted end),
-      assumption (noted, end, ap (option_map placed) no, waited, left, sounds),
-    )
+abbrev pub at_once : {T : Type 0} → Inside T → EventReader T → GhostList (Event × Position) → Bool → Inside T
+at_once p new given ended = record p { pull = new; given = given; started = true; ended = ended }
 
-pub all_noted : (xs ys : List (Event × Position)) (x : Event × Position) (b : Bool) → ys ≡ xs ++ (if b then [] else x ∷ []) → all_placed ys ≡ all_placed xs ++ (if b then [] else placed x ∷ [])
-all_noted xs ys x true h = ap all_placed h ∙ map-append placed xs []
-all_noted xs ys x false h = ap all_placed h ∙ map-append placed xs (x ∷ [])
+pub given_at_once : {T : Type 0} (p : Inside T) (new : EventReader T) (e : Event × Position) (given : GhostList (Event × Position)) (ended : Bool) → Known p → is_some p.current ≡ false → p.misplaced ≡ None → Continues p.pull (read (seen p)) (Ok e) new
+    → given.items ≡ p.given.items ++ (if p.ended then [] else e ∷ []) → ended ≡ p.ended || is_stream_end (ev_of e.0) → Known (at_once p new given ended) × GivesEvent (seen p) (placed e) (seen (at_once p new given ended))
+given_at_once {T} p new e given ended h none clear x noted end =
+    let no = none_if p.current none in
+    let q = record p { pull = new; current = Some e } in
+    let read = next_read p new e h none clear x in
+    let gives = event_given q e given ended read.0 refl noted end in
+    let waited : IfSome (seen p).ahead (λ y. placed e ≡ y) = subst (λ o. IfSome (option_map placed o) (λ y. placed e ≡ y)) (sym no) tt in
+    let left : ev_of e.0 ≢ Ev.stream_end → work new.reader + 0 < (seen p).left = λ k. let w = read.1.left k in omega arith in
+    let at : GivesEvent (seen p) (placed e) (seen (after q given ended)) = assumption (waited, left, gives.1, read.1) in
+    subst (λ o. Known (record (after q given ended) { current = o }) × GivesEvent (seen p) (placed e) (seen (record (after q given ended) { current = o }))) (sym no) (gives.0, at)
 
 -- ---- inside a document
 
-clear_parts : {T : Type 0} (pull : EventReader T) (misplaced : Option Position) → fault_of_all misplaced pull ≡ None → (pull.kept ≡ None) × (misplaced ≡ None)
-clear_parts {T} pull None h = (none_before (λ k. fault_seen k.0 k.1 (scanned pull.reader.tokens.scanner).fault) pull.kept h, refl)
-clear_parts {T} pull (Some p) h = cc
+clear_parts : {T : Type 0} (p : Inside T) {v : Parsed} → seen p ≡ v → v.fault ≡ None → (p.pull.kept ≡ None) × (p.misplaced ≡ None)
+clear_parts {T} p view h = by p.misplaced (ap (λ u. u.fault) view ∙ h)
+  where
+    by : (m : Option Position) → fault_of_all m p.pull ≡ None → (p.pull.kept ≡ None) × (m ≡ None)
+    by None k = (none_before (λ k. fault_seen k.0 k.1 (scanned p.pull.reader.tokens.scanner).fault) p.pull.kept k, refl)
+    by (Some m) k = cc
 
 -- Before the stream's end something is awaited.
-pub not_closed : {T : Type 0} (pull : EventReader T) (given : List (Ev × Position)) (current : Option (Event × Position)) (started ended : Bool) (misplaced : Option Position) {v : Parsed} → seen pull given current started ended misplaced ≡ v
-    → Holds pull given (option_map placed current) started ended misplaced → v.ahead ≡ None → v.fault ≡ None → v.ended ≡ false → pull.reader.stack ≢ []
-not_closed {T} pull given current started ended misplaced {v} view h ahead fault going =
+pub not_closed : {T : Type 0} (p : Inside T) {v : Parsed} → seen p ≡ v → Known p → v.ahead ≡ None → v.fault ≡ None → v.ended ≡ false → p.pull.reader.stack ≢ []
+not_closed {T} p {v} view h ahead fault going =
     λ s.
-    let es = read_so given ended (option_map placed current) in
-    let none = none_waits current (ap is_some (ap (λ u. u.ahead) view ∙ ahead)) in
-    let c = clear_parts pull misplaced (ap (λ u. u.fault) view ∙ fault) in
-    let end = closed pull.reader es s (subst (IsHeld pull.reader es) c.0 h.held) in
-    let no : true ≡ false = sym end ∙ end_known given current ended h.end none ∙ ap (λ u. u.ended) view ∙ going in
+    let none = none_waits p.current (ap is_some (ap (λ u. u.ahead) view ∙ ahead)) in
+    let end = closed p.pull.reader (read (seen p)) s (subst (IsHeld p.pull.reader (read (seen p))) (clear_parts p view fault).0 h.held) in
+    let no : true ≡ false = sym end ∙ end_known (seen p).given p.current p.ended h.end none ∙ ap (λ u. u.ended) view ∙ going in
     cc
 
 -- An event is read, and given at once.
-pub advanced : {T : Type 0} (pull new : EventReader T) (given more : List (Event × Position)) (current : Option (Event × Position)) (started ended ended' : Bool) (misplaced : Option Position) (e : Event × Position) {v : Parsed} → seen pull (all_placed given) current started ended misplaced ≡ v
-    → Holds pull (all_placed given) (option_map placed current) started ended misplaced → v.ahead ≡ None → v.fault ≡ None
-    → ((es : List (Ev × Position)) → IsHeld pull.reader es None → Advances pull es (Ok e) new) → new.kept ≡ pull.kept
-    → more ≡ given ++ (if ended then [] else e ∷ []) → ended' ≡ ended || is_stream_end (ev_of e.0)
-    → Holds new (all_placed more) (option_map placed current) true ended' misplaced × GivesEvent v (placed e) (seen new (all_placed more) current true ended' misplaced)
-advanced {T} pull new given more current started ended ended' misplaced e {v} view h ahead fault reads same noted end =
-    let es = read_so (all_placed given) ended (option_map placed current) in
-    let c = clear_parts pull misplaced (ap (λ u. u.fault) view ∙ fault) in
-    let x = reads es (subst (IsHeld pull.reader es) c.0 h.held) in
-    let none = none_waits current (ap is_some (ap (λ u. u.ahead) view ∙ ahead)) in
-    let y = given_at_once pull new (all_placed given) (all_placed more) current started ended ended' misplaced e h none c.1 (c.0, same ∙ c.0, inr x) (all_noted given more e ended noted) end in
-    (y.0, subst (λ u. GivesEvent u (placed e) (seen new (all_placed more) current true ended' misplaced)) view y.1)
+pub advanced : {T : Type 0} (p : Inside T) (new : EventReader T) (e : Event × Position) (given : GhostList (Event × Position)) (ended : Bool) {v : Parsed} → seen p ≡ v → Known p → v.ahead ≡ None → v.fault ≡ None
+    → ((es : List (Ev × Position)) → IsHeld p.pull.reader es None → Advances p.pull es (Ok e) new) → new.kept ≡ p.pull.kept → given.items ≡ p.given.items ++ (if p.ended then [] else e ∷ []) → ended ≡ p.ended || is_stream_end (ev_of e.0)
+    → Known (at_once p new given ended) × GivesEvent v (placed e) (seen (at_once p new given ended))
+advanced {T} p new e given ended {v} view h ahead fault reads same noted end =
+    let c = clear_parts p view fault in
+    let x = reads (read (seen p)) (subst (IsHeld p.pull.reader (read (seen p))) c.0 h.held) in
+    let none = none_waits p.current (ap is_some (ap (λ u. u.ahead) view ∙ ahead)) in
+    let y = given_at_once p new e given ended h none c.1 (c.0, same ∙ c.0, inr x) noted end in
+    (y.0, subst (λ u. GivesEvent u (placed e) (seen (at_once p new given ended))) view y.1)
 
 -- A fault is met, and kept at once.
-pub stopped : {T : Type 0} (pull mid new : EventReader T) (given : List (Ev × Position)) (current : Option (Event × Position)) (started ended : Bool) (misplaced : Option Position) (s : Option Fault) (f : ErrorReport) {v : Parsed} → seen pull given current started ended misplaced ≡ v
-    → Holds pull given (option_map placed current) started ended misplaced → v.ahead ≡ None → v.fault ≡ None
-    → ((es : List (Ev × Position)) → IsHeld pull.reader es None → Advances pull es (Err s) mid)
-    → fault_kept new ≡ Some f → IfSome new.kept (λ k. k.0 ≡ s) → new.reader ≡ mid.reader
-    → Holds new given (option_map placed current) started ended misplaced × GivesFault v f (seen new given current started ended misplaced)
-stopped {T} pull mid new given current started ended misplaced s f {v} view h ahead fault reads kept stop reader =
-    let es = read_so given ended (option_map placed current) in
-    let none = none_waits current (ap is_some (ap (λ u. u.ahead) view ∙ ahead)) in
-    let c = clear_parts pull misplaced (ap (λ u. u.fault) view ∙ fault) in
-    let a = reads es (subst (IsHeld pull.reader es) c.0 h.held) in
-    let y = keeps new es s kept stop (failed_as es s reader (a.1, a.2)) in
-    let before : fault_kept pull ≡ None = ap (option_map (λ x. fault_seen x.0 x.1 (scanned pull.reader.tokens.scanner).fault)) c.0 in
-    let x : Continues pull es (Err f) new = (ap (λ r. r.names.keeping) reader ∙ a.0, y.0, λ b. y.1) in
-    let again = subst (λ o. IfSome o (λ g. (◌≡◌ {A = Result (Event × Position) ErrorReport} (Err f) (Err g)) × (new ≡ pull))) (sym before) tt in
-    let y = fault_met pull new given current started ended misplaced f h none c.1 x kept again in
-    (y.0, subst (λ u. GivesFault u f (seen new given current started ended misplaced)) view y.1)
+pub stopped : {T : Type 0} (p : Inside T) (mid new : EventReader T) (s : Option Fault) (f : ErrorReport) {v : Parsed} → seen p ≡ v → Known p → v.ahead ≡ None → v.fault ≡ None
+    → ((es : List (Ev × Position)) → IsHeld p.pull.reader es None → Advances p.pull es (Err s) mid) → fault_kept new ≡ Some f → IfSome new.kept (λ k. k.0 ≡ s) → new.reader ≡ mid.reader
+    → Known (record p { pull = new }) × GivesFault v f (seen (record p { pull = new }))
+stopped {T} p mid new s f {v} view h ahead fault reads kept stop reader =
+    let es = read (seen p) in
+    let none = none_waits p.current (ap is_some (ap (λ u. u.ahead) view ∙ ahead)) in
+    let c = clear_parts p view fault in
+    let a = reads es (subst (IsHeld p.pull.reader es) c.0 h.held) in
+    let y = keeps new es s kept stop (a.1, subst (λ r. Faulted r es s) (sym reader) a.2) in
+    let before : fault_kept p.pull ≡ None = ap (option_map (λ x. fault_seen x.0 x.1 (scanned p.pull.reader.tokens.scanner).fault)) c.0 in
+    let x : Continues p.pull es (Err f) new = (ap (λ r. r.names.keeping) reader ∙ a.0, y.0, λ b. y.1) in
+    let again = subst (λ o. IfSome o (λ g. (◌≡◌ {A = Result (Event × Position) ErrorReport} (Err f) (Err g)) × (new ≡ p.pull))) (sym before) tt in
+    let z = fault_met p new f h none c.1 x kept again in
+    (z.0, subst (λ u. GivesFault u f (seen (record p { pull = new }))) view z.1)
 
 -- ---- a setting
 
@@ -310,44 +266,40 @@ held_set : {T : Type 0} (p : Reader T) (k : Keeping) (es : List (Ev × Position)
 held_set {T} p k es None same x = set_stands p k es same x
 held_set {T} p k es (Some z) same x = x
 
-no_settings : {T : Type 0} (p : Reader T) (es : List (Ev × Position)) → IsHeld p es None → es ≡ [] → p.names.keeping.settings.items ≡ []
-no_settings {T} p es x h = nil_from_length p.names.keeping.settings.items (x.each ∙ ap length h)
-
 -- A setting that counts from the start on was made where nothing was read, or is what it was.
-pub settings_hold : {T : Type 0} (pull : EventReader T) (given : List (Ev × Position)) (current : Option (Event × Position)) (started ended : Bool) (misplaced : Option Position) (k : Keeping)
-    → Holds pull given (option_map placed current) started ended misplaced
-    → k.steady ≡ stays_steady (seen pull given current started ended misplaced) k.tags → k.settings ≡ pull.reader.names.keeping.settings
-    → Holds (record pull { reader = record (pull.reader) { names = record (pull.reader.names) { keeping = k } } }) given (option_map placed current) started ended misplaced
-settings_hold {T} pull given current started ended misplaced k h steady same =
+pub settings_hold : {T : Type 0} (p : Inside T) (k : Keeping) → Known p → k.steady ≡ stays_steady (seen p) k.tags → k.settings ≡ p.pull.reader.names.keeping.settings
+    → Known (record p { pull = record (p.pull) { reader = record (p.pull.reader) { names = record (p.pull.reader.names) { keeping = k } } } })
+settings_hold {T} p k h steady same =
     let kept : k.steady ≡ true → AreAll k.tags k.settings.items = λ b. subst (AreAll k.tags) (ap (λ x. x.items) (sym same)) (still b) in
-    assumption (held_set pull.reader k (read_so given ended (option_map placed current)) pull.kept same h.held, kept)
+    assumption (held_set p.pull.reader k (read (seen p)) p.pull.kept same h.held, kept)
   where
-    none_of_all : (m : Option Position) → is_some (fault_of_all m pull) ≡ false → pull.kept ≡ None
-    none_of_all None e = none_before (λ x. fault_seen x.0 x.1 (scanned pull.reader.tokens.scanner).fault) pull.kept (none_if (fault_kept pull) e)
+    none_of_all : (m : Option Position) → is_some (fault_of_all m p.pull) ≡ false → p.pull.kept ≡ None
+    none_of_all None e = none_before (λ x. fault_seen x.0 x.1 (scanned p.pull.reader.tokens.scanner).fault) p.pull.kept (none_if (fault_kept p.pull) e)
     none_of_all (Some q) e = cc
 
-    nothing_read : is_fresh (seen pull given current started ended misplaced) ≡ true → pull.reader.names.keeping.settings.items ≡ []
-    nothing_read b =
-        let two = and_parts (not started) (not (is_some (option_map placed current)) && not (is_some (fault_of_all misplaced pull))) b in
-        let three = and_parts (not (is_some (option_map placed current))) (not (is_some (fault_of_all misplaced pull))) two.1 in
-        let none = none_before placed current (none_if (option_map placed current) (not-true (is_some (option_map placed current)) three.0)) in
-        let empty = ap (λ o. read_so given ended (option_map placed o)) none ∙ read_none given ended ∙ h.first (not-true started two.0) in
-        let kept = none_of_all misplaced (not-true (is_some (fault_of_all misplaced pull)) three.1) in
-        no_settings pull.reader (read_so given ended (option_map placed current)) (subst (IsHeld pull.reader (read_so given ended (option_map placed current))) kept h.held) empty
+    no_settings : (es : List (Ev × Position)) → IsHeld p.pull.reader es None → es ≡ [] → (seen p).settings ≡ []
+    no_settings es x e = nil_from_length (seen p).settings (x.each ∙ ap length e)
 
-    still : k.steady ≡ true → AreAll k.tags pull.reader.names.keeping.settings.items
+    nothing_read : is_fresh (seen p) ≡ true → (seen p).settings ≡ []
+    nothing_read b =
+        let two = and_parts (not p.started) (not (is_some (seen p).ahead) && not (is_some (seen p).fault)) b in
+        let three = and_parts (not (is_some (seen p).ahead)) (not (is_some (seen p).fault)) two.1 in
+        let none = none_waits p.current (not-true (is_some (seen p).ahead) three.0) in
+        let empty = reads_given (seen p).given p.current p.ended none ∙ h.first (not-true p.started two.0) in
+        no_settings (read (seen p)) (subst (IsHeld p.pull.reader (read (seen p))) (none_of_all p.misplaced (not-true (is_some (seen p).fault) three.1)) h.held) empty
+
+    still : k.steady ≡ true → AreAll k.tags (seen p).settings
     still s =
-        let one = and_parts (pull.reader.names.keeping.steady) (is_fresh (seen pull given current started ended misplaced) || beq k.tags pull.reader.names.keeping.tags) (sym steady ∙ s) in
-        elim (or_cases (is_fresh (seen pull given current started ended misplaced)) (beq k.tags pull.reader.names.keeping.tags) one.1) [
+        let one = and_parts (seen p).steady (is_fresh (seen p) || beq k.tags (seen p).keep_tags) (sym steady ∙ s) in
+        elim (or_cases (is_fresh (seen p)) (beq k.tags (seen p).keep_tags) one.1) [
           | inl a ↦ subst (AreAll k.tags) (sym (nothing_read a)) tt
-          | inr b ↦ subst (λ t. AreAll t pull.reader.names.keeping.settings.items) (sym (grind arith)) (h.steady one.0)
+          | inr b ↦ subst (λ t. AreAll t (seen p).settings) (sym (grind arith)) (h.steady one.0)
         ]
 
 -- ---- an event stands where a document must start
 
-pub misplaced_holds : {T : Type 0} (pull : EventReader T) (given : List (Ev × Position)) (ahead : Option (Ev × Position)) (started ended : Bool) (misplaced : Option Position) (p : Position)
-    → Holds pull given ahead started ended misplaced → ahead ≡ None → ended ≡ false → Holds pull given ahead started ended (Some p)
-misplaced_holds {T} pull given ahead started ended misplaced p h none going =
-    let clear : IsSome ahead → (pull.kept ≡ None) × (Some p ≡ None) = λ b. let no : false ≡ true = sym (ap is_some none) ∙ b in cc in
-    let over : ended ≡ true → (pull.kept ≡ None) × (Some p ≡ None) × IfSome ahead (λ e. e.0 ≡ Ev.stream_end) = λ b. absurd (both_ways ended going b) in
+pub misplaced_holds : {T : Type 0} (p : Inside T) (m : Position) → Known p → (seen p).ahead ≡ None → p.ended ≡ false → Known (record p { misplaced = Some m })
+misplaced_holds {T} p m h none going =
+    let clear : IsSome (seen p).ahead → (p.pull.kept ≡ None) × (Some m ≡ None) = λ b. let no : false ≡ true = sym (ap is_some none) ∙ b in cc in
+    let over : p.ended ≡ true → (p.pull.kept ≡ None) × (Some m ≡ None) × IfSome (seen p).ahead (λ e. e.0 ≡ Ev.stream_end) = λ b. absurd (both_ways p.ended going b) in
     assumption (clear, over)

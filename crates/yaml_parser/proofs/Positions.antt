@@ -1,5 +1,5 @@
 -- Events at their positions, one more.
-use Rattle.yaml_parser.proofs.Common.{[], all_shown, ap, arith, behind, Ev, length, length-append, List, map, map-append, None, Option, Position, positions_of, Raw, raws_of, refl, shown, Some, stood, sym, Token, ◌++◌, ◌+◌, ◌∙◌, ◌∷◌, ◌≡◌}
+use Rattle.yaml_parser.proofs.Common.{[], all_shown, ap, arith, behind, Ev, length, List, map, map-append, None, Option, Position, positions_of, Raw, raws_of, refl, shown, Some, stood, Token, ◌++◌, ◌+◌, ◌∙◌, ◌∷◌, ◌≡◌}
 use Rattle.defs_token.specs.Token as defs
 
 pub stood_over : (es fs : List Raw) (xs ys : List (Ev × Position)) → length es ≡ length xs → stood (es ++ fs) (xs ++ ys) ≡ stood es xs ++ stood fs ys
@@ -16,9 +16,6 @@ pub stood_positions : (es : List Raw) (xs : List (Ev × Position)) → length es
 stood_positions [] [] h = refl
 stood_positions (e ∷ es) (x ∷ xs) h = ap (λ l. x.1 ∷ l) (stood_positions es xs (omega (arith, h)))
 stood_positions _ _ h = absurd (omega (arith, h))
-
-pub count_more : (m : Position) (raw : List Raw) (e : Raw) (v : Ev) (given : List (Ev × Position)) → length raw ≡ length given → length (raw ++ e ∷ []) ≡ length (given ++ (v, m) ∷ [])
-count_more m raw e v given h = length-append raw (e ∷ []) ∙ ap (λ n. n + 1) h ∙ sym (length-append given ((v, m) ∷ []))
 
 -- the token that was taken last
 behind_last : (b : Option Position) (ts : List defs.Token) (t : defs.Token) → behind b (ts ++ t ∷ []) ≡ Some t.position

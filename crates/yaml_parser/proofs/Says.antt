@@ -1,7 +1,6 @@
 -- The tokens say which problem a refused token has.
 use Rattle.yaml_parser.proofs.Common.{[], ap, Collection, Directive, directive_next, Ev, false, Goal, goes_so, if◌then◌else◌, is_after, is_directive, is_in_mapping, is_over_document, is_under, IsBottom, IsNested, IsNoDirective, Kind, kind_of, List, Names, Next, next_after, next_at, none_by, node_next, None, open_after, open_at, open_under, other_next, Position, Problem, problem_at, problem_for, problem_in, problem_of, Raw, Reader, refl, State, StreamSays, subst, sym, taken_toks, Tok, top, true, ◌++◌, ◌∙◌, ◌∷◌, ◌≡◌, ◌≢◌, arith}
 use Rattle.yaml_parser.proofs.Ends.{Says}
-use Rattle.yaml_parser.proofs.Nesting.{nothing_taken}
 use Rattle.yaml_tokens.specs.declared.problem.Problem.TheVariants as problem
 use Rattle.model_parser.specs.declared.context.NodeContext.TheVariants as context
 use Rattle.model_parser.specs.declared.state.State.TheVariants as state
@@ -31,9 +30,6 @@ bottom_open ss h = grind arith
 
 no_directive_for : (k : Kind) (n : Next) → is_directive k ≡ false → problem_at n [] ≡ problem_for k n []
 no_directive_for k n h = ap (λ b. if b then problem.DirectiveWithoutDocumentEnd else problem_at n []) (sym h)
-
-pub says_start : {T : Type 0} {k : Kind} {p : Reader T} {names : Names} {given : List (Ev × Position)} → Says problem.DocumentStartToken k Goal.start p names given
-says_start a known t look kind = sym (ap (λ ts. problem_of ts t) (nothing_taken a))
 
 pub says_explicit : {T : Type 0} {k : Kind} {p : Reader T} {names : Names} {given : List (Ev × Position)} → Says problem.DocumentStartToken k Goal.explicit p names given
 says_explicit {T} {k} {p} a known t look kind =

@@ -42,26 +42,16 @@ since_after (x ∷ ks) k s (y ∷ es) e few = since_after ks k (names_after x s 
 
 -- ---- another setting from now on
 
-pub since_other : (ks : List Bool) (j k : Bool) (s : Names) (es : List Raw) → length es ≤ length ks → named_since ks j s es ≡ named_since ks k s es
-since_other (x ∷ ks) j k s (e ∷ es) few = ap (both (resolved_event s e)) (since_other ks j k (names_after x s e) es (omega (arith, few)))
+pub since_other : (ks : List Bool) (j k : Bool) (s : Names) (es : List Raw) → length es ≤ length ks → (named_since ks j s es ≡ named_since ks k s es) × (names_since ks j s es ≡ names_since ks k s es)
+since_other (x ∷ ks) j k s (e ∷ es) few = let i = since_other ks j k (names_after x s e) es (omega (arith, few)) in (ap (both (resolved_event s e)) i.0, i.1)
 since_other [] j k s (e ∷ es) few = absurd (omega (arith, few))
-since_other _ j k s es few = refl
-
-pub names_other : (ks : List Bool) (j k : Bool) (s : Names) (es : List Raw) → length es ≤ length ks → names_since ks j s es ≡ names_since ks k s es
-names_other (x ∷ ks) j k s (e ∷ es) few = names_other ks j k (names_after x s e) es (omega (arith, few))
-names_other [] j k s (e ∷ es) few = absurd (omega (arith, few))
-names_other _ j k s es few = refl
+since_other _ j k s es few = (refl, refl)
 
 -- The setting with which the last event was read is noted.
-pub since_noted : (ks : List Bool) (k : Bool) (s : Names) (es : List Raw) → length es ≤ length ks + 1 → named_since (ks ++ k ∷ []) k s es ≡ named_since ks k s es
-since_noted (x ∷ ks) k s (e ∷ es) few = ap (both (resolved_event s e)) (since_noted ks k (names_after x s e) es (omega (arith, few)))
-since_noted [] k s (e ∷ es) few = refl
-since_noted _ k s es few = refl
-
-pub names_noted : (ks : List Bool) (k : Bool) (s : Names) (es : List Raw) → length es ≤ length ks + 1 → names_since (ks ++ k ∷ []) k s es ≡ names_since ks k s es
-names_noted (x ∷ ks) k s (e ∷ es) few = names_noted ks k (names_after x s e) es (omega (arith, few))
-names_noted [] k s (e ∷ es) few = refl
-names_noted _ k s es few = refl
+pub since_noted : (ks : List Bool) (k : Bool) (s : Names) (es : List Raw) → length es ≤ length ks + 1 → (named_since (ks ++ k ∷ []) k s es ≡ named_since ks k s es) × (names_since (ks ++ k ∷ []) k s es ≡ names_since ks k s es)
+since_noted (x ∷ ks) k s (e ∷ es) few = let i = since_noted ks k (names_after x s e) es (omega (arith, few)) in (ap (both (resolved_event s e)) i.0, i.1)
+since_noted [] k s (e ∷ es) few = (refl, refl)
+since_noted _ k s es few = (refl, refl)
 
 -- ---- the same setting all the time
 

@@ -23,6 +23,8 @@ use Rattle.model_parser.specs.Stands.{IsOnTrack}
 use Rattle.model_parser.specs.declared.state.State.{State}
 use Rattle.yaml_parser.specs.declared.event.Event.{Event}
 use Rattle.yaml_parser.specs.declared.names.Keeping.{Keeping}
+use Rattle.yaml_parser.specs.declared.names.Names as kept_names
+use Rattle.yaml_parser.specs.declared.tokens.Tokens.{Tokens}
 use Rattle.yaml_parser.specs.declared.slot.EventSlot.{EventSlot}
 use Rattle.yaml_tokens.specs.declared.problem.Fault.{Fault}
 use Rattle.yaml_parser.specs.declared.reader.Reader.{Reader}
@@ -80,22 +82,33 @@ IsPending names g = Unit {0}
 
 -- ---- productions
 
+-- The tokens and the stack are where this is read: what they still take completes the tokens taken to a stream, with these raw events at the
+-- positions of those that were given.
+pub record IsPlaced {T : Type 0} (g : Goal) (stack : List State) (tokens : Tokens T) (given : List (Ev × Position)) (raw : List Raw) : Type 0 where
+  pub stands : IsOnTrack g stack (taken_toks tokens) (peeked_tok tokens) raw
+  pub handed : IsHanded tokens
+  pub awake : is_over g ≡ false → IsAwake tokens
+  pub over : is_over g ≡ true → tokens.peeked ≡ None
+  pub places : (x : Extent) (ts : List defs.Token) (es : List (Raw × Position)) → BeginAt tokens.peeked ts → AwaitsAt x (last_position tokens) g stack ts es
+      → StreamPlacesTo x (all_shown tokens.taken.items ++ ts) (stood raw given ++ es)
+  pub colon : IsPastColon (top g stack) (last_position tokens)
+
+-- The events that were given are these raw ones with their names resolved; and the code's names are these, which are those after them.
+pub record IsTold (g : Goal) (kept : kept_names.Names) (names : Names) (given : List (Ev × Position)) (raw : List Raw) : Type 0 where
+  pub count : length raw ≡ length given
+  pub few : length kept.keeping.settings.items ≤ length raw
+  pub events : named_by kept.keeping raw ≡ Some (events_of given)
+  pub names_are : names_by kept.keeping raw ≡ names
+  pub code : IsNamed kept (names_at kept.keeping.tags g names)
+  pub pending : IsPending names g
+
 -- It reads this production; these events were given, and these are the names after them.
 pub record At {T : Type 0} (g : Goal) (p : Reader T) (names : Names) (given : List (Ev × Position)) : Type 0 where
   pub raw : List Raw
-  pub stands : IsOnTrack g p.stack (taken_toks p.tokens) (peeked_tok p.tokens) raw
-  pub handed : IsHanded p.tokens
-  pub awake : is_over g ≡ false → IsAwake p.tokens
-  pub over : is_over g ≡ true → p.tokens.peeked ≡ None
-  pub count : length raw ≡ length given
-  pub few : length p.names.keeping.settings.items ≤ length raw
-  pub places : (x : Extent) (ts : List defs.Token) (es : List (Raw × Position)) → BeginAt p.tokens.peeked ts → AwaitsAt x (last_position p.tokens) g p.stack ts es
-      → StreamPlacesTo x (all_shown p.tokens.taken.items ++ ts) (stood raw given ++ es)
-  pub colon : IsPastColon (top g p.stack) (last_position p.tokens)
-  pub events : named_by p.names.keeping raw ≡ Some (events_of given)
-  pub names_are : names_by p.names.keeping raw ≡ names
-  pub code : IsNamed p.names (names_at p.names.keeping.tags g names)
-  pub pending : IsPending names g
+  pub place : IsPlaced g p.stack p.tokens given raw
+  pub open place use *
+  pub told : IsTold g p.names names given raw
+  pub open told use *
 
 -- The last token was refused.
 pub record IsStuck {T : Type 0} (p : Reader T) (given : List (Ev × Position)) (problem : Problem) (mark : Position) : Type 0 where

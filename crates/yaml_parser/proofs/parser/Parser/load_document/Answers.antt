@@ -10,8 +10,7 @@ events-preserved g c =
     let last : is_document_end x.0 ≡ false = sym x.4 ∙ c.if-last.false in
     let less = x.2.left (end_is_not x.0 (no_end c.events.invariant.stays x.2)) in
     record {
-      reads = λ multi parser receiver h.
-          goes_on g.R.MarkedEventReceiver.takes multi parser receiver x.0 x.1 (c.events.invariant.reads multi parser receiver h) (λ rest. inside_run x.0 x.1 multi rest last) x.2 x.3;
+      reads = λ multi parser receiver h. goes_on (c.events.invariant.reads multi parser receiver h) (λ rest. inside_run x.0 x.1 multi rest last) x.2 x.3;
       start = cc;
       left = omega (arith, less, c.events.invariant.left);
       stays = stays_inside c.events.invariant.stays x.2 last;
@@ -25,14 +24,10 @@ returns-then-last g c =
     let last : is_document_end x.0 ≡ true = sym x.4 ∙ c.if-last.true in
     let less = x.2.left (end_is_not x.0 (no_end c.events.invariant.stays x.2)) in
     record {
-      reads = λ multi parser receiver h. (
-        goes_on g.R.MarkedEventReceiver.takes multi parser receiver x.0 x.1 (c.events.invariant.reads multi parser receiver h) (λ rest. last_run x.0 x.1 multi rest last) x.2 x.3,
-        x.2.sound.fault,
-      );
+      reads = λ multi parser receiver h. (goes_on (c.events.invariant.reads multi parser receiver h) (λ rest. last_run x.0 x.1 multi rest last) x.2 x.3, x.2.sound.fault);
       start = cc;
       left = omega (arith, less, c.events.invariant.left);
     }
 
 pub returns-in-Err-clause-reads : goal.returns-in-Err-clause-reads
-returns-in-Err-clause-reads g c = λ multi parser receiver h.
-    push_stops g.R.MarkedEventReceiver.takes multi parser receiver c.in-Err.error (c.events.invariant.reads multi parser receiver h) c.in-Err.ensures.pushes
+returns-in-Err-clause-reads g c = λ multi parser receiver h. push_stops (c.events.invariant.reads multi parser receiver h) c.in-Err.ensures.pushes

@@ -1,8 +1,8 @@
-use Rattle.yaml_parser.proofs.Answering.{ap, failed, failed_as, inr, IsHeld, keeps, kept_again, pulled, refl, subst, ◌∙◌}
+use Rattle.yaml_parser.proofs.Answering.{ap, failed, inr, IsHeld, keeps, pulled, refl, subst, ◌∙◌, None, Some, sym, ◌≡◌, Faulted}
 use Rattle.yaml_parser.proofs.pull.EventReader.next.Goals as goal
 
 pub returns-in-Some-clause-continues : goal.returns-in-Some-clause-continues
-returns-in-Some-clause-continues g c = λ es h. (refl, h, kept_again c.args.self.now.reader es c.in-Some.is)
+returns-in-Some-clause-continues g c = λ es h. (refl, h, λ none. let no : None ≡ Some _ = sym none ∙ c.in-Some.is in cc)
 
 pub returns-in-Ok-clause-continues : goal.returns-in-Ok-clause-continues
 returns-in-Ok-clause-continues g c = λ es h. (
@@ -13,6 +13,6 @@ returns-in-Ok-clause-continues g c = λ es h. (
 
 pub returns-in-Err-clause-continues : goal.returns-in-Err-clause-continues
 returns-in-Err-clause-continues g c = λ es h.
-    let x = keeps c.keep.new.self es c.next.new.slot.fault c.keep.ensures.kept c.keep.ensures.fault
-    (failed_as es c.next.new.slot.fault c.keep.ensures.reader (failed c.args.self.now.reader c.next.new.self c.in-Err.ensures.state c.in-Err.ensures.below es c.next.new.slot.fault c.in-Err.ensures.top (subst (IsHeld c.args.self.now.reader es) c.in_default.is h) c.in-Err.ensures.answers.so)) in
+    let f = failed c.args.self.now.reader c.next.new.self c.in-Err.ensures.state c.in-Err.ensures.below es c.next.new.slot.fault c.in-Err.ensures.top (subst (IsHeld c.args.self.now.reader es) c.in_default.is h) c.in-Err.ensures.answers.so in
+    let x = keeps c.keep.new.self es c.next.new.slot.fault c.keep.ensures.kept c.keep.ensures.fault (f.0, subst (λ r. Faulted r es c.next.new.slot.fault) (sym c.keep.ensures.reader) f.1) in
     (ap (λ r. r.names.keeping) c.keep.ensures.reader ∙ c.next.ensures.bounds.input.keeping, x.0, λ none. x.1)

@@ -1,4 +1,4 @@
-use Rattle.yaml_parser.proofs.Answering.{reads, is_error, fails, ap, Ev, Goal, if◌then◌else◌, marked_begins, None, Some, directed_outside, directed_refuses, directed_ways, directives_begin, DocumentStartToken, faulted_as, goes_apart, kind_of, not_as, not_directive, push_after, refl, refuses_for, says_directed, wrote, document_turns}
+use Rattle.yaml_parser.proofs.Answering.{reads, is_error, fails, ap, Ev, Goal, if◌then◌else◌, marked_begins, None, Some, directed_outside, directed_refuses, directives_begin, DocumentStartToken, faulted_as, goes_apart, kind_of, not_as, arith, push_after, refl, refuses_for, says_directed, wrote, document_turns}
 use Rattle.yaml_parser.proofs.reader.Reader.directed_document.Goals as goal
 
 pub returns-in_err-next-clause-answers : goal.returns-in_err-next-clause-answers
@@ -13,4 +13,4 @@ pub returns-in_default-clause-answers : goal.returns-in_default-clause-answers
 returns-in_default-clause-answers g c = reads (λ names given h.
     let d = c.in_ok-next.ensures.at names given (directives_begin c.args.kind c.requires.looks c.requires.directive refl refl c.start_document.ensures.keep c.start_document.ensures.named c.start_document.ensures.own h) in
     faulted_as _ given c.halt.ensures (refuses_for DocumentStartToken refl refl c.mark.ensures c.in_ok-next.ensures.peeked.0 (λ t e. directed_refuses _ d.0 t (not_as c.in_ok-next.ensures.peeked.1 e) (not_as c.in_ok-next.ensures.peeked.2 e) (not_as c.in_default.not-DocumentStart e))
-    (λ a t e. (directed_outside a, λ same. absurd (not_as c.in_default.not-DocumentStart e (ap kind_of same)))) (λ a no. goes_apart (directed_ways d.0) (λ ss f. (refl, refl)) a) (says_directed d.0 (not_directive _ c.in_ok-next.ensures.peeked.1 c.in_ok-next.ensures.peeked.2)) d.1))
+    (λ a t e. (directed_outside a, λ same. absurd (not_as c.in_default.not-DocumentStart e (ap kind_of same)))) (λ a no. goes_apart (Goal.directed d.0) refl (λ ss f. (refl, refl, refl)) a) (says_directed d.0 (grind arith)) d.1))
