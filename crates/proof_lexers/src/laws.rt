@@ -20,7 +20,6 @@ pub fn names_are_read()
 
 /// Each text after `&` or `*` is read in this way only. What is read is the name that the text begins with. A text
 /// that begins with no name is refused.
-#[tactic(auto, using(crate::proofs::Properties::Names::names_end))]
 pub fn names_end_as_their_text_says()
     ensures { NamesEndAsTheirTextSays }
 {}
@@ -28,7 +27,6 @@ pub fn names_end_as_their_text_says()
 /// If a text begins with the whole of a plain scalar, in flow or outside, that is read as its value, with the blanks
 /// and breaks after it. Or the text is refused, for one of three reasons: its column in flow, a dash before a flow
 /// indicator, a TAB at the start of a line.
-#[tactic(auto, using(crate::proofs::Plain::Scalars::scalars_read))]
 pub fn plain_scalars_are_read()
     ensures { PlainScalarsAreRead }
 {}
@@ -36,14 +34,12 @@ pub fn plain_scalars_are_read()
 /// Each text that begins with content is read in this way only. What is read is the whole of a plain scalar that the
 /// text begins with, its value, and whether a break stands after it. Each of the three faults has its reason in the
 /// text.
-#[tactic(auto, using(crate::proofs::Plain::Scalars::scans_end))]
 pub fn plain_scans_end_as_their_text_says()
     ensures { PlainScansEndAsTheirTextSays }
 {}
 
 /// On the way to the next token all blanks, breaks and comments are skipped, and nothing else; the position is the one
 /// after them. The text is refused only if a TAB left of the innermost level has a token after it on its line.
-#[tactic(auto, using(crate::proofs::Separation::Separations::separations_are_passed))]
 pub fn separations_are_passed()
     ensures { SeparationsArePassed }
 {}
@@ -51,7 +47,6 @@ pub fn separations_are_passed()
 /// All characters of a URI, or of a tag's suffix, that a text begins with are read: each as itself, and escapes as
 /// octets of UTF-8. A text is refused exactly if an octet is missing, begins no character, goes on with none, or
 /// makes none.
-#[tactic(auto, using(crate::proofs::Properties::Uris::uris_are_read))]
 pub fn uris_are_read()
     ensures { UrisAreRead }
 {}
@@ -59,14 +54,12 @@ pub fn uris_are_read()
 /// Each text after `!` is read in this way only. What is read is a tag as it is written there, up to a text that may
 /// follow one. Each fault has its reason in the text: octets that are no characters, an open verbatim tag, a handle
 /// without a suffix, or text right after the tag.
-#[tactic(auto, using(crate::proofs::Properties::Tags::tags_end))]
 pub fn tags_end_as_their_text_says()
     ensures { TagsEndAsTheirTextSays }
 {}
 
 /// After `?` all spaces, breaks and comments are skipped, and nothing else; the position is the one after them. The text
 /// is refused only if neither a space nor a break stands there, nor a break after a comment.
-#[tactic(auto, using(crate::proofs::Separation::WhiteSpace::white_space_is_passed))]
 pub fn white_space_is_passed()
     ensures { WhiteSpaceIsPassed }
 {}
@@ -74,7 +67,6 @@ pub fn white_space_is_passed()
 /// Within a line, blanks (with TABs or without) and a comment after one are skipped, and nothing else; the position is
 /// the one after them, and what is reported to stand there does. The text is refused only if a comment stands after
 /// no blank.
-#[tactic(auto, using(crate::proofs::Separation::Spaces::spaces_are_passed))]
 pub fn spaces_are_passed()
     ensures { SpacesArePassed }
 {}
@@ -88,14 +80,12 @@ pub fn directives_are_read()
 /// Each text after `%` is read in this way only. What is read is the directive on its first line, and the break after
 /// it. A line that is no directive is refused with its reason: a name that is missing or goes on, a bad version or
 /// declaration, a comment after no blank, or other text.
-#[tactic(auto, using(crate::proofs::Directives::Lines::directives_end))]
 pub fn directives_end_as_their_text_says()
     ensures { DirectivesEndAsTheirTextSays }
 {}
 
 /// Each separation of a text without NUL is skipped whole, up to a character that is not of a separation; or a TAB left of
 /// the innermost level is refused.
-#[tactic(auto, using(crate::proofs::Separation::EachSeparation::each_separation_is_passed))]
 pub fn each_separation_is_passed()
     ensures { EachSeparationIsPassed }
 {}
@@ -108,7 +98,6 @@ pub fn tags_are_read()
 
 /// A body with a value, between its quotes, is read as that value up to the closing quote, or is refused for its
 /// indentation.
-#[tactic(auto, using(crate::proofs::Quoted::Values::bodies_are_read))]
 pub fn quoted_bodies_are_read()
     ensures { QuotedBodiesAreRead }
 {}
@@ -116,7 +105,6 @@ pub fn quoted_bodies_are_read()
 /// After an opening quote, each text without NUL is read in this way only. What is read is a body with that value, up
 /// to its closing quote. Each fault has its reason in the text: a document marker in a line of the body, a body that
 /// does not end, a bad escape, or a line left of the block collection around it.
-#[tactic(auto, using(crate::proofs::Quoted::ScanEnds::scans_end))]
 pub fn quoted_scans_end_as_their_text_says()
     ensures { QuotedScansEndAsTheirTextSays }
 {}
@@ -124,7 +112,6 @@ pub fn quoted_scans_end_as_their_text_says()
 /// After `|` or `>` the rest of the line is read in this way only. A header is read as its chomping and its digit, if
 /// no TAB begins the next line. A line that is no header is refused, for a digit 0, for a comment right after a
 /// header, or for other text.
-#[tactic(auto, using(crate::proofs::Blocks::Headers::headers_end))]
 pub fn headers_end_as_their_line_says()
     ensures { HeadersEndAsTheirLineSays }
 {}
@@ -140,14 +127,12 @@ pub fn first_lines_give_the_column()
 /// piece's end and the spaces after it, at the position where its content begins. It is refused in two cases only: if a
 /// TAB begins the line after the header; and if, after a scalar without content, text is indented as content of the
 /// innermost block collection but less than the empty lines before it.
-#[tactic(auto, using(crate::proofs::Blocks::Ends::pieces_are_read))]
 pub fn block_pieces_are_read()
     ensures { BlockPiecesAreRead }
 {}
 
 /// After `|` or `>` each text without NUL is read in this way only. It begins with a piece that is a block scalar,
 /// which is read, or what stands after the piece is refused. Or its header is refused.
-#[tactic(auto, using(crate::proofs::Blocks::Ends::scans_end))]
 pub fn block_scans_end_as_their_text_says()
     ensures { BlockScansEndAsTheirTextSays }
 {}

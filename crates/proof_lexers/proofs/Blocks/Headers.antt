@@ -1,5 +1,5 @@
 -- Block scalars' headers are read as what they say.
-use Rattle.proof_lexers.proofs.Common.{[], along, and_then, ap, arith, At, begins_with, BlockStyle, Bool, cases_Bool, chomping, comment, digit_of, ends_line, EndsAs, Err, false, further, has_zero, header, header_break, header_end, header_of, HeadersEndAsTheirLineSays, if◌then◌else◌, increment, indicator_of, indicators, indicators_of, inl, inr, is_break, is_in_line, is_rest_of_line, is_sign, IsHeaderRead, IsHeaderRefusal, length, linebreak, List, nat_tests, no_header, None, Ok, Option, past, past_indicators, Position, Read, reads, refl, refuses, sign_of, Some, space, sym, tab, tabbed, true, whole_header, with_indicators, Yes, zero_digit, ℕ, ◌++◌, ◌==◌, ◌∙◌, ◌∷◌, ◌≡◌, eqb-true, digit_by, digit_or_zero, Fault, Header, read_header, Result, and_parts, ◌||◌}
+use Rattle.proof_lexers.proofs.Common.{[], along, and_then, ap, arith, At, begins_with, BlockStyle, Bool, cases_Bool, chomping, comment, digit_of, ends_line, EndsAs, Err, false, further, has_zero, header, header_break, header_end, header_of, HeadersEndAsTheirLineSays, if◌then◌else◌, increment, indicator_of, indicators, indicators_of, inl, inr, is_break, is_in_line, is_rest_of_line, is_sign, IsHeaderRead, IsHeaderRefusal, length, linebreak, List, nat_tests, no_header, None, Ok, Option, past, past_indicators, Position, Read, reads, refl, refuses, sign_of, Some, space, sym, tab, tabbed, true, whole_header, with_indicators, Yes, zero_digit, ℕ, ◌++◌, ◌==◌, ◌∙◌, ◌∷◌, ◌≡◌, eqb-true, digit_by, digit_or_zero, Fault, Header, read_header, Result, and_parts, ◌||◌, after_style, slice_index}
 use Rattle.yaml_chars.specs.Class.{is_digit}
 use Rattle.yaml_tokens.specs.declared.problem.Problem.TheVariants as problem
 use Rattle.defs_text.specs.Classes as classes
@@ -38,39 +38,59 @@ digit_is : (c : ℕ) → is_digit c ≡ ((c == 48) || classes.is_between 49 57 c
 unfolding is_digit
 digit_is c = both _ _ (λ h. grind (arith, nat_tests)) (λ h. grind (arith, nat_tests))
 
+style_said : (style : BlockStyle) (l : List ℕ) → header_of (indicator_of style ∷ l) ≡ after_style style l
+style_said a l = grind arith
+
+tab_next : (c : ℕ) (a : List ℕ) (p q : Position) → begins_with tab (linebreak (c ∷ a) p).rest ≡ (slice_index (linebreak (c ∷ a) q).rest 0 == 9)
+tab_next c a p q = grind arith
+
 module _ (start : Position) (style : BlockStyle) where
   -- indicators are a header, if no `0` stands among them
-  some_header : (l : List ℕ) → has_zero l ≡ false → header_of (indicator_of style ∷ front l) ≡ None → ⊥
+  some_header : (l : List ℕ) → has_zero l ≡ false → after_style style (front l) ≡ None → ⊥
   unfolding sign_of digit_of
   some_header [] z e = grind arith
   some_header (c ∷ []) z e = grind arith
   some_header (c ∷ d ∷ l) z e = grind arith
 
   -- a line is the header that its indicators are, if the rest of it is blanks and a comment
-  header_is : (l : List ℕ) (h : defs.Header) → has_zero l ≡ false → header_of (indicator_of style ∷ front l) ≡ Some h
+  header_is : (l : List ℕ) (h : defs.Header) → has_zero l ≡ false → after_style style (front l) ≡ Some h
       → header_of (indicator_of style ∷ l) ≡ (if is_rest_of_line (past_indicators l) then Some h else None)
   unfolding sign_of digit_of
   header_is [] h z e = grind arith
   header_is (c ∷ []) h z e = grind arith
   header_is (c ∷ d ∷ l) h z e = grind arith
 
-  module _ (r : List ℕ) (ends : ends_line r ≡ true) where
-    -- the model reads just these
-    indicators_read : (l : List ℕ) (h : defs.Header) → has_zero l ≡ false → header_of (indicator_of style ∷ front l) ≡ Some h
-        → indicators start (l ++ r) (past start)
-        ≡ Ok (record { rest = past_indicators l ++ r; position = along (front l) (past start); value = indicators_of h })
-    unfolding sign_of digit_of indicators chomping increment
-    indicators_read [] h z e = grind (arith, still, same_break, digit_is)
-    indicators_read (c ∷ []) h z e = grind (arith, still, same_break, digit_is)
-    indicators_read (c ∷ d ∷ l) h z e = grind (arith, still, same_break, digit_is)
+  -- the model reads just these
+  indicators_read : (l r : List ℕ) (h : defs.Header) → ends_line r ≡ true → has_zero l ≡ false → after_style style (front l) ≡ Some h
+      → indicators start (l ++ r) (past start) ≡ Ok (record { rest = past_indicators l ++ r; position = along (front l) (past start); value = indicators_of h })
+  unfolding sign_of digit_of indicators chomping increment
+  indicators_read (c ∷ d ∷ l) r h ends z e = elim (cases_Bool (c == 43)) [
+    | inl f ↦ grind (arith, digit_is)
+    | inr f ↦ elim (cases_Bool (c == 45)) [ inl g ↦ grind (arith, digit_is) | inr g ↦ grind (arith, digit_is) ]
+  ]
+  indicators_read [] [] h ends z e = grind (arith, digit_is)
+  indicators_read (c ∷ []) [] h ends z e = grind (arith, digit_is)
+  indicators_read [] (b ∷ r) h ends z e = let quiet = still b (sym (same_break b) ∙ ends) in grind (arith, quiet)
+  indicators_read (c ∷ []) (b ∷ r) h ends z e = let quiet = still b (sym (same_break b) ∙ ends) in grind (arith, digit_is, quiet)
 
-    -- a `0` is refused, and no header has one
-    zero_fails : (l : List ℕ) → has_zero l ≡ true
-        → (header_of (indicator_of style ∷ l) ≡ None) × (indicators start (l ++ r) (past start) ≡ Err (At problem.BlockScalarZero start))
-    unfolding sign_of digit_of indicators chomping increment is_digit classes.is_blank
-    zero_fails [] z = cc
-    zero_fails (c ∷ []) z = grind (arith, nat_tests, eqb-true)
-    zero_fails (c ∷ d ∷ l) z = grind (arith, nat_tests, eqb-true)
+  -- a `0` is refused, and no header has one
+  zero_fails : (l r : List ℕ) → has_zero l ≡ true
+      → (header_of (indicator_of style ∷ l) ≡ None) × (indicators start (l ++ r) (past start) ≡ Err (At problem.BlockScalarZero start))
+  unfolding sign_of digit_of indicators chomping increment is_digit classes.is_blank
+  zero_fails [] r z = cc
+  zero_fails (c ∷ []) r z = grind (arith, nat_tests, eqb-true)
+  zero_fails (c ∷ d ∷ l) r z = grind (arith, nat_tests, eqb-true)
+
+  -- after a header's line
+  at_line_end : (line r : List ℕ) (h : defs.Header) → ends_line r ≡ true → header_of (indicator_of style ∷ line) ≡ Some h
+      → EndsAs (IsHeaderRead start style line r) (IsHeaderRefusal start style line r)
+      (and_then (header_break start r (along line (past start))) (λ (b : Read Bool). Ok (with_indicators (indicators_of h) b)))
+  unfolding header_break
+  at_line_end line [] h ends is = reads _ (whole_header h is refl) refl
+  at_line_end line (c ∷ a) h ends is = elim (cases_Bool (begins_with tab (linebreak (c ∷ a) start).rest)) [
+    | inl f ↦ refuses _ (tabbed h is f) (rw (← same_break c, ends, ← tab_next c a start (along line (past start)), f) refl)
+    | inr f ↦ reads _ (whole_header h is f) (rw (← same_break c, ends, ← tab_next c a start (along line (past start)), f) refl)
+  ]
 
 -- ---- the line
 
@@ -81,21 +101,10 @@ module _ (start : Position) (style : BlockStyle) (line r : List ℕ) (inner : is
   abbrev w : List ℕ
   w = past_indicators line
 
-  -- after the line
-  at_line_end : (h : defs.Header) → header_of (indicator_of style ∷ line) ≡ Some h
-      → Ends (and_then (header_break start r (along line (past start))) (λ (b : Read Bool). Ok (with_indicators (indicators_of h) b)))
-  unfolding header_break
-  at_line_end h is = of_text r ends refl
-    where
-      of_text : (a : List ℕ) → ends_line a ≡ true → a ≡ r
-          → Ends (and_then (header_break start a (along line (past start))) (λ (b : Read Bool). Ok (with_indicators (indicators_of h) b)))
-      of_text [] e same = rw same (grind (arith, reads, whole_header))
-      of_text (c ∷ a) e same = rw same (grind (arith, reads, refuses, whole_header, tabbed, same_break))
-
   -- after the indicators, before the rest of the line
-  finish : (h : defs.Header) → has_zero line ≡ false → header_of (indicator_of style ∷ front line) ≡ Some h → Ends (header start (line ++ r) (past start))
+  finish : (h : defs.Header) → has_zero line ≡ false → after_style style (front line) ≡ Some h → Ends (header start (line ++ r) (past start))
   unfolding header header_end header_break
-  finish h free own = rw (indicators_read start style r ends line h free own) (told (rest_of_line w r q (in_line_is w ∙ rest_inner) ends))
+  finish h free own = rw (indicators_read start style line r h ends free own) (told (rest_of_line w r q (in_line_is w ∙ rest_inner) ends))
     where
       q : Position
       q = along (front line) (past start)
@@ -104,26 +113,26 @@ module _ (start : Position) (style : BlockStyle) (line r : List ℕ) (inner : is
       is = header_is start style line h free own
 
       rest_inner : is_in_line w ≡ true
-      rest_inner = grind (arith, front_cut, list_all-append, and_parts)
+      rest_inner = (and_parts (is_in_line (front line)) (is_in_line w) (sym (list_all-append _ (front line) w) ∙ ap is_in_line (sym (front_cut line)) ∙ inner)).1
 
       position : further (length w) q ≡ along line (past start)
       position = sym (ap (λ x. along x (past start)) (front_cut line) ∙ along_append (front line) w (past start) ∙ along_further w q)
 
       told : Rest w r q (space Yes (w ++ r) q)
           → Ends (and_then (header_end start (w ++ r) q) (λ b. Ok (with_indicators (indicators_of h) b)))
-      told (rest_of_lines.ends v rest e) = rw (e, position) (at_line_end h (is ∙ rw rest refl))
+      told (rest_of_lines.ends v rest e) = rw (e, position) (at_line_end start style line r h ends (is ∙ rw rest refl))
       told (glued text so unlike e) =
-          refuses _ (comment h (front line) text (is ∙ rw unlike refl) own (front_cut line ∙ ap (λ x. front line ++ x) so)) (rw e refl)
+          refuses _ (comment h (front line) text (is ∙ rw unlike refl) (style_said style (front line) ∙ own) (front_cut line ∙ ap (λ x. front line ++ x) so)) (rw e refl)
       told (goes_on c more p v unlike begins solid e) = refuses _ (no_header (is ∙ rw unlike refl) free unlike begins) (rw (e, solid) refl)
 
   ended : Ends (header start (line ++ r) (past start))
   unfolding header
   ended = elim (cases_Bool (has_zero line)) [
-    | inl z ↦ let q = zero_fails start style r ends line z in refuses _ (zero_digit q.0 z) (rw q.1 refl)
-    | inr z ↦ by (header_of (indicator_of style ∷ front line)) z refl
+    | inl z ↦ let q = zero_fails start style line r z in refuses _ (zero_digit q.0 z) (rw q.1 refl)
+    | inr z ↦ by (after_style style (front line)) z refl
   ]
     where
-      by : (o : Option defs.Header) → has_zero line ≡ false → header_of (indicator_of style ∷ front line) ≡ o → Ends (header start (line ++ r) (past start))
+      by : (o : Option defs.Header) → has_zero line ≡ false → after_style style (front line) ≡ o → Ends (header start (line ++ r) (past start))
       by None z e = absurd (some_header start style line z e)
       by (Some h) z e = finish h z e
 
