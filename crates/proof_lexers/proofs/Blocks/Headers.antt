@@ -141,12 +141,7 @@ headers_end style line after p inner ends = ended p style line after inner ends
 
 -- ---- what a header says of itself, and that the model reads it so
 
--- A header has the style that it begins with, and no digit 0.
-pub record From (s : BlockStyle) (h : defs.Header) : Type 0 where
-  pub style_is : h.style ≡ s
-  pub digit_is : digit_by (digit_or_zero h.digit) ≡ h.digit
-
--- the same of a header and its first character
+-- what a header and its first character say of each other; it has no digit 0
 pub record Said (c : ℕ) (h : defs.Header) : Type 0 where
   pub begins : c ≡ indicator_of h.style
   pub digit_is : digit_by (digit_or_zero h.digit) ≡ h.digit

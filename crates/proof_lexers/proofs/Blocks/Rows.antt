@@ -1,5 +1,5 @@
 -- The lines of a block scalar are read row by row.
-use Rattle.proof_lexers.proofs.Common.{[], along, ap, append-nil, append_assoc, arith, at_marker, between, BlockState, Bool, cases_Bool, content_row, drop, empty_row, ends_line, eq-eqb, false, Fault, indent_from, inl, inr, is_blank, is_break, is_content_line, is_document_marker, is_empty_line, is_in_line, is_spaces, le-ltb, leading_spaces, leb-true, length, Lines, lines_from, List, lt-ltb, margin, nat_lt, nat_tests, None, not-true, Ok, Option, past, Position, put_row, Read, refl, Result, Row, row_of, rows_of, Some, suc, sym, true, zero, ℕ, ◌&&◌, ◌++◌, ◌+◌, ◌==◌, ◌∙◌, ◌∷◌, ◌≡◌, ◌≤◌, or-true}
+use Rattle.proof_lexers.proofs.Common.{[], along, ap, append-nil, append_assoc, arith, at_marker, between, BlockState, Bool, content_row, drop, empty_row, ends_line, eq-eqb, false, Fault, indent_from, is_blank, is_break, is_content_line, is_document_marker, is_empty_line, is_in_line, is_spaces, le-ltb, leading_spaces, leb-true, length, Lines, lines_from, List, margin, nat_lt, nat_tests, None, not-true, Ok, Option, past, Position, put_row, Read, refl, Result, Row, row_of, rows_of, Some, suc, sym, true, zero, ℕ, ◌&&◌, ◌++◌, ◌+◌, ◌==◌, ◌∙◌, ◌∷◌, ◌≡◌, ◌≤◌, or-true}
 use Rattle.defs_text.specs.Classes as classes
 use Rattle.model_scanner.specs.BlockScalar.{line, begins, begun, with_char}
 use Rattle.proof_lexers.proofs.Bridges.{and_false, same_marker}
@@ -72,12 +72,7 @@ module _ (column : ℕ) where
       let q = first_inner c w inner in
       let deep : nat_lt p.col column ≡ false = le-ltb p.col column (omega (arith, col)) in
       record { char = c; rest = w; position = p; is = refl; in_column = omega (arith, col); inner = inner; ends = refl; found = λ a b. rw (deep, and_false (c == 32), q.0) refl }
-  starts (suc n) (c ∷ w) p col lead long inner = elim (cases_Bool (c == 32)) [
-    | inl e ↦
-        let more : suc n ≤ suc (leading_spaces w) = rw e at lead in
-        space_then c w p n e (lt-ltb p.col column (omega (arith, col))) (starts n w (past p) (omega (arith, col)) (omega (arith, more)) (omega (arith, long)) ((first_inner c w inner).1))
-    | inr e ↦ let no : suc n ≤ 0 = rw e at lead in absurd (omega (arith, no))
-  ]
+  starts (suc n) (c ∷ w) p col lead long inner = grind (arith, nat_tests, first_inner, space_then, starts n w (past p))
 
 module _ (literal : Bool) (column : ℕ) where
   abbrev pub scan : List ℕ → BlockState → Result (Read Lines) Fault

@@ -35,7 +35,7 @@ record Holds (x : Lines) (text : List ℕ) (n : ℕ) : Type 0 where
   is_broken : x.broken ≡ true
 
 holds_on : (x y : Lines) (t u : List ℕ) (n : ℕ) → x ≡ y → t ≡ u → Holds y t n → Holds x u n
-holds_on x y t u n e f z = record { text_is = ap (λ (l : Lines). l.text) e ∙ z.text_is ∙ f; breaks_are = ap (λ (l : Lines). l.breaks) e ∙ z.breaks_are; is_broken = ap (λ (l : Lines). l.broken) e ∙ z.is_broken }
+holds_on x y t u n e f z = grind arith
 
 module _ (s : BlockStyle) where
   abbrev rows_after : List Row → Lines → Lines
@@ -59,11 +59,7 @@ module _ (s : BlockStyle) where
   first_goes [] n k full h = cc
   first_goes (empty_row ∷ rs) n k full h = grind (arith, more_breaks, break_before, first_goes rs (suc n) (suc k) full h)
   first_goes (content_row [] ∷ rs) n k full h = absurd full
-  first_goes (content_row (c ∷ m) ∷ rs) n k full h =
-      holds_on _ (rows_after rs (after_content (breaks n ++ c ∷ m) 0 (is_blank c))) ((breaks n ++ c ∷ m) ++ text_after s (c ∷ m) 0 rs) _ _
-      (ap (λ g. rows_after rs (after_content (g ++ c ∷ m) 0 (is_blank c))) (grind arith))
-      (append_assoc (breaks n) (c ∷ m) (text_after s (c ∷ m) 0 rs))
-      (text_goes rs (breaks n ++ c ∷ m) (c ∷ m) 0 (is_blank c) full (sym (same_blank c)))
+  first_goes (content_row (c ∷ m) ∷ rs) n k full h = grind (arith, same_blank, append_assoc, text_goes rs (breaks n ++ c ∷ m) (c ∷ m) 0 (is_blank c) full)
 
   pub none_goes : (rs : List Row) (n : ℕ) → has_content rs ≡ false → rows_after rs (after_empty n) ≡ after_empty (n + length rs)
   none_goes [] n h = let none : n ≡ n + 0 = omega arith in ap after_empty none
@@ -142,7 +138,7 @@ row_full column w a rs b full = grind (arith, nat_tests, drop_some)
 
 pub are_full : (column : ℕ) (ws : List (List ℕ)) (rs : List Row) → rows_of column ws ≡ Some rs → AreFull rs
 are_full column [] rs h = let none : [] ≡ rs = cc in rw (← none) tt
-are_full column (w ∷ ws) rs h = elim (first_of column w ws rs h) [ first_row r more e is f ↦ rw e (row_full column w r more is (are_full column ws more f)) ]
+are_full column (w ∷ ws) rs h = grind (arith, first_of, row_full, are_full column ws)
 
 -- a line and its break have no NUL, nor has the text after them
 pub of_line : (l : Line) (a : List ℕ) → list_all is_some (l.text ++ put l.by a) ≡ true → (list_all is_some l.text ≡ true) × (list_all is_some a ≡ true)

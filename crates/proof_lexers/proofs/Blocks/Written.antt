@@ -55,7 +55,7 @@ pub record Lined (a : List ℕ) : Type 0 where
 
 module _ (c : ℕ) (a : List ℕ) (z : Lined a) where
   char_line : (ls : List Line) → a ≡ spell ls z.last → AreLines ls z.last → is_break c ≡ false → Lined (c ∷ a)
-  char_line [] is are h = record { lines = []; last = c ∷ z.last; is = ap (λ r. c ∷ r) is; are = tt; inner = rw (same_break c, h) z.inner }
+  char_line [] is are h = grind (arith, same_break)
   char_line (l ∷ ls) is are h = record { lines = record { text = c ∷ l.text; by = l.by } ∷ ls; last = z.last; is = ap (λ r. c ∷ r) is; are = (rw (same_break c, h) (are.0), are.1, are.2); inner = z.inner }
 
   lone_break : is_break c ≡ true → ((c == 13) && (slice_index a 0 == 10)) ≡ false → Lined (c ∷ a)

@@ -1,7 +1,6 @@
 -- The model over the elements of a body, up to its closing quote.
 use Rattle.proof_lexers.proofs.Common.{[], after_element, after_elements, after_gap, after_quote, ap, append-nil, At, at_marker, Bool, by_line, cases_Bool, closed_end, Context, double_quoted_element, drop, Element, element_of, elements, ends_before, Err, false, Fault, first, Folded, followed, gap, has_marker, inl, inr, inside, is_blank, is_break, is_document_marker, IsShallow, joined, List, Mode, nat_lt, None, nothing, Ok, Option, past, Position, put_before, quote_of, Read, read, refl, refused, Result, shallow, slice_index, Some, Spelled, suc, sym, true, zero, ℕ, ◌&&◌, ◌++◌, ◌+◌, ◌==◌, ◌||◌, ◌∙◌, ◌∷◌, ◌≡◌, arith}
 use Rattle.yaml_tokens.specs.declared.problem.Problem.TheVariants as problem
-use Rattle.defs_text.specs.Classes as classes
 use Rattle.proof_lexers.specs.QuotedScan.{IsRead}
 use Rattle.proof_lexers.proofs.Quoted.Turns.{no_marker, off_margin, Ready, in_gap, after_escaped, scan, Begun, begun, marked, begins, Step, steps, is_marked, is_shallow, StepOf, may_stand}
 use Rattle.proof_lexers.proofs.Quoted.Turns as turns
@@ -77,7 +76,7 @@ module _ (single : Bool) (ctx : Context) (start : Position) where
 
   pub first_is_gap : (a : List ℕ) (p : Position) → (p.col == 0) ≡ false → nat_lt (p.col + 1) ctx.indent ≡ false → scan single ctx start a first p nothing ≡ scan single ctx start a gap p nothing
   first_is_gap [] p e f = refl
-  first_is_gap (c ∷ a) p e f = elim (cases_Bool (is_break c || is_blank c)) [ inl g ↦ rw (may_stand single ctx start (c ∷ a) p e f, g) refl | inr g ↦ rw g refl ]
+  first_is_gap (c ∷ a) p e f = grind (arith, may_stand)
 
   pub first_fails : (c : ℕ) (a : List ℕ) (p : Position) → (p.col == 0) ≡ false → nat_lt (p.col + 1) ctx.indent ≡ true → scan single ctx start (c ∷ a) first p nothing ≡ Err (At problem.QuotedIndentation start)
   unfolding refused at_marker

@@ -1,7 +1,6 @@
 -- Escapes that are none are refused.
 use Rattle.proof_lexers.proofs.Common.{At, cases_Bool, content, Context, digits_from, Err, escape, escape_by, escapes, false, Folded, inl, inr, inside, is_blank, is_break, is_character_code, IsBadEscape, length, List, lookup, named_code, named_unknown, no_digit, None, number_at, numbered, numeric_escape, numeric_escapes, Option, past, Position, Problem, refl, Some, suc, take, ℕ, ◌==◌, ◌∙◌, ◌∷◌, ◌≡◌, arith, nat_tests}
 use Rattle.yaml_tokens.specs.declared.problem.Problem.TheVariants as problem
-use Rattle.defs_text.specs.Classes as classes
 use Rattle.proof_lexers.specs.QuotedEnds.{ends, unknown, no_character}
 use Rattle.proof_lexers.proofs.Bridges.{same_break, same_escape}
 use Rattle.proof_lexers.proofs.Quoted.Turns.{scan, spelled}

@@ -5,7 +5,7 @@ use Rattle.proof_lexers.specs.QuotedScan.{IsRead}
 use Rattle.proof_lexers.specs.QuotedScan as scans
 use Rattle.proof_lexers.specs.QuotedEnds.{by_column, by_tab}
 use Rattle.proof_lexers.proofs.Fold.{buffers_join}
-use Rattle.proof_lexers.proofs.Quoted.Turns.{no_marker, off_margin, Ready, in_gap, after_escaped, scan, Begun, begun, begins}
+use Rattle.proof_lexers.proofs.Quoted.Turns.{no_marker, Ready, in_gap, after_escaped, scan, Begun, begun, begins}
 use Rattle.proof_lexers.proofs.Quoted.Turns as turns
 use Rattle.proof_lexers.proofs.Quoted.NoNul.{has_none, same_marks}
 use Rattle.proof_lexers.proofs.Quoted.Bodies.{through, quote_still, quote_feed, close, no_mark}
