@@ -87,7 +87,7 @@ content_is indent zero ls last p col are inner =
     ∙ ap (at_least indent) (first_is_indent K (spell ls last) (looking 0 p []) (omega (arith, found, same)))
     ∙ ap (λ n. with_column (max n indent) (indent_from K (spell ls last) (at p []))) found
     ∙ ap (λ n. with_column n (indent_from K (spell ls last) (at p []))) same
-content_is indent (suc n) ls last p col are inner = ap (λ k. indent_from (k + suc n) (spell ls last) (at p [])) (sym (grind (arith, nat_tests)))
+content_is indent (suc n) ls last p col are inner = grind (arith, nat_tests)
 
 pub first_lines : FirstLinesGiveTheColumn
 first_lines indent increment text p col = of_lines (lined text)

@@ -149,7 +149,7 @@ kind : (c : ℕ) → Kind c
 kind c = grind (arith, blank, hash, token)
 
 no_separation : (c : ℕ) → is_break c ≡ false → is_blank c ≡ false → (c == 35) ≡ false → (is_white c || (c == 35)) ≡ false
-no_separation c e f g = rw (same_blank c, same_break c, e, f, g) refl
+no_separation c e f g = grind (arith, same_blank, same_break)
 
 -- after a TAB left of the innermost level
 tab_fails : (s : Held) (c : ℕ) (a blanks rest : List ℕ) → (c == 9) ≡ true → is_before_indent s ≡ true → a ≡ blanks ++ rest → is_blanks blanks ≡ true → begins_token rest ≡ true
