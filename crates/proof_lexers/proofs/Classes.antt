@@ -1,5 +1,9 @@
 -- Characters of a class at a text's start, and what the model takes of them.
-use Rattle.proof_lexers.proofs.Common.{[], after, all_of, append-nil, append_assoc, arith, Bool, false, further, leading, length, List, past, Position, refl, skip_while, suc, sym, take_while, true, ℕ, ◌++◌, ◌+◌, ◌∷◌, ◌≡◌}
+use Rattle.std.proofs.Common.{[], append-nil, append_assoc, arith, Bool, false, length, List, refl, suc, sym, true, ℕ, ◌++◌, ◌+◌, ◌∷◌, ◌≡◌}
+use Rattle.defs_text.specs.Tags.{after, all_of, leading}
+use Rattle.proof_lexers.specs.NameEnds.{further}
+use Rattle.model_scanner.specs.Machine.{past, skip_while, take_while}
+use Rattle.defs_text.specs.Position.{Position}
 use Rattle.proof_row.proofs.Texts as texts
 
 -- ---- positions

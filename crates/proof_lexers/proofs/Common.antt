@@ -10,7 +10,7 @@ pub use Rattle.defs_text.specs.BlockScalar.{after_digit, after_sign, after_style
 unfoldable pub use Rattle.defs_text.specs.BlockScalar.{digit_of, is_content_line, is_empty_line, row_of, sign_of}
 pub use Rattle.defs_text.specs.Breaks.{has_no_break, is_before_line_feed, is_blanks_and_comment, is_rest_of_line, Split, split, with_empty_line}
 pub use Rattle.defs_text.specs.Classes.{is_at_end, is_at_gap, is_between, is_document_marker, line_feed, tab}
-unfoldable pub use Rattle.defs_text.specs.Classes.{are_marks, is_anchor_name, is_blank_or_end, is_nul}
+unfoldable pub use Rattle.defs_text.specs.Classes.{are_marks, is_anchor_name, is_blank_or_end, is_decimal_digit, is_letter, is_nul}
 pub use Rattle.defs_text.specs.Directives.{begins_prefix, decimal_value, declaration_by, Directive, handle_and_rest, minor_of, name_and_mark, number_of, reserved, tag_declaration, version_of}
 unfoldable pub use Rattle.defs_text.specs.Directives.{directive_of}
 pub use Rattle.defs_text.specs.FlowScalar.{before_break, begins_with, begun_with, blank, break_further, content, Element, elements, escape_by, escaped_break, escapes, folded_after, folded_break, folded_elements, followed, has_document_marker, hexadecimal, last_line, line, line_break, lines_of, lookup, numbered, numeric_escapes, put_before, Spelled, trimmed, trimmed_after, without_trailing_blanks}
@@ -69,3 +69,6 @@ unfoldable pub use Rattle.yaml_chars.specs.Class.{is_alpha, is_alphanumeric, is_
 pub use Rattle.yaml_tokens.specs.declared.problem.Fault.{Fault}
 pub use Rattle.yaml_tokens.specs.declared.problem.Fault.TheVariants.{At}
 pub use Rattle.yaml_tokens.specs.declared.problem.Problem.{Problem}
+pub use Rattle.yaml_tokens.specs.declared.problem.Problem.TheVariants.{BlockScalarTab, BlockScalarZero, CommentNotSeparated, DirectiveEnd, DirectiveName, DirectiveNameEnd, EscapedCode, FlowIndentation, GlobalTagCharacter, HexadecimalDigit, PlainDashInFlow, PlainTab, QuotedDocumentMarker, QuotedEnd, QuotedIndentation, TabAsIndentation, TabInBlockIndentation, TagDirectiveEnd, TagDirectiveHandle, TagEnd, TagLeadingOctet, TagOctet, TagStart, UnknownEscape, VersionDot, VersionNumber, VersionTooLong, WhitespaceExpected}
+pub use Rattle.proof_lexers.proofs.Bridges.{and_false, both, digits_of, or_false, same_alpha, same_blank, same_break, same_code, same_digit, same_escape, same_flow, same_gap, same_marker, same_tag, same_uri}
+pub use Rattle.proof_lexers.proofs.Classes.{all_leading, before_end, begins_in, ends_after, leading_all, leading_none, none_further, one_further, same_place, skipped, span_cut, taken}

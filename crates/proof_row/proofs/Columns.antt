@@ -1,6 +1,5 @@
 -- The content column of a block scalar is fixed by its lines up to the first content line; and further text is no line of it.
-use Rattle.proof_row.proofs.Common.{[], are_marks, arith, begins_with, column_by, deepest_start, eqb-true, false, is_at_gap, is_break, is_content_line, is_document_marker, is_empty_line, is_further_text, is_outside, is_spaces, leading_spaces, List, lt-leb, max, None, Option, refl, row_of, rows_of, suc, true, zero, ℕ, ◌++◌, ◌<◌, ◌∷◌, ◌≡◌, ◌≤◌}
-use Rattle.proof_row.proofs.Runs.{both}
+use Rattle.proof_row.proofs.Common.{[], are_marks, arith, begins_with, column_by, deepest_start, eqb-true, false, is_at_gap, is_break, is_content_line, is_document_marker, is_empty_line, is_further_text, is_outside, is_spaces, leading_spaces, List, lt-leb, max, None, Option, refl, row_of, rows_of, suc, true, zero, ℕ, ◌++◌, ◌<◌, ◌∷◌, ◌≡◌, ◌≤◌, both}
 use Rattle.proof_row.proofs.Lines.{up_to_break}
 
 -- ---- the column

@@ -33,3 +33,5 @@ pub use Rattle.defs_token.specs.Step.{Act, act_of, gives_block_scalar, gives_clo
 pub use Rattle.defs_token.specs.Token.{alias, anchor, block_end, block_entry, block_mapping_start, block_sequence_start, document_end, document_start, double_quoted, flow_entry, flow_mapping_end, flow_mapping_start, flow_sequence_end, flow_sequence_start, folded, key, literal, plain, scalar, single_quoted, stream_end, stream_start, tag, tag_directive, Tok, Token, value, version_directive}
 pub use Rattle.defs_token.specs.Tokens.{begun_inside, begun_outside, Colon, ends_at, ends_with_stream, key_end, key_tokens, pair_end, pair_position, put, shown_position, start_if, stream_position, tokens_from, tokens_of_row, tokens_of_step}
 pub use Rattle.proof_row.specs.Ends.{alias_name, anchor_name, block_scalar, BlockScalarsHaveOneEnd, colon, comma, dash, dashes, directive_line, DirectivesHaveOneEnd, dots, DoubleQuotedScalarsHaveOneEnd, ends_separation, in_double_quotes, in_single_quotes, IsSeenAlike, IsWholeSeparation, IsWholeTag, Kind, kind_at, kind_by, kind_of, mapping_closing, mapping_opening, NamesHaveOneEnd, NoPieceIsInASeparation, nothing, PiecesHaveOneEnd, PiecesSeenAlikeHaveOneEnd, plain_scalar, PlainScalarsHaveOneEnd, question, SeparationsBeforePiecesAreOne, SeparationsEndBeforePieces, SeparationsHaveOneEnd, sequence_closing, sequence_opening, SingleQuotedScalarsHaveOneEnd, tag_text, TagsHaveOneEnd, TextsBeginWithOneKind, TextsUpToTheirEndHaveNoNul}
+pub use Rattle.proof_row.proofs.Runs.{both, contrary, ends_run, joined, longer, runs, same_head, untrue}
+pub use Rattle.proof_row.proofs.Texts.{all_append, all_leading, all_weaker, flows, gaps, leading_after, no_nul_after}

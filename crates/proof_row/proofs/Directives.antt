@@ -1,7 +1,5 @@
 -- A directive has one end: its line's.
-use Rattle.proof_row.proofs.Common.{[], all_of, Bool, DirectivesHaveOneEnd, has_no_break, has_no_nul, is_at_line_end, is_break, List, not, refl, true, ℕ, ◌∷◌, ◌≡◌, arith}
-use Rattle.proof_row.proofs.Runs.{both, joined, ends_run, runs}
-use Rattle.proof_row.proofs.Texts.{no_nul_after}
+use Rattle.proof_row.proofs.Common.{[], all_of, Bool, DirectivesHaveOneEnd, has_no_break, has_no_nul, is_at_line_end, is_break, List, not, refl, true, ℕ, ◌∷◌, ◌≡◌, arith, both, joined, ends_run, runs, no_nul_after}
 
 abbrev is_in_line : ℕ → Bool
 is_in_line c = not (is_break c)

@@ -1,6 +1,5 @@
 -- At one account a text begins with one piece of one token.
-use Rattle.proof_row.proofs.Common.{[], alias_name, anchor_name, ap, append-nil, block_read, block_scalar, BlockRead, colon, comma, dash, dashes, directive_line, dots, double_quoted_value, has_no_nul, in_double_quotes, in_single_quotes, Kind, List, mapping_closing, mapping_opening, NoPieceIsInASeparation, nothing, PiecesHaveOneEnd, PiecesSeenAlikeHaveOneEnd, plain_scalar, question, refl, SeparationsBeforePiecesAreOne, sequence_closing, sequence_opening, single_quoted_value, Some, subst, sym, Tag, tag, tag_text, TextsUpToTheirEndHaveNoNul, Tok, true, written_tag, ℕ, ◌++◌, ◌∙◌, ◌∷◌, ◌≡◌, IsNamed, alias, anchor, arith}
-use Rattle.proof_row.proofs.Runs.{joined, same_head}
+use Rattle.proof_row.proofs.Common.{[], alias_name, anchor_name, ap, append-nil, block_read, block_scalar, BlockRead, colon, comma, dash, dashes, directive_line, dots, double_quoted_value, has_no_nul, in_double_quotes, in_single_quotes, Kind, List, mapping_closing, mapping_opening, NoPieceIsInASeparation, nothing, PiecesHaveOneEnd, PiecesSeenAlikeHaveOneEnd, plain_scalar, question, refl, SeparationsBeforePiecesAreOne, sequence_closing, sequence_opening, single_quoted_value, Some, subst, sym, Tag, tag, tag_text, TextsUpToTheirEndHaveNoNul, Tok, true, written_tag, ℕ, ◌++◌, ◌∙◌, ◌∷◌, ◌≡◌, IsNamed, alias, anchor, arith, joined, same_head}
 use Rattle.proof_row.proofs.Separations.{separations}
 use Rattle.proof_row.proofs.Names.{names}
 use Rattle.proof_row.proofs.Plains.{plains}

@@ -1,6 +1,5 @@
 -- A plain scalar has one end.
-use Rattle.proof_row.proofs.Common.{[], after_blank, Bool, ends_with_content, false, goes_on, inside, List, on_line, Option, past, PlainScalarsHaveOneEnd, refl, Stand, stops, subst, sym, true, ℕ, ◌++◌, ◌∷◌, ◌≡◌, arith}
-use Rattle.proof_row.proofs.Runs.{both, untrue, contrary, same_head, longer}
+use Rattle.proof_row.proofs.Common.{[], after_blank, Bool, ends_with_content, false, goes_on, inside, List, on_line, Option, past, PlainScalarsHaveOneEnd, refl, Stand, stops, subst, sym, true, ℕ, ◌++◌, ◌∷◌, ◌≡◌, arith, both, untrue, contrary, same_head, longer}
 
 -- whether the last character of a text is content, or what stands before an empty one
 abbrev settled : Stand → List ℕ → Bool

@@ -1,5 +1,6 @@
 -- Tests that hold together, and texts of which each character is of a class.
-use Rattle.proof_row.proofs.Common.{[], all_of, Bool, false, List, not, refl, true, ℕ, ◌&&◌, ◌++◌, ◌||◌, ◌∷◌, ◌≡◌, arith}
+use Rattle.std.proofs.Common.{[], Bool, false, List, not, refl, true, ℕ, ◌&&◌, ◌++◌, ◌||◌, ◌∷◌, ◌≡◌, arith}
+use Rattle.defs_text.specs.Tags.{all_of}
 
 -- ---- tests
 

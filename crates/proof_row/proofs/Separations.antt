@@ -1,6 +1,5 @@
 -- A separation has one end.
-use Rattle.proof_row.proofs.Common.{[], Bool, ends_separation, false, is_at_line_end, is_blank, is_blank_or_end, is_break, is_separation, List, not, refl, SeparationsHaveOneEnd, true, ℕ, ◌++◌, ◌==◌, ◌||◌, ◌∷◌, ◌≡◌, arith}
-use Rattle.proof_row.proofs.Runs.{both, contrary, same_head, longer}
+use Rattle.proof_row.proofs.Common.{[], Bool, ends_separation, false, is_at_line_end, is_blank, is_blank_or_end, is_break, is_separation, List, not, refl, SeparationsHaveOneEnd, true, ℕ, ◌++◌, ◌==◌, ◌||◌, ◌∷◌, ◌≡◌, arith, both, contrary, same_head, longer}
 
 -- what ends a separation is no character of one
 unfilled : (c : ℕ) (r : List ℕ) → ends_separation (c ∷ r) ≡ true → (is_blank c || is_break c || (c == 35)) ≡ false

@@ -1,11 +1,9 @@
 -- Block scalars' headers are read as what they say.
-use Rattle.proof_lexers.proofs.Common.{[], along, and_then, ap, arith, At, begins_with, BlockStyle, Bool, cases_Bool, chomping, comment, digit_of, ends_line, EndsAs, Err, false, further, has_zero, header, header_break, header_end, header_of, HeadersEndAsTheirLineSays, if◌then◌else◌, increment, indicator_of, indicators, indicators_of, inl, inr, is_break, is_in_line, is_rest_of_line, is_sign, IsHeaderRead, IsHeaderRefusal, length, linebreak, List, nat_tests, no_header, None, Ok, Option, past, past_indicators, Position, Read, reads, refl, refuses, sign_of, Some, space, sym, tab, tabbed, true, whole_header, with_indicators, Yes, zero_digit, ℕ, ◌++◌, ◌==◌, ◌∙◌, ◌∷◌, ◌≡◌, eqb-true, digit_by, digit_or_zero, Fault, Header, read_header, Result, and_parts, ◌||◌, after_style, slice_index}
+use Rattle.proof_lexers.proofs.Common.{[], along, and_then, ap, arith, At, begins_with, BlockStyle, Bool, cases_Bool, chomping, comment, digit_of, ends_line, EndsAs, Err, false, further, has_zero, header, header_break, header_end, header_of, HeadersEndAsTheirLineSays, if◌then◌else◌, increment, indicator_of, indicators, indicators_of, inl, inr, is_break, is_in_line, is_rest_of_line, is_sign, IsHeaderRead, IsHeaderRefusal, length, linebreak, List, nat_tests, no_header, None, Ok, Option, past, past_indicators, Position, Read, reads, refl, refuses, sign_of, Some, space, sym, tab, tabbed, true, whole_header, with_indicators, Yes, zero_digit, ℕ, ◌++◌, ◌==◌, ◌∙◌, ◌∷◌, ◌≡◌, eqb-true, digit_by, digit_or_zero, Fault, Header, read_header, Result, and_parts, ◌||◌, after_style, slice_index, BlockScalarTab, BlockScalarZero, is_between, both, same_break}
 use Rattle.yaml_chars.specs.Class.{is_digit}
-use Rattle.yaml_tokens.specs.declared.problem.Problem.TheVariants as problem
 use Rattle.defs_text.specs.Classes as classes
 use Rattle.defs_text.specs.BlockScalar as defs
 use Rattle.std.proofs.lemmas.List.Folds.{list_all-append}
-use Rattle.proof_lexers.proofs.Bridges.{both, same_break}
 use Rattle.proof_lexers.proofs.Along.{along_append}
 use Rattle.proof_lexers.proofs.RestOfLine as rest_of_lines
 use Rattle.proof_lexers.proofs.RestOfLine.{along_further, in_line_is, Rest, glued, goes_on, rest_of_line}
@@ -27,14 +25,14 @@ one class (c ∷ r) = (if class c then c ∷ [] else [])
 abbrev front : List ℕ → List ℕ
 front [] = []
 front (c ∷ r) =
-    (if is_sign c then c ∷ one (classes.is_between 49 57) r else (if classes.is_between 49 57 c then c ∷ one is_sign r else []))
+    (if is_sign c then c ∷ one (is_between 49 57) r else (if is_between 49 57 c then c ∷ one is_sign r else []))
 
 front_cut : (l : List ℕ) → l ≡ front l ++ past_indicators l
 front_cut [] = refl
 front_cut (c ∷ []) = grind arith
 front_cut (c ∷ d ∷ l) = grind arith
 
-digit_is : (c : ℕ) → is_digit c ≡ ((c == 48) || classes.is_between 49 57 c)
+digit_is : (c : ℕ) → is_digit c ≡ ((c == 48) || is_between 49 57 c)
 unfolding is_digit
 digit_is c = both _ _ (λ h. grind (arith, nat_tests)) (λ h. grind (arith, nat_tests))
 
@@ -75,7 +73,7 @@ module _ (start : Position) (style : BlockStyle) where
 
   -- a `0` is refused, and no header has one
   zero_fails : (l r : List ℕ) → has_zero l ≡ true
-      → (header_of (indicator_of style ∷ l) ≡ None) × (indicators start (l ++ r) (past start) ≡ Err (At problem.BlockScalarZero start))
+      → (header_of (indicator_of style ∷ l) ≡ None) × (indicators start (l ++ r) (past start) ≡ Err (At BlockScalarZero start))
   unfolding sign_of digit_of indicators chomping increment is_digit classes.is_blank
   zero_fails [] r z = cc
   zero_fails (c ∷ []) r z = grind (arith, nat_tests, eqb-true)
@@ -158,13 +156,13 @@ module _ (h : defs.Header) (line after : List ℕ) (p : Position) (is : header_o
   own r (whole_header g f t) = let same : g ≡ h = (let x : Some g ≡ Some h = sym f ∙ is in cc) in (t, ap (λ k. read_header k after (along line (past p))) same)
 
   -- it is refused for a TAB only
-  for_tab : (f : Fault) → IsHeaderRefusal p h.style line after f → (begins_with tab (linebreak after p).rest ≡ true) × (f ≡ At problem.BlockScalarTab p)
+  for_tab : (f : Fault) → IsHeaderRefusal p h.style line after f → (begins_with tab (linebreak after p).rest ≡ true) × (f ≡ At BlockScalarTab p)
   for_tab f a = grind (arith, is)
 
   pub header_reads : is_in_line line ≡ true → ends_line after ≡ true → begins_with tab (linebreak after p).rest ≡ false → header p (line ++ after) (past p) ≡ Ok (read_header h after (along line (past p)))
   header_reads inner ends still = elim (headers_end h.style line after p inner ends) [ reads r k e ↦ e ∙ ap Ok (own r k).1 | refuses f why e ↦ let no = (for_tab f why).0 in absurd (cc (no, still)) ]
 
-  pub header_tabs : is_in_line line ≡ true → ends_line after ≡ true → begins_with tab (linebreak after p).rest ≡ true → header p (line ++ after) (past p) ≡ Err (At problem.BlockScalarTab p)
+  pub header_tabs : is_in_line line ≡ true → ends_line after ≡ true → begins_with tab (linebreak after p).rest ≡ true → header p (line ++ after) (past p) ≡ Err (At BlockScalarTab p)
   header_tabs inner ends begins = elim (headers_end h.style line after p inner ends) [ reads r k e ↦ let no = (own r k).0 in absurd (cc (no, begins)) | refuses f why e ↦ e ∙ ap Err (for_tab f why).1 ]
 
 pub linebreak_put : (k : Break) (a : List ℕ) (q : Position) → Fits k a → linebreak (put k a) q ≡ record { rest = a; position = after_break k q; value = tt }

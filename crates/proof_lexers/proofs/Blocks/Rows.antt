@@ -1,8 +1,7 @@
 -- The lines of a block scalar are read row by row.
-use Rattle.proof_lexers.proofs.Common.{[], along, ap, append-nil, append_assoc, arith, at_marker, between, BlockState, Bool, content_row, drop, empty_row, ends_line, eq-eqb, false, Fault, indent_from, is_blank, is_break, is_content_line, is_document_marker, is_empty_line, is_in_line, is_spaces, le-ltb, leading_spaces, leb-true, length, Lines, lines_from, List, margin, nat_lt, nat_tests, None, not-true, Ok, Option, past, Position, put_row, Read, refl, Result, Row, row_of, rows_of, Some, suc, sym, true, zero, ℕ, ◌&&◌, ◌++◌, ◌+◌, ◌==◌, ◌∙◌, ◌∷◌, ◌≡◌, ◌≤◌, or-true}
+use Rattle.proof_lexers.proofs.Common.{[], along, ap, append-nil, append_assoc, arith, at_marker, between, BlockState, Bool, content_row, drop, empty_row, ends_line, eq-eqb, false, Fault, indent_from, is_blank, is_break, is_content_line, is_document_marker, is_empty_line, is_in_line, is_spaces, le-ltb, leading_spaces, leb-true, length, Lines, lines_from, List, margin, nat_lt, nat_tests, None, not-true, Ok, Option, past, Position, put_row, Read, refl, Result, Row, row_of, rows_of, Some, suc, sym, true, zero, ℕ, ◌&&◌, ◌++◌, ◌+◌, ◌==◌, ◌∙◌, ◌∷◌, ◌≡◌, ◌≤◌, or-true, are_marks, is_blank_or_end, and_false, same_marker}
 use Rattle.defs_text.specs.Classes as classes
 use Rattle.model_scanner.specs.BlockScalar.{line, begins, begun, with_char}
-use Rattle.proof_lexers.proofs.Bridges.{and_false, same_marker}
 pub use Rattle.proof_lexers.proofs.Blocks.Margins.{after_break, after_line, after_lines, AreLines, at, before, Break, col_along, empty_passes, first_inner, Fits, last_passes, Line, lined, lines_front, margin_passes, put, spell, split_spell, texts}
 
 -- ---- a document marker is seen alike in a line and in the text that begins with the line
@@ -11,12 +10,12 @@ break_is_none : (c : ℕ) → classes.is_break c ≡ true → ((c == 45) ≡ fal
 unfolding classes.is_break
 break_is_none c h = (grind (arith, nat_tests), grind (arith, nat_tests))
 
-break_is_gap : (c : ℕ) → classes.is_break c ≡ true → classes.is_blank_or_end c ≡ true
-unfolding classes.is_blank_or_end
+break_is_gap : (c : ℕ) → classes.is_break c ≡ true → is_blank_or_end c ≡ true
+unfolding is_blank_or_end
 break_is_gap c h = rw (h, or-true (classes.is_blank c)) refl
 
 pub line_marker : (w r : List ℕ) → ends_line r ≡ true → is_document_marker (w ++ r) ≡ is_document_marker w
-unfolding classes.are_marks
+unfolding are_marks
 line_marker a r h = grind (arith, break_is_none, and_false, break_is_gap)
 
 pub marker_in_line : (col : ℕ) (w r : List ℕ) → ends_line r ≡ true → at_marker col (w ++ r) ≡ ((col == 0) && is_document_marker w)

@@ -1,7 +1,6 @@
 -- Each text is lines, each with its break as written, and a last line without one.
-use Rattle.proof_lexers.proofs.Common.{[], and-false, and_parts, ap, cases_Bool, eqb-true, false, inl, inr, is_break, is_in_line, List, or_cases, refl, slice_index, Split, split, true, with_empty_line, ℕ, ◌&&◌, ◌++◌, ◌==◌, ◌∙◌, ◌∷◌, ◌≡◌, arith, nat_tests, not, not-true}
+use Rattle.proof_lexers.proofs.Common.{[], and-false, and_parts, ap, cases_Bool, eqb-true, false, inl, inr, is_break, is_in_line, List, or_cases, refl, slice_index, Split, split, true, with_empty_line, ℕ, ◌&&◌, ◌++◌, ◌==◌, ◌∙◌, ◌∷◌, ◌≡◌, arith, nat_tests, not, not-true, same_break}
 use Rattle.defs_text.specs.Classes as classes
-use Rattle.proof_lexers.proofs.Bridges.{same_break}
 
 -- the first character of a line, and the others
 pub first_inner : (c : ℕ) (w : List ℕ) → is_in_line (c ∷ w) ≡ true → (is_break c ≡ false) × (is_in_line w ≡ true)

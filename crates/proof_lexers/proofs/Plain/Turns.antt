@@ -1,10 +1,8 @@
 -- What the model does at each character of a plain scalar, in the definitions' words.
-use Rattle.proof_lexers.proofs.Common.{[], after_blank, and_parts, ap, arith, At, at_break, at_dash, at_marker, at_plain, begins_flow, begins_token, begins_white, Bool, can_be_plain, cases_Bool, collection_of, Context, ends_at_colon, ends_at_comment, ends_at_line, ends_plain, eqb-true, Err, false, Fault, Folded, inl, inr, is_before_line_feed, is_blank, is_blank_or_breakz, is_blanks, is_break, is_cr_lf, is_deeper, is_flow, is_shallow, is_white, joined, List, nat_lt, nat_tests, not, Ok, on_line, or-true, or_parts, past, past_break, Plain, plain_from, Position, position_past, Read, refl, Result, slice_index, Stand, stops, suc, sym, tabs, true, with_blank, with_break, with_char, ℕ, ◌&&◌, ◌++◌, ◌+◌, ◌==◌, ◌||◌, ◌∙◌, ◌∷◌, ◌≡◌}
-use Rattle.yaml_tokens.specs.declared.problem.Problem.TheVariants as problem
+use Rattle.proof_lexers.proofs.Common.{[], after_blank, and_parts, ap, arith, At, at_break, at_dash, at_marker, at_plain, begins_flow, begins_token, begins_white, Bool, can_be_plain, cases_Bool, collection_of, Context, ends_at_colon, ends_at_comment, ends_at_line, ends_plain, eqb-true, Err, false, Fault, Folded, inl, inr, is_before_line_feed, is_blank, is_blank_or_breakz, is_blanks, is_break, is_cr_lf, is_deeper, is_flow, is_shallow, is_white, joined, List, nat_lt, nat_tests, not, Ok, on_line, or-true, or_parts, past, past_break, Plain, plain_from, Position, position_past, Read, refl, Result, slice_index, Stand, stops, suc, sym, tabs, true, with_blank, with_break, with_char, ℕ, ◌&&◌, ◌++◌, ◌+◌, ◌==◌, ◌||◌, ◌∙◌, ◌∷◌, ◌≡◌, PlainDashInFlow, is_blank_or_end, is_nul, both, same_break, same_blank, same_gap, same_flow, same_marker, and_false}
 use Rattle.defs_text.specs.Classes as classes
 use Rattle.defs_token.specs.Plain as defs
 use Rattle.model_scanner.specs.Plain.{Mode, inside, between, goes_on}
-use Rattle.proof_lexers.proofs.Bridges.{both, same_break, same_blank, same_gap, same_flow, same_marker, and_false}
 pub use Rattle.proof_lexers.proofs.Bridges.{or_false}
 pub use Rattle.proof_lexers.proofs.Plain.Found.{after_char, after_content, after_gap, after_more, after_tab, after_text, content_char, dash, dash_untabbed, Fails, fails, flow_untabbed, Found, found, further, Moves, no_lead, past_content, same_left, solid_first, tab, tab_blank, Tabbed, tabbed}
 
@@ -144,7 +142,7 @@ module _ (ctx : Context) (start : Position) where
   pub data Outcome (c : ℕ) (a : List ℕ) (s : Stand) (p : Position) (t : Folded) (x : Result (Read Plain) Fault) : Type 0 where
     stopped : ends_plain ctx.flow (collection_of ctx.indent) s (c ∷ a) ≡ true → x ≡ Ok (record { rest = c ∷ a; position = p; value = record { text = t.text; leading = t.leading } }) → Outcome c a s p t x
     went : ends_plain ctx.flow (collection_of ctx.indent) s (c ∷ a) ≡ false → is_shallow ctx p.col ≡ false → x ≡ scan a inside (past p) (with_char c (joined t)) → Outcome c a s p t x
-    dashed : ctx.flow ≡ true → c ≡ 45 → begins_flow a ≡ true → x ≡ Err (At problem.PlainDashInFlow p) → Outcome c a s p t x
+    dashed : ctx.flow ≡ true → c ≡ 45 → begins_flow a ≡ true → x ≡ Err (At PlainDashInFlow p) → Outcome c a s p t x
 
   ends_line : (c : ℕ) (a : List ℕ) (s : Stand) → ends_at_line ctx.flow (collection_of ctx.indent) s (c ∷ a) ≡ true → ends_plain ctx.flow (collection_of ctx.indent) s (c ∷ a) ≡ true
   ends_line c a s h = rw (h, or-true) refl
@@ -154,7 +152,7 @@ module _ (ctx : Context) (start : Position) where
 
   pub ends_over : (c : ℕ) (a : List ℕ) (s : Stand) (b : Bool) → (c == 0) ≡ false → ends_at_comment s (c ∷ a) ≡ false → ends_at_line ctx.flow (collection_of ctx.indent) s (c ∷ a) ≡ false
       → (ends_at_colon ctx.flow (c ∷ a) || (ctx.flow && classes.is_flow c)) ≡ b → ends_plain ctx.flow (collection_of ctx.indent) s (c ∷ a) ≡ b
-  unfolding classes.is_nul
+  unfolding is_nul
   ends_over c a s b nul f g h = rw (nul, f, g) (grind arith)
 
   pub dash_parts : (flow : Bool) (c : ℕ) (a : List ℕ) → at_dash flow (c ∷ a) ≡ true → (flow ≡ true) × (c ≡ 45) × (begins_flow a ≡ true)
@@ -163,7 +161,7 @@ module _ (ctx : Context) (start : Position) where
 
   pub outcome : (c : ℕ) (a : List ℕ) (s : Stand) (p : Position) (t : Folded) → is_white c ≡ false → (c == 0) ≡ false → ends_at_comment s (c ∷ a) ≡ (c == 35)
       → ends_at_line ctx.flow (collection_of ctx.indent) s (c ∷ a) ≡ (at_marker p.col (c ∷ a) || is_shallow ctx p.col) → Outcome c a s p t (scan (c ∷ a) between p t)
-  unfolding goes_on at_plain classes.is_blank_or_end classes.is_nul
+  unfolding goes_on at_plain is_blank_or_end is_nul
   outcome c a s p t white nul comment line = by _ _ _ _ _ refl refl refl refl refl
     where
       q : (classes.is_blank c ≡ false) × (classes.is_break c ≡ false)

@@ -1,12 +1,9 @@
 -- What the model does at each element of a body in single and in double quotes.
-use Rattle.proof_lexers.proofs.Common.{[], along, and_parts, arith, begins_with, Bool, break_further, by_line, cases_Bool, Char, Code, coded, content, Context, count_of, digit_turn, digit_value, digits_from, double_quoted_element, drop, element_of, eqb-true, Escape, escape, escape_by, escape_of, escaped_break, escapes, false, Fault, Folded, has_marker, hexadecimal, if◌then◌else◌, inl, inr, inside, is_blank, is_break, is_character_code, is_document_marker, joined, length, List, list_all, lookup, named_char, named_code, nat_tests, ne_eqb, None, numbered, numeric_escape, numeric_escapes, Option, past, past_break, Position, Read, refl, Result, single_quoted_element, slice_index, Some, subst, suc, sym, take, true, Unknown, with_char, with_escaped_break, zero, ℕ, ◌&&◌, ◌*◌, ◌++◌, ◌+◌, ◌==◌, ◌||◌, ◌∙◌, ◌∷◌, ◌≡◌, Err, coded_fails, At, digit_fails, length-take, take-append-le}
+use Rattle.proof_lexers.proofs.Common.{[], along, and_parts, arith, begins_with, Bool, break_further, by_line, cases_Bool, Char, Code, coded, content, Context, count_of, digit_turn, digit_value, digits_from, double_quoted_element, drop, element_of, eqb-true, Escape, escape, escape_by, escape_of, escaped_break, escapes, false, Fault, Folded, has_marker, hexadecimal, if◌then◌else◌, inl, inr, inside, is_blank, is_break, is_character_code, is_document_marker, joined, length, List, list_all, lookup, named_char, named_code, nat_tests, ne_eqb, None, numbered, numeric_escape, numeric_escapes, Option, past, past_break, Position, Read, refl, Result, single_quoted_element, slice_index, Some, subst, suc, sym, take, true, Unknown, with_char, with_escaped_break, zero, ℕ, ◌&&◌, ◌*◌, ◌++◌, ◌+◌, ◌==◌, ◌||◌, ◌∙◌, ◌∷◌, ◌≡◌, Err, coded_fails, At, digit_fails, length-take, take-append-le, EscapedCode, HexadecimalDigit, is_some, is_nul, same_break, same_digit, same_code, digits_of, same_escape, and_false, both}
 use Rattle.std.proofs.lemmas.List.{drop-append-le}
-use Rattle.yaml_tokens.specs.declared.problem.Problem.TheVariants as problem
 use Rattle.defs_text.specs.Classes as classes
 use Rattle.model_scanner.specs.Quoted.{after}
 use Rattle.model_scanner.specs.declared.kind.Digits.{Digits}
-use Rattle.proof_lexers.specs.QuotedScan.{is_some}
-use Rattle.proof_lexers.proofs.Bridges.{same_break, same_digit, same_code, digits_of, same_escape, and_false, both}
 use Rattle.proof_lexers.proofs.Quoted.Turns.{feed_is_no_marker, after_escaped, scan, Begun, begun, marked, shallow, begins, Step, steps, is_marked, is_shallow, StepOf, spelled, content_step, itself_step}
 
 -- ---- single quotes
@@ -18,7 +15,7 @@ module _ (ctx : Context) (start : Position) where
   quote_step (d ∷ b) r p t = elim (cases_Bool (d == 39)) [ inl e ↦ rw (eqb-true d 39 e) (content_step true ctx start 39 (39 ∷ b) r 1 39 p t refl refl refl refl) | inr e ↦ rw e tt ]
 
   single_step : (c : ℕ) (b r : List ℕ) (p : Position) (t : Folded) → (slice_index r 0 == 10) ≡ false → StepOf true ctx start c b r p t (single_quoted_element c b)
-  unfolding single_quoted_element classes.is_nul
+  unfolding single_quoted_element is_nul
   single_step c b r p t no_feed = elim (cases_Bool (c == 0)) [
     | inl e ↦ rw e tt
     | inr e ↦ elim (cases_Bool (c == 39)) [
@@ -40,8 +37,8 @@ number_after n value b = (if length (take n b) == n then hexadecimal value (take
 module _ (ctx : Context) (start : Position) where
   -- what a scan makes of a code's number
   abbrev pub coded_end : List ℕ → Position → Folded → Option ℕ → Result (Read (List ℕ)) Fault
-  coded_end a p u None = Err (At problem.HexadecimalDigit start)
-  coded_end a p u (Some code) = (if is_character_code code then scan false ctx start a inside p (with_char code u) else Err (At problem.EscapedCode start))
+  coded_end a p u None = Err (At HexadecimalDigit start)
+  coded_end a p u (Some code) = (if is_character_code code then scan false ctx start a inside p (with_char code u) else Err (At EscapedCode start))
 
   -- The digits of a code are taken, or refused.
   pub digits_read : (n value : ℕ) (b : List ℕ) (p : Position) (u : Folded) → digits_from false ctx start n value b p u ≡ coded_end (drop n b) (along (take n b) p) u (number_after n value b)
@@ -133,7 +130,7 @@ module _ (ctx : Context) (start : Position) where
   ]
 
   double_step : (c : ℕ) (b r : List ℕ) (p : Position) (t : Folded) → (slice_index r 0 == 10) ≡ false → StepOf false ctx start c b r p t (double_quoted_element c b)
-  unfolding double_quoted_element classes.is_nul
+  unfolding double_quoted_element is_nul
   double_step c b r p t no_feed = elim (cases_Bool (c == 0)) [
     | inl e ↦ rw e tt
     | inr e ↦ elim (cases_Bool (c == 34)) [

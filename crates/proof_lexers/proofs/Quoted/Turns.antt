@@ -1,18 +1,16 @@
 -- What the model does at an element of a body.
-use Rattle.proof_lexers.proofs.Common.{[], after_element, along, and_parts, append-nil, arith, At, at_marker, blank, Bool, break_further, by_line, cases_Bool, content, Context, drop, Element, eqb-true, Err, false, Fault, Folded, gap, has_marker, inl, inr, inside, is_blank, is_break, is_document_marker, IsShallow, joined, line_break, List, list_all, Mode, nat_lt, nat_tests, None, not, Ok, Option, past, past_break, plain_element, Position, quote_of, quoted_from, Read, refl, refused, Result, slice_index, Some, Spelled, take, true, with_char, ℕ, ◌&&◌, ◌++◌, ◌+◌, ◌==◌, ◌||◌, ◌∙◌, ◌∷◌, ◌≡◌, ◌≤◌}
-use Rattle.yaml_tokens.specs.declared.problem.Problem.TheVariants as problem
+use Rattle.proof_lexers.proofs.Common.{[], after_element, along, and_parts, append-nil, arith, At, at_marker, blank, Bool, break_further, by_line, cases_Bool, content, Context, drop, Element, eqb-true, Err, false, Fault, Folded, gap, has_marker, inl, inr, inside, is_blank, is_break, is_document_marker, IsShallow, joined, line_break, List, list_all, Mode, nat_lt, nat_tests, None, not, Ok, Option, past, past_break, plain_element, Position, quote_of, quoted_from, Read, refl, refused, Result, slice_index, Some, Spelled, take, true, with_char, ℕ, ◌&&◌, ◌++◌, ◌+◌, ◌==◌, ◌||◌, ◌∙◌, ◌∷◌, ◌≡◌, ◌≤◌, QuotedDocumentMarker, QuotedIndentation, is_some, are_marks, same_break, same_blank, same_marker, and_false}
 use Rattle.defs_text.specs.Classes as classes
 use Rattle.model_scanner.specs.Quoted.{after}
-use Rattle.proof_lexers.specs.QuotedScan.{is_some, by_tab}
+use Rattle.proof_lexers.specs.QuotedScan.{by_tab}
 use Rattle.proof_lexers.proofs.Along.{along_more}
-use Rattle.proof_lexers.proofs.Bridges.{same_break, same_blank, same_marker, and_false}
 
 -- after so many characters of a line
 pub off_margin : (n k : ℕ) → (n + (k + 1) == 0) ≡ false
 off_margin n k = grind (arith, nat_tests)
 
 pub no_marker : (c : ℕ) (a : List ℕ) → (c == 45) ≡ false → (c == 46) ≡ false → is_document_marker (c ∷ a) ≡ false
-unfolding classes.are_marks
+unfolding are_marks
 no_marker c b e f = grind arith
 
 pub feed_is_no_marker : (a : List ℕ) → is_document_marker (10 ∷ a) ≡ false
@@ -38,15 +36,15 @@ module _ (single : Bool) (ctx : Context) (start : Position) where
   -- A character that is neither blank nor break begins a line or goes on in one, or is refused.
   pub data Begun (a : List ℕ) (p : Position) (t : Folded) : Type 0 where
     begun : ((p.col == 0) && is_document_marker a) ≡ false → nat_lt (p.col + 1) ctx.indent ≡ false → scan a gap p t ≡ scan a inside p (joined t) → Begun a p t
-    marked : ((p.col == 0) && is_document_marker a) ≡ true → scan a gap p t ≡ Err (At problem.QuotedDocumentMarker start) → Begun a p t
-    shallow : nat_lt (p.col + 1) ctx.indent ≡ true → scan a gap p t ≡ Err (At problem.QuotedIndentation start) → Begun a p t
+    marked : ((p.col == 0) && is_document_marker a) ≡ true → scan a gap p t ≡ Err (At QuotedDocumentMarker start) → Begun a p t
+    shallow : nat_lt (p.col + 1) ctx.indent ≡ true → scan a gap p t ≡ Err (At QuotedIndentation start) → Begun a p t
 
   pub begins : (c : ℕ) (a : List ℕ) (p : Position) (t : Folded) → (is_break c || is_blank c) ≡ false → Begun (c ∷ a) p t
   unfolding refused
   begins c a p t g = grind (arith, marked, same_marker, shallow, begun)
 
   -- where a document marker stands it is refused for that
-  pub begins_marked : (c : ℕ) (a : List ℕ) (p : Position) (t : Folded) → (is_break c || is_blank c) ≡ false → ((p.col == 0) && is_document_marker (c ∷ a)) ≡ true → scan (c ∷ a) gap p t ≡ Err (At problem.QuotedDocumentMarker start)
+  pub begins_marked : (c : ℕ) (a : List ℕ) (p : Position) (t : Folded) → (is_break c || is_blank c) ≡ false → ((p.col == 0) && is_document_marker (c ∷ a)) ≡ true → scan (c ∷ a) gap p t ≡ Err (At QuotedDocumentMarker start)
   unfolding refused
   begins_marked c a p t g h = let e : at_marker p.col (c ∷ a) ≡ true = same_marker p.col (c ∷ a) ∙ h in rw (g, e) refl
 
@@ -73,7 +71,7 @@ module _ (single : Bool) (ctx : Context) (start : Position) where
     steps : (m : Mode) (q : Position) → EndsAt s.element p (c ∷ take s.further b) q → Ready single (after_element s.element t) m → list_all is_some (c ∷ b) ≡ list_all is_some (drop s.further b) → ((p.col == 0) && is_document_marker (c ∷ (b ++ r))) ≡ false
         → has_marker (c ∷ b) r ≡ (((q.col == 0) && is_document_marker (drop s.further b ++ r)) || has_marker (drop s.further b) r)
         → scan (c ∷ (b ++ r)) gap p t ≡ scan (drop s.further b ++ r) m q (after_element s.element t) → Step c b r p t s
-    is_marked : ((p.col == 0) && is_document_marker (c ∷ (b ++ r))) ≡ true → scan (c ∷ (b ++ r)) gap p t ≡ Err (At problem.QuotedDocumentMarker start) → Step c b r p t s
+    is_marked : ((p.col == 0) && is_document_marker (c ∷ (b ++ r))) ≡ true → scan (c ∷ (b ++ r)) gap p t ≡ Err (At QuotedDocumentMarker start) → Step c b r p t s
     is_shallow : nat_lt (p.col + 1) ctx.indent ≡ true → IsShallow ctx start (scan (c ∷ (b ++ r)) gap p t) → Step c b r p t s
 
   abbrev pub StepOf : ℕ → List ℕ → List ℕ → Position → Folded → Option Spelled → Type 0
