@@ -26,9 +26,6 @@ tab_whole (l ∷ ls) e = tab_line l.text (spell ls e) l.by (texts ls ++ e ∷ []
 
 -- ---- further text begins with no line feed, and is not the end
 
-no_feed : (column : ℕ) (r : List ℕ) → is_further_text column r ≡ true → (slice_index r 0 == 10) ≡ false
-no_feed column r h = grind (arith, nat_tests, further_is_no_break)
-
 -- whether a CR is a break read_alone goes by the character after it
 pub fits_alone : (k : Break) → Fits k []
 fits_alone a = grind arith
@@ -77,7 +74,7 @@ module _ (indent : ℕ) (p : Position) (next : List ℕ) where
     column_here = column_by h.digit (collection_of indent) (texts ls)
 
     free : (slice_index next 0 == 10) ≡ false
-    free = no_feed column_here next z.further
+    free = grind (arith, nat_tests, further_is_no_break)
 
     tabbed_is : (ls : List Line) → Fits k (spell ls []) → AreLines ls [] → starts_with_tab (texts ls) ≡ false → is_tabbed (indicator_of h.style ∷ (line ++ put k (spell ls []))) next ≡ begins_with tab (spell ls next)
     tabbed_is ls fits are free =

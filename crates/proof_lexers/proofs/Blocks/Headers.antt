@@ -36,9 +36,6 @@ digit_is : (c : ℕ) → is_digit c ≡ ((c == 48) || is_between 49 57 c)
 unfolding is_digit
 digit_is c = both _ _ (λ h. grind (arith, nat_tests)) (λ h. grind (arith, nat_tests))
 
-style_said : (style : BlockStyle) (l : List ℕ) → header_of (indicator_of style ∷ l) ≡ after_style style l
-style_said a l = grind arith
-
 tab_next : (c : ℕ) (a : List ℕ) (p q : Position) → begins_with tab (linebreak (c ∷ a) p).rest ≡ (slice_index (linebreak (c ∷ a) q).rest 0 == 9)
 tab_next c a p q = grind arith
 
@@ -120,7 +117,7 @@ module _ (start : Position) (style : BlockStyle) (line r : List ℕ) (inner : is
           → Ends (and_then (header_end start (w ++ r) q) (λ b. Ok (with_indicators (indicators_of h) b)))
       told (rest_of_lines.ends v rest e) = rw (e, position) (at_line_end start style line r h ends (is ∙ rw rest refl))
       told (glued text so unlike e) =
-          refuses _ (comment h (front line) text (is ∙ rw unlike refl) (style_said style (front line) ∙ own) (front_cut line ∙ ap (λ x. front line ++ x) so)) (rw e refl)
+          refuses _ (comment h (front line) text (is ∙ rw unlike refl) ((grind arith) ∙ own) (front_cut line ∙ ap (λ x. front line ++ x) so)) (rw e refl)
       told (goes_on c more p v unlike begins solid e) = refuses _ (no_header (is ∙ rw unlike refl) free unlike begins) (rw (e, solid) refl)
 
   ended : Ends (header start (line ++ r) (past start))

@@ -90,11 +90,8 @@ split_line : (w a : List ℕ) (ls : List (List ℕ)) (r : List ℕ) → is_in_li
 split_line [] a ls r h e = e
 split_line (c ∷ w) a ls r h e = grind (arith, first_inner, same_break, split_line w a ls r)
 
-split_break : (b : Break) (a : List ℕ) → Fits b a → split (put b a) ≡ with_empty_line (split a)
-unfolding classes.is_break
-split_break b a h = grind (arith)
-
 pub split_spell : (ls : List Line) (r : List ℕ) → AreLines ls r → is_in_line r ≡ true → split (spell ls r) ≡ of_lines (texts ls) r
+unfolding classes.is_break
 split_spell [] r are h = split_last r h
 split_spell (l ∷ ls) r are h =
-    split_line l.text (put l.by (spell ls r)) (texts ls) r are.0 (split_break l.by (spell ls r) are.1 ∙ ap with_empty_line (split_spell ls r are.2 h))
+    split_line l.text (put l.by (spell ls r)) (texts ls) r are.0 ((grind (arith)) ∙ ap with_empty_line (split_spell ls r are.2 h))

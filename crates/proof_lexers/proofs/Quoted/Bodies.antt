@@ -27,16 +27,12 @@ quote_still single r = grind (arith, no_marker)
 pub quote_feed : (single : Bool) (r : List ℕ) → (slice_index (quote_of single ∷ r) 0 == 10) ≡ false
 quote_feed single r = grind arith
 
--- in double quotes no element begins with the quote
-no_quote : (c : ℕ) (b : List ℕ) (s : Spelled) → double_quoted_element c b ≡ Some s → (c == 34) ≡ false
-unfolding double_quoted_element
-no_quote c b s h = grind arith
-
 module _ (single : Bool) (ctx : Context) (start : Position) where
   -- an element may begin after an escaped break as in a gap
   pub from_gap : (c : ℕ) (b a : List ℕ) (s : Spelled) (m : Mode) (p : Position) (t : Folded) → element_of single c b ≡ Some s → Ready single t m → scan single ctx start (c ∷ a) m p t ≡ scan single ctx start (c ∷ a) gap p t
+  unfolding double_quoted_element
   from_gap c b a s m p t h in_gap = refl
-  from_gap c b a s m p t h (after_escaped double e f) = after_gap single ctx start c (c ∷ a) p t refl (rw double (let g : double_quoted_element c b ≡ Some s = rw double at h in no_quote c b s g))
+  from_gap c b a s m p t h (after_escaped double e f) = after_gap single ctx start c (c ∷ a) p t refl (rw double (let g : double_quoted_element c b ≡ Some s = rw double at h in (grind arith)))
 
   abbrev Passes : ℕ → List ℕ → List ℕ → Type 0
   Passes n a r = (es : List Element) (m : Mode) (p : Position) (t : Folded) → elements (element_of single) n a ≡ Some es → Ready single t m
