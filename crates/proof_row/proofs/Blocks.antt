@@ -19,16 +19,13 @@ begins_block (c ∷ r) = (c == 124) || (c == 62)
 no_header : (l : List ℕ) → begins_block l ≡ false → header_of l ≡ None
 no_header a h = grind arith
 
-break_is_none : (c : ℕ) (r : List ℕ) → is_break c ≡ true → begins_block (c ∷ r) ≡ false
-unfolding is_break
-break_is_none c r h = grind arith
-
 line_begins : (p : List ℕ) → begins_block (up_to_break p) ≡ begins_block p
+unfolding is_break
 line_begins [] = refl
 line_begins (c ∷ r) = by (is_break c) refl
   where
     by : (break : Bool) → is_break c ≡ break → begins_block (if break then [] else c ∷ up_to_break r) ≡ begins_block (c ∷ r)
-    by true f = sym (break_is_none c r f)
+    by true f = sym (grind arith)
     by false f = refl
 
 -- A block scalar begins with `|` or `>`.
@@ -51,10 +48,6 @@ record BeforeText (collection : Option ℕ) (s : Split) (next : List ℕ) : Type
   pub is_further : is_further_text (column_by header.digit collection lines) next ≡ true
 
 -- ---- lines after it have no value
-
-no_end : (h : Header) (collection : Option ℕ) (ls zs : List (List ℕ)) (last : List ℕ) → IsBefore (column_by h.digit collection ls) (first_line zs last) →
-    value_by h (content_column h collection (ls ++ zs) (unbroken last)) (ls ++ zs) (unbroken last) ≡ None
-no_end h collection ls zs last b = grind (arith, no_rows, append-nil, column_same, append_assoc)
 
 -- what has no value is not read
 unread : (h : Header) (collection : Option ℕ) (lines : List (List ℕ)) (ending : Ending) (next : List ℕ) (r : BlockRead) → value_by h (content_column h collection lines ending) lines ending ≡ None →
@@ -82,7 +75,7 @@ longer_lines collection head ls h z y zs last s i j k n c true e f =
     let first : up_to_break (z ++ y) ≡ first_line zs last =
     ap (λ x. up_to_break (z ++ x)) ended ∙ (ap up_to_break (append-nil z) ∙ (sym (line_is z) ∙ ap (λ x. first_line (x.complete) (x.last)) j)) in
     let b : IsBefore (column_by h.digit collection ls) (first_line zs last) = subst (λ l. IsBefore (column_by h.digit collection ls) l) first (further _ _ k) in
-    unread h collection (ls ++ zs) (unbroken last) y s (no_end h collection ls zs last b) (ap (λ o. read_body o collection (body (ls ++ zs) (unbroken last)) y) (sym i) ∙ f)
+    unread h collection (ls ++ zs) (unbroken last) y s (grind (arith, no_rows, append-nil, column_same, append_assoc)) (ap (λ o. read_body o collection (body (ls ++ zs) (unbroken last)) y) (sym i) ∙ f)
 longer_lines collection head ls h z y zs (d ∷ last) s i j k n c false e f = cc f
 longer_lines collection head ls h z y [] [] s i j k n c false e f = n (no_lines z j)
 longer_lines collection head ls h z y (l ∷ zs) [] s i j k n c false e f =

@@ -42,11 +42,6 @@ no_row : (column : ℕ) (l : List ℕ) → is_spaces l ≡ false → is_content_
 unfolding row_of is_empty_line
 no_row column l h k = rw (h, k) refl
 
--- a line that begins before the column is no content
-shallow : (column : ℕ) (l : List ℕ) → leading_spaces l < column → is_content_line column l ≡ false
-unfolding is_content_line
-shallow column l h = rw (lt-leb column (leading_spaces l) h) refl
-
 -- a document marker in column 0 is no content
 unmarked : (l : List ℕ) → is_document_marker l ≡ true → is_content_line 0 l ≡ false
 unfolding is_content_line
@@ -76,10 +71,11 @@ marker (a ∷ b ∷ c ∷ r) h = marks (λ a b c. Marked a b c r) a b c (both _ 
 
 -- Further text's first line is no line of the scalar before it.
 pub further : (column : ℕ) (t : List ℕ) → is_further_text column t ≡ true → IsBefore column (up_to_break t)
+unfolding is_content_line
 further zero t h = marker t h
 further (suc n) t h =
     let o : Outside (suc n) (up_to_break t) = outside (suc n) t h in
-    record { written = o.0; start = omega (arith, o.1); none = no_row (suc n) (up_to_break t) o.0 (shallow (suc n) (up_to_break t) o.1) }
+    record { written = o.0; start = omega (arith, o.1); none = no_row (suc n) (up_to_break t) o.0 (rw (lt-leb (suc n) (leading_spaces (up_to_break t)) o.1) refl) }
 
 -- Further text does not begin with a line feed.
 pub further_is_no_break : (column : ℕ) (t : List ℕ) → is_further_text column t ≡ true → begins_with 10 t ≡ false

@@ -28,22 +28,17 @@ piece_in_flow p b bs cs l m ls ms c r n f g q a e k h = grind arith
 
 -- ---- no indicator of a key
 
--- the indicator of a key at a text's start is its kind
-question_there : (fl adjacent : Bool) (col : ℕ) (r : List ℕ) → begins_with_space_or_break r ≡ true → kind_at fl adjacent col (63 ∷ r) ≡ question
-unfolding is_blank is_blank_or_end
-question_there fl adjacent col a h = grind arith
-
 -- a node or a colon does not begin with one
 pub begins_no_key : (a : Account) (c : ℕ) (r n : List ℕ) (f : Option Tok) (q : Position) (t : Tok) → (act_of t ≡ gives_node) ⊎ (act_of t ≡ gives_colon) → IsPiece a (c ∷ r) n f q t →
     begins_with_key_indicator (past_separation false ((c ∷ r) ++ n)) ≡ false
-unfolding is_blank_or_end
+unfolding is_blank_or_end is_blank
 begins_no_key a c r n f q t k h = by (is_blank c) (is_break c) (is_nul c) (c == 35) (separations_end_before a (c ∷ r) n f q t (λ e. cc e) h)
   where
     here : (s g : Bool) → (c == 63) ≡ s → begins_with_space_or_break (r ++ n) ≡ g → (s && g) ≡ false
     here false g e i = refl
     here true false e i = refl
     here true true e i =
-        let there : kind_at (is_in_flow a) (is_adjacent a.before) (a.position.col) (c ∷ (r ++ n)) ≡ question = subst (λ x. kind_at (is_in_flow a) (is_adjacent a.before) (a.position.col) (x ∷ (r ++ n)) ≡ question) (sym (eqb-true c 63 e)) (question_there (is_in_flow a) (is_adjacent a.before) (a.position.col) (r ++ n) i) in
+        let there : kind_at (is_in_flow a) (is_adjacent a.before) (a.position.col) (c ∷ (r ++ n)) ≡ question = subst (λ x. kind_at (is_in_flow a) (is_adjacent a.before) (a.position.col) (x ∷ (r ++ n)) ≡ question) (sym (eqb-true c 63 e)) (grind arith) in
         (grind arith)
 
     by : (b l z o : Bool) → (not (b || l || z) && not o) ≡ true → begins_with_key_indicator (if b || l || o then past_separation o (r ++ n) else c ∷ (r ++ n)) ≡ false

@@ -1,5 +1,5 @@
 -- A step of a row, as a cut has it: the tokens before the one that it shows have no piece, and the account of the cut goes on as that of the row.
-use Rattle.proof_row.proofs.Common.{[], Account, account_at_piece, Act, act_of, ap, Before, begins_node, begun_by, begun_outside, block_mapping_start, block_sequence_start, blocks_past, Bool, Entry, false, free, gives_block_scalar, gives_closing, gives_colon, gives_comma, gives_dash, gives_marker, gives_node, gives_question, if◌then◌else◌, inl, inr, is_deeper, is_keyed, is_near, is_waiting, IsPiece, key_tokens, keyed, Level, levels_past, Line, line_past, List, map, None, opened, Option, Outside, Pair, Position, refl, single_pair, Some, start_if, taken, takes_pair, Tok, Token, true, unless_key, waits, ℕ, ◌&&◌, ◌||◌, ◌∷◌, ◌≡◌, ◌⊎◌, arith}
+use Rattle.proof_row.proofs.Common.{[], Account, account_at_piece, Act, act_of, ap, Before, begun_by, begun_outside, block_mapping_start, block_sequence_start, blocks_past, Bool, Entry, false, free, gives_block_scalar, gives_closing, gives_colon, gives_comma, gives_dash, gives_marker, gives_node, gives_question, if◌then◌else◌, inl, inr, is_deeper, is_keyed, is_near, is_waiting, IsPiece, keyed, Level, levels_past, Line, line_past, List, map, None, opened, Option, Outside, Pair, Position, refl, single_pair, Some, start_if, taken, takes_pair, Tok, Token, true, unless_key, waits, ℕ, ◌&&◌, ◌||◌, ◌∷◌, ◌≡◌, ◌⊎◌, arith}
 use Rattle.defs_token.specs.Account.{settled}
 use Rattle.defs_token.specs.RowAccount.{Account as RowAccount, before_by as before_by_previous}
 use Rattle.proof_row.proofs.CutPieces.{account_by}
@@ -82,11 +82,6 @@ collection_begins : (here : Position) (b : Before) (start : Tok) (next : List �
     Begun (Outer here b bs) (start_if (is_deeper here.col bs) here start) next t k c r bs (record { line = free; blocks = opened here.col bs })
 collection_begins here b start next t k c r bs s i = grind (arith, settled_all, plainly)
 
--- a key begins, and its mapping where it is deeper
-key_begins : (here colon : Position) (b : Before) (next : List ℕ) (t : Tok) (c : ℕ) (r bs : List ℕ) → begins_node (Some t) ≡ true →
-    Begun (Outer here b bs) (key_tokens (is_deeper here.col bs) colon block_mapping_start here) next t gives_node c r bs (record { line = waits here; blocks = bs })
-key_begins here colon b next t c r bs n = grind (arith, settled_all)
-
 -- a colon ends the key that waits
 key_ends : (here : Position) (b : Before) (next : List ℕ) (t : Tok) (c : ℕ) (r bs : List ℕ) (begin : Position) → BegunBy (Outer here b (opened begin.col bs)) [] next t gives_colon c r bs (keyed begin here bs)
 key_ends here b next t c r bs begin = by (is_near begin here)
@@ -98,7 +93,7 @@ key_ends here b next t c r bs begin = by (is_near begin here)
 -- every piece outside flow
 pub begun : (k : Act) (must key : Bool) (l : Line) (here colon : Position) (b : Before) (next : List ℕ) (t : Tok) (c : ℕ) (r bs : List ℕ) → act_of t ≡ k →
     BegunBy (Outer here b (with_key bs l)) (begun_outside (is_deeper here.col bs) here colon k key (Some l)) next t k c r bs (line_past must here bs k key l)
-begun gives_node must true free here colon b next t c r bs e = key_begins here colon b next t c r bs (grind arith)
+begun gives_node must true free here colon b next t c r bs e = grind (arith, settled_all)
 begun gives_node must false free here colon b next t c r bs e = unless here b must next t gives_node c r bs taken refl
 begun gives_node must false taken here colon b next t c r bs e = plainly here b next t gives_node c r bs (record { line = taken; blocks = bs }) bs refl (inl refl)
 begun gives_node must false (waits begin) here colon b next t c r bs e = plainly here b next t gives_node c r bs (record { line = waits begin; blocks = bs }) (opened begin.col bs) refl (inr (inl (refl, refl)))
