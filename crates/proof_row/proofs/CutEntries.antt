@@ -58,34 +58,22 @@ pair_ends a kind here b bs next t c r es zs e l = grind arith
 pub entered : (k : Act) (again key : Bool) (had : Had) (kind : FlowKind) (pair : Pair) (here colon own : Position) (b : Before) (bs : List (Option ℕ)) (next : List ℕ) (t : Tok) (c : ℕ) (r : List ℕ) (es : List Entry) → act_of t ≡ k →
     ((act_of t ≡ gives_node) ⊎ (act_of t ≡ gives_colon) → begins_with_key_indicator (past_separation false next) ≡ false) →
     EnteredBy (Inner here b bs (entry_by kind pair had) es) (begun_inside (takes_pair kind pair) pair here colon own k key had) next t c r es (entries_past here again k (begun_by t) key (entry_by kind pair had) es)
-entered gives_node true true fresh kind pair here colon own b bs next t c r es a q = key_enters kind pair here colon b bs next t c r es a (q (inl a))
-entered gives_node true true filled kind pair here colon own b bs next t c r es a q = key_enters kind pair here colon b bs next t c r es a (q (inl a))
-entered gives_node true true settled kind pair here colon own b bs next t c r es a q = key_enters kind pair here colon b bs next t c r es a (q (inl a))
-entered gives_node false true fresh kind pair here colon own b bs next t c r es a q = key_enters kind pair here colon b bs next t c r es a (q (inl a))
+entered gives_node again true had kind pair here colon own b bs next t c r es a q =
+    let begins = key_enters kind pair here colon b bs next t c r es a (q (inl a)) in grind (arith, begins)
 entered gives_node true false fresh kind pair here colon own b bs next t c r es a q = nothing here b bs (entry_by kind pair fresh) (entry_by kind pair filled) next t c r es gives_node a (λ h. cc h) (λ h. cc h) refl
 entered gives_node true false filled kind pair here colon own b bs next t c r es a q = nothing here b bs (entry_by kind pair filled) (entry_by kind pair filled) next t c r es gives_node a (λ h. cc h) (λ h. cc h) refl
 entered gives_node true false settled kind pair here colon own b bs next t c r es a q = nothing here b bs (entry_by kind pair settled) (entry_by kind pair filled) next t c r es gives_node a (λ h. cc h) (λ h. cc h) refl
 entered gives_node false false fresh kind pair here colon own b bs next t c r es a q = nothing here b bs (entry_by kind pair fresh) (entry_by kind pair filled) next t c r es gives_node a (λ h. cc h) (λ h. cc h) refl
 entered gives_node false false had kind pair here colon own b bs next t c r es a q = nothing here b bs (entry_by kind pair had) (entry_by kind pair had) next t c r es gives_node a (λ h. cc h) (λ h. cc h) refl
 entered gives_node _ _ _ kind pair here colon own b bs next t c r es a q = tt
-entered gives_question again key had kind pair here colon own b bs next t c r es a q = by again key had
-  where
-    entry : Entry
-    entry = entry_by kind (pair_past (takes_pair kind pair) gives_question pair) settled
-
-    settles : Entered (Unkeyed here b bs kind pair es) [] next t c r es (begun_by t ++ (entry ∷ es))
-    settles = nothing here b bs (entry_by kind pair fresh) entry next t c r es gives_question a (λ h. cc h) (λ h. cc h)
-        (ap (λ z. let l : Level = record { kind = kind; pair = z || false } in l) (sym (grind arith)))
-
-    by : (again key : Bool) (had : Had) → EnteredBy (Inner here b bs (entry_by kind pair had) es) (begun_inside (takes_pair kind pair) pair here colon own gives_question key had) next t c r es (entries_past here again gives_question (begun_by t) key (entry_by kind pair had) es)
-    by a b d = grind (arith, settles)
-entered gives_marker again key had kind pair here colon own b bs next t c r es a q = by again key had
-  where
-    settles : Entered (Unkeyed here b bs kind pair es) [] next t c r es (begun_by t ++ (entry_by kind pair settled ∷ es))
-    settles = nothing here b bs (entry_by kind pair fresh) (entry_by kind pair settled) next t c r es gives_marker a (λ h. cc h) (λ h. cc h) refl
-
-    by : (again key : Bool) (had : Had) → EnteredBy (Inner here b bs (entry_by kind pair had) es) (begun_inside (takes_pair kind pair) pair here colon own gives_marker key had) next t c r es (entries_past here again gives_marker (begun_by t) key (entry_by kind pair had) es)
-    by a b d = grind (arith, settles)
+entered gives_question again key had kind pair here colon own b bs next t c r es a q =
+    let entry = entry_by kind (pair_past (takes_pair kind pair) gives_question pair) settled in
+    let settles = nothing here b bs (entry_by kind pair fresh) entry next t c r es gives_question a (λ h. cc h) (λ h. cc h)
+    (ap (λ z. let l : Level = record { kind = kind; pair = z || false } in l) (sym (grind arith))) in
+    grind (arith, settles)
+entered gives_marker again key had kind pair here colon own b bs next t c r es a q =
+    let settles = nothing here b bs (entry_by kind pair fresh) (entry_by kind pair settled) next t c r es gives_marker a (λ h. cc h) (λ h. cc h) refl in
+    grind (arith, settles)
 entered gives_colon again key had kind pair here colon own b bs next t c r es a q = grind (arith, in_entry, nothing)
 entered gives_comma again key had kind pair here colon own b bs next t c r es a q = grind (arith, pair_ends)
 entered gives_closing again key had kind pair here colon own b bs next t c r es a q = grind (arith, pair_ends)
