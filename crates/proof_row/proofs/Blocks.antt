@@ -1,5 +1,5 @@
 -- A block scalar has one end.
-use Rattle.proof_row.proofs.Common.{[], ap, append-nil, append_assoc, begins_with, block_read, BlockRead, BlockScalarsHaveOneEnd, body, Bool, column_by, content_column, Ending, false, further_text, has_no_nul, Header, header_of, if◌then◌else◌, inl, inr, is_at_end, is_break, is_further_text, List, None, Option, read_body, read_lines, read_split, refl, row_of, Some, Split, split, subst, sym, true, value_at_text, value_by, ℕ, ◌++◌, ◌==◌, ◌||◌, ◌∙◌, ◌∷◌, ◌≡◌, ◌⊎◌, arith, both, untrue, no_nul_after}
+use Rattle.proof_row.proofs.Common.{[], ap, append-nil, append_assoc, begins_with, block_read, BlockRead, BlockScalarsHaveOneEnd, body, Bool, column_by, content_column, Ending, false, further_text, has_no_nul, Header, header_of, inl, inr, is_at_end, is_break, is_further_text, List, None, Option, read_body, read_lines, read_split, refl, row_of, Some, Split, split, subst, sym, true, value_at_text, value_by, ℕ, ◌++◌, ◌==◌, ◌||◌, ◌∙◌, ◌∷◌, ◌≡◌, ◌⊎◌, arith, both, untrue, no_nul_after}
 use Rattle.defs_text.specs.BlockScalar.{unbroken}
 use Rattle.proof_row.proofs.Splits.{More, splits}
 use Rattle.proof_row.proofs.Lines.{of_lines, lines_after, split_append, up_to_break, first_line, line_of, line_is, line_more, no_lines}
@@ -22,11 +22,7 @@ no_header a h = grind arith
 line_begins : (p : List ℕ) → begins_block (up_to_break p) ≡ begins_block p
 unfolding is_break
 line_begins [] = refl
-line_begins (c ∷ r) = by (is_break c) refl
-  where
-    by : (break : Bool) → is_break c ≡ break → begins_block (if break then [] else c ∷ up_to_break r) ≡ begins_block (c ∷ r)
-    by true f = sym (grind arith)
-    by false f = refl
+line_begins (c ∷ r) = grind arith
 
 -- A block scalar begins with `|` or `>`.
 pub block_begins : (collection : Option ℕ) (p x : List ℕ) (r : BlockRead) → block_read collection p x ≡ Some r → begins_block p ≡ true

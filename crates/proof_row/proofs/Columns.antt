@@ -64,10 +64,8 @@ unfolding is_break are_marks
 dots r h = record { written = refl; start = omega arith; none = no_row 0 (46 ∷ 46 ∷ 46 ∷ up_to_break r) refl (unmarked (46 ∷ 46 ∷ 46 ∷ up_to_break r) (grind arith)) }
 
 marker : (t : List ℕ) → is_document_marker t ≡ true → IsBefore 0 (up_to_break t)
-marker [] h = absurd (cc h)
-marker (a ∷ []) h = absurd (cc h)
-marker (a ∷ b ∷ []) h = absurd (cc h)
 marker (a ∷ b ∷ c ∷ r) h = marks (λ a b c. Marked a b c r) a b c (both _ _ h).0 (dashes r (both _ _ h).1) (dots r (both _ _ h).1)
+marker _ h = absurd (cc h)
 
 -- Further text's first line is no line of the scalar before it.
 pub further : (column : ℕ) (t : List ℕ) → is_further_text column t ≡ true → IsBefore column (up_to_break t)

@@ -1,5 +1,5 @@
 -- A row is a cut, and steps with which a row may begin are a cut of a beginning of the text.
-use Rattle.proof_row.proofs.Common.{[], account_past, ap, append_assoc, append_cancel_right, Before, Begins, begins_free_line, block_end, Bool, ends_with_stream, Entry, false, first_account, first_position, free, has_break, have_no_key, if◌then◌else◌, is_closed, is_in_flow, is_in_line, is_renewed, is_separation, is_waiting, IsCut, IsRead, IsRowFrom, IsWritten, Leads, Line, line_past_separation, List, may_end, may_stand, nat_lt, None, not, on_one_line, Option, past_piece, Position, position_after, put, refl, Site, site_at, Some, spelled, start_token, Step, stream_end, stream_position, stream_start, subst, sym, taken, Tok, Token, tokens_from, tokens_of, tokens_of_step, true, up_to_nul, waits, Written, ℕ, ◌&&◌, ◌++◌, ◌∙◌, ◌∷◌, ◌≡◌, arith}
+use Rattle.proof_row.proofs.Common.{[], account_past, ap, append_assoc, append_cancel_right, Before, Begins, begins_free_line, block_end, Bool, ends_with_stream, Entry, false, first_account, first_position, has_break, have_no_key, if◌then◌else◌, is_closed, is_in_flow, is_in_line, is_renewed, is_separation, is_waiting, IsCut, IsRead, IsRowFrom, IsWritten, Leads, Line, line_past_separation, List, may_end, may_stand, nat_lt, None, not, on_one_line, Option, past_piece, Position, position_after, put, refl, Site, site_at, Some, spelled, start_token, Step, stream_end, stream_position, stream_start, subst, sym, Tok, Token, tokens_from, tokens_of, tokens_of_step, true, up_to_nul, waits, Written, ℕ, ◌&&◌, ◌++◌, ◌∙◌, ◌∷◌, ◌≡◌, arith}
 use Rattle.defs_token.specs.Account as cut
 use Rattle.defs_token.specs.Step.{Row}
 use Rattle.defs_token.specs.Step as step
@@ -39,11 +39,10 @@ waits_in_line a (w ∷ ws) after b h ends kept waiting = by_line a.line refl wai
         (subst (λ l. (if may then on_one_line w.piece (past_piece at w.piece w.shown next again w.key (line_past_separation (is_in_flow a.entries) (begins_free_line a.site.before w.separation) l) a.entries) else None) ≡ Some x) e g)
 
     by_line : (l : Line) → a.line ≡ l → is_waiting l ≡ true → is_in_line (w.separation ++ (w.piece ++ next)) ≡ true
-    by_line free e i = absurd (cc i)
-    by_line taken e i = absurd (cc i)
     by_line (waits begin) e i =
         let keeps : KeptBy (waits begin) a.site = subst (λ z. KeptBy z a.site) e kept in
         by_piece w.separation w.piece w.shown h.0 (sym (keeps.2 w.separation) ∙ by_past begin e (account_past a w next) refl h.1)
+    by_line _ e i = absurd (cc i)
 
 -- ---- steps
 
@@ -119,8 +118,7 @@ ends_so a last h = by a.line a.entries h
     by : (l : Line) (es : List Entry) → (not (is_waiting l) && have_no_key es) ≡ true → IsEnd (record { site = a.site; line = l; entries = es }) last
     by (waits begin) es h = absurd (cc h)
     by l (e ∷ es) h = record { tokens = []; are = refl; closed = in_cut (record { site = a.site; line = l; entries = e ∷ es }); closes = refl; is_cut = nothing_cut _ last }
-    by free [] h = outside free refl
-    by taken [] h = outside taken refl
+    by l [] h = outside l refl
 
 -- ---- laws
 

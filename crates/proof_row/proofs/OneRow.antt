@@ -14,7 +14,7 @@ at_end b v f next h k e = grind (arith, no_piece_at_end, not_empty)
 rows_from : (Were : Type 0) (x y : Option Account) (r s : List Step) (f g : List ℕ) → Stepped IsLike Were x y →
     IsRowFrom x r f → IsRowFrom y s g → spelled r f ≡ spelled s g → Holds (has_no_nul (spelled r f)) → Were × (r ≡ s) × (f ≡ g)
 rows_from Were None y r s f g t h k e c = absurd h
-rows_from Were (Some a) None r s f g t h k e c = absurd k
+rows_from Were x None r s f g t h k e c = absurd k
 rows_from Were (Some a) (Some b) [] [] f g t h k e c = (t.1 (same_at_end a b t.0 h.1 k.1), refl, e)
 rows_from Were (Some a) (Some b) [] (v ∷ vs) f g t h k e c = absurd (at_end b v f (spelled vs g) h.0 k.0 e)
 rows_from Were (Some a) (Some b) (w ∷ ws) [] f g t h k e c = absurd (at_end a w g (spelled ws f) k.0 h.0 (sym e))

@@ -18,10 +18,8 @@ from : (fl : Bool) (coll : Option ℕ) (s : Stand) (p q x y : List ℕ) → goes
 from fl coll s [] [] x y h k f g i j e = (refl, e)
 from fl coll inside [] (d ∷ q) x y h k f g i j e = absurd (over fl coll inside d q y (subst (λ z. stops fl coll inside z ≡ true) e i) k g)
 from fl coll inside (c ∷ p) [] x y h k f g i j e = absurd (over fl coll inside c p x (subst (λ z. stops fl coll inside z ≡ true) (sym e) j) h f)
-from fl coll after_blank [] (d ∷ q) x y h k f g i j e = absurd (cc f)
-from fl coll after_blank (c ∷ p) [] x y h k f g i j e = absurd (cc g)
-from fl coll (on_line n) [] (d ∷ q) x y h k f g i j e = absurd (cc f)
-from fl coll (on_line n) (c ∷ p) [] x y h k f g i j e = absurd (cc g)
+from fl coll s [] (d ∷ q) x y h k f g i j e = absurd (cc f)
+from fl coll s (c ∷ p) [] x y h k f g i j e = absurd (cc g)
 from fl coll s (c ∷ p) (d ∷ q) x y h k f g i j e = grind (arith, same_head, both, longer, from fl coll (past s c) p q x y)
 
 pub plains : PlainScalarsHaveOneEnd
