@@ -112,11 +112,7 @@ kind_there dots a p x t h = known a p (codes "...") x _ h.0.0 (here a 46 (46 ∷
 kind_there directive_line a p x t h =
     let r : (r : List ℕ) × (p ≡ 37 ∷ r) = directive_begins p h.0 h.1 in
     known a p (37 ∷ r.0) x _ r.1 (here a 37 (r.0 ++ x) refl)
-kind_there alias_name a p x t h = known a p (42 ∷ h.0) x _ h.1.0 (here a 42 (h.0 ++ x) refl)
-kind_there anchor_name a p x t h = known a p (38 ∷ h.0) x _ h.1.0 (here a 38 (h.0 ++ x) refl)
 kind_there tag_text a p x t h = grind (arith, nat_tests, eqb-true, mark_is_first, known, here)
-kind_there in_single_quotes a p x t h = known a p (39 ∷ (h.1.0 ++ (39 ∷ []))) x _ h.1.1 (here a 39 ((h.1.0 ++ (39 ∷ [])) ++ x) refl)
-kind_there in_double_quotes a p x t h = known a p (34 ∷ (h.1.0 ++ (34 ∷ []))) x _ h.1.1 (here a 34 ((h.1.0 ++ (34 ∷ [])) ++ x) refl)
 kind_there block_scalar a p x t h = block_there a p x h.2 (block_begins a.collection p x h.0 h.1)
 kind_there k a p x t h = grind (arith, known, here)
 

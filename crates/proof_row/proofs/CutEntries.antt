@@ -60,12 +60,10 @@ pub entered : (k : Act) (again key : Bool) (had : Had) (kind : FlowKind) (pair :
     EnteredBy (Inner here b bs (entry_by kind pair had) es) (begun_inside (takes_pair kind pair) pair here colon own k key had) next t c r es (entries_past here again k (begun_by t) key (entry_by kind pair had) es)
 entered gives_node again true had kind pair here colon own b bs next t c r es a q =
     let begins = key_enters kind pair here colon b bs next t c r es a (q (inl a)) in grind (arith, begins)
-entered gives_node true false fresh kind pair here colon own b bs next t c r es a q = nothing here b bs (entry_by kind pair fresh) (entry_by kind pair filled) next t c r es gives_node a (λ h. cc h) (λ h. cc h) refl
-entered gives_node true false filled kind pair here colon own b bs next t c r es a q = nothing here b bs (entry_by kind pair filled) (entry_by kind pair filled) next t c r es gives_node a (λ h. cc h) (λ h. cc h) refl
-entered gives_node true false settled kind pair here colon own b bs next t c r es a q = nothing here b bs (entry_by kind pair settled) (entry_by kind pair filled) next t c r es gives_node a (λ h. cc h) (λ h. cc h) refl
+entered gives_node true false had kind pair here colon own b bs next t c r es a q =
+    let stays = nothing here b bs (entry_by kind pair fresh) (entry_by kind pair filled) next t c r es gives_node a (λ h. cc h) (λ h. cc h) refl in grind (arith, stays)
 entered gives_node false false fresh kind pair here colon own b bs next t c r es a q = nothing here b bs (entry_by kind pair fresh) (entry_by kind pair filled) next t c r es gives_node a (λ h. cc h) (λ h. cc h) refl
 entered gives_node false false had kind pair here colon own b bs next t c r es a q = nothing here b bs (entry_by kind pair had) (entry_by kind pair had) next t c r es gives_node a (λ h. cc h) (λ h. cc h) refl
-entered gives_node _ _ _ kind pair here colon own b bs next t c r es a q = tt
 entered gives_question again key had kind pair here colon own b bs next t c r es a q =
     let entry = entry_by kind (pair_past (takes_pair kind pair) gives_question pair) settled in
     let settles = nothing here b bs (entry_by kind pair fresh) entry next t c r es gives_question a (λ h. cc h) (λ h. cc h)

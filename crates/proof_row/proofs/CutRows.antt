@@ -66,9 +66,8 @@ waits_on a must b l d bs w n = grind arith
 -- a key that waits still does after a piece
 kept_on : (l : Line) (here : Position) (bs : List ℕ) (awaits : Bool) (c : ℕ) (r next : List ℕ) (t : Tok) → WaitsAt l here.col bs → (is_waiting l ≡ true → has_no_break (c ∷ r) ≡ true) → (is_waiting l ≡ true → (f : List ℕ) → begins_free_line (previous_by t) f ≡ has_break f) →
     KeptBy l (record { position = position_after here (c ∷ r) next; blocks = bs; awaits = awaits; before = previous_by t })
-kept_on free here bs awaits c r next t w h f = tt
-kept_on taken here bs awaits c r next t w h f = tt
 kept_on (waits begin) here bs awaits c r next t w h f = (w.0, omega (arith, column_grows here (c ∷ r) next (h refl), w.1), f refl)
+kept_on _ here bs awaits c r next t w h f = tt
 
 -- the separation before a piece, where a key may wait
 abbrev Leads : Site → Line → (at : Site) → Line → Before → Type 0

@@ -105,8 +105,7 @@ begun gives_colon must false free here colon b next t c r bs e = collection_begi
 begun gives_colon must false (waits begin) here colon b next t c r bs e = key_ends here b next t c r bs begin
 begun gives_comma must false free here colon b next t c r bs e = plainly here b next t gives_comma c r bs (record { line = free; blocks = bs }) bs refl (inl refl)
 begun gives_comma must false taken here colon b next t c r bs e = plainly here b next t gives_comma c r bs (record { line = free; blocks = bs }) bs refl (inl refl)
-begun gives_closing must false free here colon b next t c r bs e = plainly here b next t gives_closing c r bs (record { line = taken; blocks = bs }) bs refl (inl refl)
-begun gives_closing must false taken here colon b next t c r bs e = plainly here b next t gives_closing c r bs (record { line = taken; blocks = bs }) bs refl (inl refl)
+begun gives_closing must false l here colon b next t c r bs e = grind (arith, settled_all)
 begun gives_marker must false free here colon b next t c r bs e = plainly here b next t gives_marker c r bs (record { line = taken; blocks = bs }) bs refl (inl refl)
 begun gives_marker must false taken here colon b next t c r bs e = plainly here b next t gives_marker c r bs (record { line = taken; blocks = bs }) bs refl (inl refl)
 begun _ must key l here colon b next t c r bs e = tt
