@@ -94,18 +94,13 @@ key_ends here b next t c r bs begin = by (is_near begin here)
 pub begun : (k : Act) (must key : Bool) (l : Line) (here colon : Position) (b : Before) (next : List ℕ) (t : Tok) (c : ℕ) (r bs : List ℕ) → act_of t ≡ k →
     BegunBy (Outer here b (with_key bs l)) (begun_outside (is_deeper here.col bs) here colon k key (Some l)) next t k c r bs (line_past must here bs k key l)
 begun gives_node must true free here colon b next t c r bs e = grind (arith, settled_all)
-begun gives_node must false free here colon b next t c r bs e = unless here b must next t gives_node c r bs taken refl
-begun gives_node must false taken here colon b next t c r bs e = plainly here b next t gives_node c r bs (record { line = taken; blocks = bs }) bs refl (inl refl)
-begun gives_node must false (waits begin) here colon b next t c r bs e = plainly here b next t gives_node c r bs (record { line = waits begin; blocks = bs }) (opened begin.col bs) refl (inr (inl (refl, refl)))
-begun gives_block_scalar must false free here colon b next t c r bs e = unless here b must next t gives_block_scalar c r bs free refl
-begun gives_block_scalar must false taken here colon b next t c r bs e = plainly here b next t gives_block_scalar c r bs (record { line = free; blocks = bs }) bs refl (inl refl)
+begun gives_node must false l here colon b next t c r bs e = grind (arith, settled_all)
+begun gives_block_scalar must false l here colon b next t c r bs e = grind (arith, settled_all)
 begun gives_dash must false free here colon b next t c r bs e = collection_begins here b block_sequence_start next t gives_dash c r bs (inl refl) (inl refl)
 begun gives_question must false free here colon b next t c r bs e = collection_begins here b block_mapping_start next t gives_question c r bs (inr refl) (inr (inl refl))
 begun gives_colon must false free here colon b next t c r bs e = collection_begins here b block_mapping_start next t gives_colon c r bs (inr refl) (inr (inr refl))
 begun gives_colon must false (waits begin) here colon b next t c r bs e = key_ends here b next t c r bs begin
-begun gives_comma must false free here colon b next t c r bs e = plainly here b next t gives_comma c r bs (record { line = free; blocks = bs }) bs refl (inl refl)
-begun gives_comma must false taken here colon b next t c r bs e = plainly here b next t gives_comma c r bs (record { line = free; blocks = bs }) bs refl (inl refl)
+begun gives_comma must false l here colon b next t c r bs e = grind (arith, settled_all)
 begun gives_closing must false l here colon b next t c r bs e = grind (arith, settled_all)
-begun gives_marker must false free here colon b next t c r bs e = plainly here b next t gives_marker c r bs (record { line = taken; blocks = bs }) bs refl (inl refl)
-begun gives_marker must false taken here colon b next t c r bs e = plainly here b next t gives_marker c r bs (record { line = taken; blocks = bs }) bs refl (inl refl)
+begun gives_marker must false l here colon b next t c r bs e = grind (arith, settled_all)
 begun _ must key l here colon b next t c r bs e = tt

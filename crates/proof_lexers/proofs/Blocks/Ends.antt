@@ -186,9 +186,8 @@ module _ (indent : ℕ) (p : Position) (b : BlockRead) where
   read_of_lines (l ∷ ls) last [] are inner some true x e = to_end l.text l.by ls last are.0 are.1 are.2 inner e
   read_of_lines ls last [] are inner some false x e = let no : true ≡ false = x in cc
   read_of_lines ls last (d ∷ n) are inner some true x e = let no : false ≡ true = sym (some_next d n some) ∙ x in cc
-  read_of_lines [] last (d ∷ n) are inner some false x e = cc
   read_of_lines (l ∷ ls) [] (d ∷ n) are inner some false x e = read_to_text l.text l.by ls (d ∷ n) are.0 are.1 are.2 x e
-  read_of_lines (l ∷ ls) (c ∷ last) (d ∷ n) are inner some false x e = cc
+  read_of_lines _ last (d ∷ n) are inner some false x e = cc
 
 pub pieces_are_read : BlockPiecesAreRead
 pieces_are_read indent piece next p b some e =
@@ -200,9 +199,6 @@ pieces_are_read indent piece next p b some e =
 -- ---- each scan ends as its text says
 
 -- ---- the column of a piece
-
-further_not_end : (column : ℕ) (next : List ℕ) → is_further_text column next ≡ true → list_all is_some next ≡ true → is_at_end next ≡ false
-further_not_end column a h some = grind (arith, some_next)
 
 -- the column of a piece is that of the whole text
 part_column : (digit : Option ℕ) (indent : ℕ) (ls ns : List Line) (e : List ℕ) → AreLines ns e → is_in_line e ≡ true → is_further_text (column_by digit (collection_of indent) (texts (ls ++ ns) ++ e ∷ [])) (spell ns e) ≡ true
@@ -256,13 +252,14 @@ module _ (style : BlockStyle) (indent : ℕ) (p : Position) where
 
     to_text : (own ns : List Line) (rs : List Row) → ls ≡ own ++ ns → rows_of column (texts own) ≡ Some rs → is_further_text column (spell ns last) ≡ true → list_all is_some (spell ns last) ≡ true → Ends (line ++ put k (spell ls last))
     to_text own ns rs split_at rows further some_next_text =
+        let further_not_end : is_at_end (spell ns last) ≡ false = grind (arith, some_next) in
         let joined : spell ls last ≡ spell own (spell ns last) = ap (λ x. spell x last) split_at ∙ spell_append own ns last in
         let parts = are_parts own ns last (rw (← split_at) are) in
         let column_is : column ≡ column_by h.digit (collection_of indent) (texts (own ++ ns) ++ last ∷ []) = ap (λ x. column_by h.digit (collection_of indent) (texts x ++ last ∷ [])) split_at in
         let same : column ≡ column_by h.digit (collection_of indent) (texts own) = column_is ∙ part_column h.digit indent own ns last parts.1 last_inner (rw (← column_is) further) in
         let fits_own : Fits k (spell own []) = fits_before k own (spell ns last) [] (fits_alone k) (rw (← joined) fits) in
         let tab_free = tab_of own (spell ns last) (rw (← joined) tabless) in
-        let not_end = further_not_end column (spell ns last) further some_next_text in
+        let not_end = further_not_end in
         let lines = split_spell (record { text = indicator_of style ∷ line; by = k } ∷ own) [] (style_inner style line inner, fits_own, are_before own (spell ns last) [] fits_alone parts.0) refl in
         let rows_here : rows_of (column_by h.digit (collection_of indent) (texts own)) (texts own) ≡ Some rs = rw (← same) rows in
         let further_here : is_further_text (column_by h.digit (collection_of indent) (texts own)) (spell ns last) ≡ true = rw (← same) further in

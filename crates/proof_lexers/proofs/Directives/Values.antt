@@ -65,10 +65,6 @@ number_read start p a =
     then Ok (record { rest = after is_decimal_digit a; position = further (length (leading is_decimal_digit a)) p; value = decimal_value 0 (leading is_decimal_digit a) })
     else Err (At VersionTooLong start)))
 
-pub number_is_read : (start : Position) (a : List ℕ) (p : Position) → number start a p ≡ number_read start p a
-unfolding number
-number_is_read start a p = grind (arith, digits_run, after, further)
-
 -- ---- names
 
 -- whether a text begins with a word, which ends there
@@ -130,11 +126,12 @@ digit_by start p b n (c ∷ w) r e = elim (cases_Bool (nat_le (length (c ∷ w))
 ]
 
 pub number_sees : (start p : Position) (b n : List ℕ) → ends_line n ≡ true → NumberSees start p b n (number start (b ++ n) p)
-unfolding is_decimal_digit
+unfolding is_decimal_digit number
 number_sees start p b n h =
+    let number_is_read : number start (b ++ n) p ≡ number_read start p (b ++ n) = grind (arith, digits_run, after, further) in
     let none : begins_in is_decimal_digit n ≡ false = none_at_end is_decimal_digit refl refl n h in
     let q = before_end is_decimal_digit b n none in
-    rw (number_is_read start (b ++ n) p, q.0, q.1) (digit_by start p b n (leading is_decimal_digit b) [] refl)
+    rw (number_is_read, q.0, q.1) (digit_by start p b n (leading is_decimal_digit b) [] refl)
 
 -- ---- a handle
 

@@ -116,11 +116,8 @@ module _ (ctx : Context) (start : Position) where
       break_step ctx start c a false between (on_line column) p t _ (feed_breaks c feed) ih (rw (feed_breaks c feed) refl)
 
   none : Scans ctx start []
-  none m s p t (in_line text is off deep) = found_here ctx start false defs.inside p t [] _ refl refl refl
-  none m s p t (after_blanks lead off deep) = found_here ctx start false after_blank p t [] _ refl refl refl
-  none m s p t (at_line column is lead) = found_here ctx start false (on_line column) p t [] _ refl refl refl
-  none m s p t (at_tabs column lead) = found_here ctx start true (on_line column) p t [] _ refl refl refl
   none m s p t (at_feed column b cut) = cc
+  none m s p t _ = found_here ctx start _ _ p t [] _ refl refl refl
 
   pub scans : (a : List ℕ) → has_no_nul a ≡ true → Scans ctx start a
   unfolding is_nul

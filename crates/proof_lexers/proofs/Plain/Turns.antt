@@ -19,12 +19,11 @@ pub can_be : (flow : Bool) (c : ℕ) (a : List ℕ) → can_be_plain flow c (sli
 unfolding can_be_plain classes.is_flow
 can_be flow c a = grind (arith, eqb-true, or_false, end_is_a_gap, same_gap, same_flow)
 
-shallow_by : (indent column : ℕ) → not (is_deeper (collection_of indent) column) ≡ nat_lt column indent
-shallow_by a column = grind (arith, nat_tests, both)
-
 pub line_is : (ctx : Context) (c column : ℕ) (a : List ℕ) → ends_at_line ctx.flow (collection_of ctx.indent) (on_line column) (c ∷ a) ≡ (at_marker column (c ∷ a) || is_shallow ctx column)
 unfolding is_shallow
-line_is ctx c column a = rw (same_marker column (c ∷ a), shallow_by ctx.indent column) refl
+line_is ctx c column a =
+    let shallow_by : not (is_deeper (collection_of ctx.indent) column) ≡ nat_lt column ctx.indent = grind (arith, nat_tests, both) in
+    rw (same_marker column (c ∷ a), shallow_by) refl
 
 pub no_line : (ctx : Context) (c : ℕ) (a : List ℕ) (p : Position) → (p.col == 0) ≡ false → is_shallow ctx p.col ≡ false → false ≡ (at_marker p.col (c ∷ a) || is_shallow ctx p.col)
 no_line ctx c a p e f = rw (same_marker p.col (c ∷ a), e, f) refl

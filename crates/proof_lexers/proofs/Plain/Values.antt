@@ -50,11 +50,8 @@ joined_solid c (d ∷ r) t h = joined_solid d r (after_char c (d ∷ r) t) h
 -- over a line that begins with a marker no scalar goes on
 no_marker_on : (flow : Bool) (collection : Option ℕ) (a next : List ℕ) → begins_with_marker a ≡ true → goes_on flow collection (on_line 0) a next ≡ true → ⊥
 unfolding begins_with_marker is_blank_or_end are_marks is_blank is_break
-no_marker_on flow collection [] next h e = cc
-no_marker_on flow collection (a ∷ []) next h e = cc
-no_marker_on flow collection (a ∷ b ∷ []) next h e = cc
-no_marker_on flow collection (a ∷ b ∷ c ∷ []) next h e = cc
-no_marker_on flow collection (a ∷ b ∷ c ∷ d ∷ r) next h e = grind (arith, nat_tests, and_parts, nat_tests, on_line, or-true)
+no_marker_on flow collection (a ∷ b ∷ c ∷ d ∷ r) next h e = grind (arith, nat_tests, and_parts, on_line, or-true)
+no_marker_on flow collection _ next h e = cc
 
 pub no_markers : (flow : Bool) (collection : Option ℕ) (s : Stand) (more next : List ℕ) → goes_on flow collection s more next ≡ true → has_document_marker more ≡ false
 no_markers flow collection s [] next h = refl

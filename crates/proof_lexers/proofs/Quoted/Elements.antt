@@ -76,24 +76,21 @@ module _ (ctx : Context) (start : Position) where
   digits_read (suc n) value [] p u = grind (arith, nat_tests)
   digits_read (suc n) value (c ∷ b) p u = grind (arith, nat_tests, digit_turn, same_digit, past, both, digit_fails, digits_read n (value * 16 + digit_value c) b (past p) u)
 
-  digits_there : (n code : ℕ) (b : List ℕ) → number_after n 0 b ≡ Some code → ((length (take n b) == n) ≡ true) × (hexadecimal 0 (take n b) ≡ Some code)
-  digits_there n code b h = grind arith
-
   counted : (n code : ℕ) (b r : List ℕ) (p : Position) (u : Folded) → (length (take n b) == n) ≡ true → hexadecimal 0 (take n b) ≡ Some code → is_character_code code ≡ true
       → digits_from false ctx start n 0 (b ++ r) p u ≡ scan false ctx start (drop n b ++ r) inside (along (take n b) p) (with_char code u)
   counted n code b r p u many a valid = grind (arith, nat_tests, eqb-true, length-take, digits_read, take-append-le, drop-append-le)
 
   over_digits : (n value code : ℕ) (b r : List ℕ) → hexadecimal value (take n b) ≡ Some code → (has_marker b r ≡ has_marker (drop n b) r) × (list_all is_some b ≡ list_all is_some (drop n b))
   unfolding classes.is_break
-  over_digits zero value code b r h = (refl, refl)
-  over_digits (suc n) value code [] r h = (refl, refl)
   over_digits (suc n) value code (c ∷ b) r h = grind (arith, nat_tests, over_digits n (value * 16 + digit_value c) code b r)
+  over_digits _ value code b r h = (refl, refl)
 
   coded_by : (d n code : ℕ) (b r : List ℕ) (p : Position) (t : Folded) → is_break d ≡ false → escape_of d ≡ Code (digits_of n) → lookup d numeric_escapes ≡ Some n
       → number_after n 0 b ≡ Some code → is_character_code code ≡ true → Step false ctx start 92 (d ∷ b) r p t (spelled (content code) (suc n))
   unfolding classes.is_break is_break is_blank
   coded_by d n code b r p t e f digits number valid =
-      let q = digits_there n code b number in
+      let digits_there : ((length (take n b) == n) ≡ true) × (hexadecimal 0 (take n b) ≡ Some code) = grind arith in
+      let q = digits_there in
       let z = counted n code b r (past (past p)) (joined t) q.0 q.1 valid in
       let over = over_digits n 0 code b r q.1 in
       let some : (d == 0) ≡ false = known_some d (Code (digits_of n)) f (λ h. cc) in
