@@ -60,7 +60,7 @@ at_end : (y : List ℕ) → has_no_nul y ≡ true → is_at_end y ≡ true → y
 at_end a c e = grind arith
 
 begins_not : (z y : List ℕ) → begins_with 10 (z ++ y) ≡ false → begins_with 10 z ≡ false
-begins_not a y h = grind arith
+begins_not z y h = grind arith
 
 -- The lines of a longer scalar, of which the first after the shorter one is further text.
 longer_lines : (collection : Option ℕ) (head : List ℕ) (ls : List (List ℕ)) (h : Header) (z y : List ℕ) (zs : List (List ℕ)) (last : List ℕ) (s : BlockRead) → header_of head ≡ Some h →

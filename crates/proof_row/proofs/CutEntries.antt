@@ -72,8 +72,4 @@ entered gives_question again key had kind pair here colon own b bs next t c r es
 entered gives_marker again key had kind pair here colon own b bs next t c r es a q =
     let settles = nothing here b bs (entry_by kind pair fresh) (entry_by kind pair settled) next t c r es gives_marker a (λ h. cc h) (λ h. cc h) refl in
     grind (arith, settles)
-entered gives_colon again key had kind pair here colon own b bs next t c r es a q = grind (arith, in_entry, nothing)
-entered gives_comma again key had kind pair here colon own b bs next t c r es a q = grind (arith, pair_ends)
-entered gives_closing again key had kind pair here colon own b bs next t c r es a q = grind (arith, pair_ends)
-entered _ true key had kind pair here colon own b bs next t c r es a q = tt
-entered _ false key had kind pair here colon own b bs next t c r es a q = tt
+entered k again key had kind pair here colon own b bs next t c r es a q = grind (arith, in_entry, nothing, pair_ends)

@@ -12,8 +12,7 @@ in_levels es = not (is_empty (map level_of es))
 same_levels : (ds es : List Entry) → LikeEntries ds es → in_levels ds ≡ in_levels es
 same_levels [] [] j = refl
 same_levels (d ∷ ds) (e ∷ es) j = refl
-same_levels [] (e ∷ es) j = absurd j
-same_levels (d ∷ ds) [] j = absurd j
+same_levels _ _ j = absurd j
 
 abbrev pub At : Account → Step → (next : List ℕ) → Site
 At a w next = site_at (is_in_flow a.entries) a.site w.separation w.piece w.shown next
