@@ -1,5 +1,5 @@
 -- A step of a row in a flow collection, as a cut has it: keys, and starts and ends of single pairs, have no piece.
-use Rattle.proof_row.proofs.Common.{[], Account, Act, act_of, ap, Before, begins_with_key_indicator, begun_by, begun_inside, Bool, ends_entry, entries_past, Entry, false, filled, flow_mapping_start, FlowKind, fresh, gives_closing, gives_colon, gives_comma, gives_marker, gives_node, gives_question, Had, inl, key_tokens, Level, levels_past, List, None, Option, Pair, pair_end, pair_past, past_separation, Position, refl, settled, Some, sym, takes_pair, Tok, Token, true, ℕ, ◌++◌, ◌||◌, ◌∷◌, ◌≡◌, ◌⊎◌, arith}
+use Rattle.proof_row.proofs.Common.{[], Account, Act, act_of, ap, Before, begins_with_key_indicator, begun_by, begun_inside, Bool, ends_entry, entries_past, Entry, false, flow_mapping_start, FlowKind, fresh, gives_closing, gives_colon, gives_comma, gives_node, Had, key_tokens, Level, levels_past, List, None, Option, Pair, pair_end, past_separation, Position, Some, takes_pair, Tok, Token, true, ℕ, ◌++◌, ◌∷◌, ◌≡◌, ◌⊎◌, arith}
 use Rattle.defs_token.specs.FlowEntry.{waits}
 use Rattle.proof_row.proofs.CutPieces.{account_by}
 use Rattle.proof_row.proofs.CutSteps.{level_in, levels_in}
@@ -58,18 +58,4 @@ pair_ends a kind here b bs next t c r es zs e l = grind arith
 pub entered : (k : Act) (again key : Bool) (had : Had) (kind : FlowKind) (pair : Pair) (here colon own : Position) (b : Before) (bs : List (Option ℕ)) (next : List ℕ) (t : Tok) (c : ℕ) (r : List ℕ) (es : List Entry) → act_of t ≡ k →
     ((act_of t ≡ gives_node) ⊎ (act_of t ≡ gives_colon) → begins_with_key_indicator (past_separation false next) ≡ false) →
     EnteredBy (Inner here b bs (entry_by kind pair had) es) (begun_inside (takes_pair kind pair) pair here colon own k key had) next t c r es (entries_past here again k (begun_by t) key (entry_by kind pair had) es)
-entered gives_node again true had kind pair here colon own b bs next t c r es a q =
-    let begins = key_enters kind pair here colon b bs next t c r es a (q (inl a)) in grind (arith, begins)
-entered gives_node true false had kind pair here colon own b bs next t c r es a q =
-    let stays = nothing here b bs (entry_by kind pair fresh) (entry_by kind pair filled) next t c r es gives_node a (λ h. cc h) (λ h. cc h) refl in grind (arith, stays)
-entered gives_node false false fresh kind pair here colon own b bs next t c r es a q = nothing here b bs (entry_by kind pair fresh) (entry_by kind pair filled) next t c r es gives_node a (λ h. cc h) (λ h. cc h) refl
-entered gives_node false false had kind pair here colon own b bs next t c r es a q = nothing here b bs (entry_by kind pair had) (entry_by kind pair had) next t c r es gives_node a (λ h. cc h) (λ h. cc h) refl
-entered gives_question again key had kind pair here colon own b bs next t c r es a q =
-    let entry = entry_by kind (pair_past (takes_pair kind pair) gives_question pair) settled in
-    let settles = nothing here b bs (entry_by kind pair fresh) entry next t c r es gives_question a (λ h. cc h) (λ h. cc h)
-    (ap (λ z. let l : Level = record { kind = kind; pair = z || false } in l) (sym (grind arith))) in
-    grind (arith, settles)
-entered gives_marker again key had kind pair here colon own b bs next t c r es a q =
-    let settles = nothing here b bs (entry_by kind pair fresh) (entry_by kind pair settled) next t c r es gives_marker a (λ h. cc h) (λ h. cc h) refl in
-    grind (arith, settles)
-entered k again key had kind pair here colon own b bs next t c r es a q = grind (arith, in_entry, nothing, pair_ends)
+entered k again key had kind pair here colon own b bs next t c r es a q = grind (arith, in_entry, nothing, pair_ends, key_enters)

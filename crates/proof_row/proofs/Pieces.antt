@@ -73,7 +73,7 @@ pub pieces_seen_alike : PiecesSeenAlikeHaveOneEnd
 pieces_seen_alike a b p q x y f g m n t u like collection i j h k e c = grind (arith, piece_of, kind_there, one_of)
 
 pub pieces : PiecesHaveOneEnd
-pieces a p q x y f g m n t u i j h k e c = pieces_seen_alike a a p q x y f g m n t u (refl, refl, refl) (λ z. refl) i j h k e c
+pieces a p q x y f g m n t u i j h k e c = grind (arith, pieces_seen_alike)
 
 -- ---- separations and pieces
 
