@@ -104,8 +104,6 @@ pub kind_there : (k : Kind) (a : Context) (p x : List ℕ) (t : Tok) → Whole k
 unfolding is_blank_or_end is_blank is_break is_nul is_flow
 kind_there nothing a p x t h = absurd h
 kind_there plain_scalar a p x t h = grind arith
-kind_there question a p x t h = known a p (codes "?") x _ h.0 (here a 63 x (unplain _ _ (ap not (space_is_gap x h.1))))
-kind_there colon a p x t h = known a p (codes ":") x _ h.0 (here a 58 x (unplain _ _ (ap not h.1)))
 kind_there dash a p x t h = known a p (codes "-") x _ h.0 (here a 45 x (unplain _ _ (unplain _ _ (ap not h.1))) ∙ (rw h.1 refl))
 kind_there dashes a p x t h = known a p (codes "---") x _ h.0.0 (here a 45 (45 ∷ 45 ∷ x) (marked a 45 x dash_marks h.0.1 h.0.2))
 kind_there dots a p x t h = known a p (codes "...") x _ h.0.0 (here a 46 (46 ∷ 46 ∷ x) (marked a 46 x dot_marks h.0.1 h.0.2))
@@ -114,7 +112,7 @@ kind_there directive_line a p x t h =
     known a p (37 ∷ r.0) x _ r.1 (here a 37 (r.0 ++ x) refl)
 kind_there tag_text a p x t h = grind (arith, nat_tests, eqb-true, mark_is_first, known, here)
 kind_there block_scalar a p x t h = block_there a p x h.2 (block_begins a.collection p x h.0 h.1)
-kind_there k a p x t h = grind (arith, known, here)
+kind_there k a p x t h = grind (arith, known, here, unplain, space_is_gap)
 
 -- and no separation goes on over it
 pub separations_end : (k : Kind) (a : Context) (p x : List ℕ) (t : Tok) → Whole k a p x t → ends_separation (p ++ x) ≡ true

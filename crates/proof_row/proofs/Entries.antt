@@ -28,6 +28,6 @@ goes_on k here again begun b c d e ds es i j =
 
 -- Like entries are like again after a piece in flow.
 pub entries_step : (k : Act) → EntriesStep k
-entries_step gives_comma here again begun b c d e ds es i j = grind (arith, weaker, both, same_entry, tails)
 entries_step gives_closing here again begun b c d e ds es i j = grind (arith, weaker, both, same_entry)
+entries_step gives_comma here again begun b c d e ds es i j = grind (arith, weaker, both, same_entry, tails)
 entries_step k here again begun b c d e ds es i j = goes_on k here again begun b c d e ds es i j

@@ -9,8 +9,7 @@ unfilled c r h = grind arith
 -- a separation that goes on over a text at which another ends
 pub over : (in_comment : Bool) (c : ℕ) (r next rest : List ℕ) → is_separation in_comment (c ∷ r) next ≡ true → (not in_comment || is_at_line_end (c ∷ rest)) ≡ true → ends_separation (c ∷ rest) ≡ true → ⊥
 unfolding is_blank_or_end
-over false c r next rest h k f = contrary _ (both _ _ h).0 (unfilled c rest f)
-over true c r next rest h k f = contrary _ k (grind arith)
+over b c r next rest h k f = grind (arith, unfilled, contrary, both)
 
 from : (in_comment : Bool) (p q x y : List ℕ) → is_separation in_comment p x ≡ true → is_separation in_comment q y ≡ true → ends_separation x ≡ true → ends_separation y ≡ true → p ++ x ≡ q ++ y → (p ≡ q) × (x ≡ y)
 from b [] [] x y h k f g e = (refl, e)
