@@ -12,7 +12,7 @@ lines_after ls s = of_lines (ls ++ s.complete) (s.last)
 
 -- a text whose last line is complete, and one after it that does not go on with a line feed
 pub split_append : (p z : List ℕ) (ls : List (List ℕ)) → split p ≡ of_lines ls [] → begins_with 10 z ≡ false → split (p ++ z) ≡ lines_after ls (split z)
-split_append [] z ls e h = ap (λ s. lines_after (s.complete) (split z)) e
+split_append [] z ls e h = grind arith
 split_append (c ∷ p) z ls e h =
     ap (λ b. split_by (is_break c) b c (split (p ++ z))) (grind arith) ∙ by (is_break c) (is_before_line_feed c p) (split p) refl (λ ls e. split_append p z ls e h) e
   where
