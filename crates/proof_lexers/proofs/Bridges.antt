@@ -73,8 +73,7 @@ pub same_escape : (c : ℕ) → escape_of c ≡ escape_by_rows (lookup c escapes
 unfolding escape_of
 same_escape c = grind (arith, nat_tests, row)
 
--- ---- classes of flow scalars
-
+-- classes of flow scalars
 pub same_flow : (c : ℕ) → classes.is_flow c ≡ is_flow c
 unfolding classes.is_flow is_flow
 same_flow c = simp (or_assoc, or_false) refl

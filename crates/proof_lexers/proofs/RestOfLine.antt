@@ -56,8 +56,7 @@ spaces_passed tabs (c ∷ a) p w = grind (
   spaces_passed tabs a (past p) (record w { found_tabs = true }),
 )
 
--- ---- a blank
-
+-- a blank
 record Blank (c : ℕ) (a : List ℕ) (s : Spaces) : Type 0 where
   next : Spaces
   position : next.position ≡ past s.position

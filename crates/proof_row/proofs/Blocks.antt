@@ -32,8 +32,6 @@ block_begins collection p x r e = by (begins_block p) refl
     by true f = refl
     by false f = absurd (has_header collection ((split p).complete) ((split p).last) x (is_at_end x) r e (no_header (line_of p) (ap begins_block (line_is p) ∙ (line_begins p ∙ f))))
 
--- ---- before further text
-
 -- a block scalar before further text: its header, and lines that all have their breaks
 record BeforeText (collection : Option ℕ) (s : Split) (next : List ℕ) : Type 0 where
   pub head : List ℕ
@@ -42,8 +40,6 @@ record BeforeText (collection : Option ℕ) (s : Split) (next : List ℕ) : Type
   pub is_split : s ≡ of_lines (head ∷ lines) []
   pub is_header : header_of head ≡ Some header
   pub is_further : is_further_text (column_by header.digit collection lines) next ≡ true
-
--- ---- lines after it have no value
 
 -- what has no value is not read
 unread : (h : Header) (collection : Option ℕ) (lines : List (List ℕ)) (ending : Ending) (next : List ℕ) (r : BlockRead) → value_by h (content_column h collection lines ending) lines ending ≡ None →

@@ -80,8 +80,7 @@ pub further_is_no_break : (column : ℕ) (t : List ℕ) → is_further_text colu
 unfolding is_break are_marks
 further_is_no_break column a h = grind (arith, zero, eqb-true)
 
--- ---- lines of which one is none of the scalar's
-
+-- lines of which one is none of the scalar's
 pub no_rows : (column : ℕ) (ls : List (List ℕ)) (l : List ℕ) (more : List (List ℕ)) → row_of column l ≡ None → rows_of column (ls ++ (l ∷ more)) ≡ None
 no_rows column [] l more h = rw h refl
 no_rows column (k ∷ ls) l more h = grind (arith, no_rows column ls l more h)

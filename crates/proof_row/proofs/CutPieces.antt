@@ -7,8 +7,6 @@ use Rattle.proof_row.proofs.Begins.{separations_end_before}
 pub whatever_follows : (a : Account) (c : ℕ) (r n : List ℕ) (f g : Option Tok) (q : Position) (t : Tok) → IsPiece a (c ∷ r) n f q t → IsPiece a (c ∷ r) n g q t
 whatever_follows a c r n f g q b h = grind arith
 
--- ---- outside flow
-
 -- an indicator of a block collection is one whatever block collections are open
 pub indicator_with_blocks : (bs : List (Option ℕ)) (a : Account) (c : ℕ) (r n : List ℕ) (f : Option Tok) (q : Position) (t : Tok) → (act_of t ≡ gives_dash) ⊎ ((act_of t ≡ gives_question) ⊎ (act_of t ≡ gives_colon)) →
     IsPiece a (c ∷ r) n f q t → IsPiece (with_blocks bs a) (c ∷ r) n f q t

@@ -24,8 +24,6 @@ goes_on k here again begun b c d e ds es i j =
     let pairs : T e.kind e.pair = subst (λ x. T e.kind x) i.1 kinds in
     weaker LikeEntries Were ((d ∷ ds ≡ e ∷ es) × (b ≡ c)) _ _ (λ h. (both d e ds es (same_entry d e i.0 i.1 h.0.0) h.1, h.0.1)) pairs
 
--- ---- an entry that ends
-
 -- Like entries are like again after a piece in flow.
 pub entries_step : (k : Act) → EntriesStep k
 entries_step gives_closing here again begun b c d e ds es i j = grind (arith, weaker, both, same_entry)

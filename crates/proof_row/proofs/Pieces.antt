@@ -89,8 +89,7 @@ no_piece_at_end a v w p x f m t h k i r e =
     empty [] e = refl
     empty (c ∷ p) e = absurd (cc e)
 
--- ---- the text up to its end
-
+-- the text up to its end
 pub clean_up_to_end : TextsUpToTheirEndHaveNoNul
 clean_up_to_end [] = refl
 clean_up_to_end (c ∷ r) = grind (arith, joined, clean_up_to_end r)

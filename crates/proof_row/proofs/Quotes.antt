@@ -12,8 +12,7 @@ Onward r (Some s) o = (s.further ≤ length r) × (o ≡ Some s)
 abbrev IsOnward : (ℕ → List ℕ → Option Spelled) → Type 0
 IsOnward at = (c : ℕ) (r z : List ℕ) → begins_with 10 z ≡ false → Onward r (at c r) (at c (r ++ z))
 
--- ---- single quotes
-
+-- single quotes
 single_onward : IsOnward single_quoted_element
 unfolding single_quoted_element plain_element
 single_onward c r z h = grind arith

@@ -45,8 +45,7 @@ pub are_before : (ls : List Line) (a b : List ℕ) → ((k : Break) → Fits k b
 are_before [] a b fits are = tt
 are_before (l ∷ ls) a b fits are = (are.0, fits_before l.by ls a b (fits l.by) are.1, are_before ls a b fits are.2)
 
--- ---- the column is that of the whole text
-
+-- the column is that of the whole text
 pub whole_column : (digit : Option ℕ) (indent : ℕ) (ls ns : List Line) (e : List ℕ) (column : ℕ) → AreLines ns e → is_in_line e ≡ true → column_by digit (collection_of indent) (texts ls) ≡ column → is_further_text column (spell ns e) ≡ true
     → column_by digit (collection_of indent) (texts (ls ++ ns) ++ e ∷ []) ≡ column
 whole_column digit indent ls ns e column are inner same further =
@@ -195,10 +194,6 @@ pieces_are_read indent piece next p b some e =
     let cut : split piece ≡ record { complete = texts z.lines; last = z.last } = ap split z.is ∙ split_spell z.lines z.last z.are z.inner in
     let lines : read_lines (collection_of indent) (texts z.lines) z.last next (is_at_end next) ≡ Some b = ap (λ s. read_split (collection_of indent) s next) (sym cut) ∙ e in
     subst (λ x. Read_as indent p b x next) (sym z.is) (read_of_lines indent p b z.lines z.last next z.are z.inner some (is_at_end next) refl lines)
-
--- ---- each scan ends as its text says
-
--- ---- the column of a piece
 
 -- the column of a piece is that of the whole text
 part_column : (digit : Option ℕ) (indent : ℕ) (ls ns : List Line) (e : List ℕ) → AreLines ns e → is_in_line e ≡ true → is_further_text (column_by digit (collection_of indent) (texts (ls ++ ns) ++ e ∷ [])) (spell ns e) ≡ true

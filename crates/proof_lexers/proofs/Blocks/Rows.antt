@@ -89,8 +89,7 @@ module _ (literal : Bool) (column : ℕ) where
   pub through : (a r : List ℕ) (p q : Position) (l : Lines) (b : List ℕ) → indent_from column a (at p l.breaks) ≡ indent_from column r (at q b) → scan a (front p l) ≡ scan r (front q (record l { breaks = b }))
   through a r p q l b e = grind (arith, nat_tests, margin_passes, before)
 
-  -- ---- empty lines
-
+  -- empty lines
   empty_goes : (l : Line) (a : List ℕ) (p : Position) (x : Lines) → is_spaces l.text ≡ true → p.col + length l.text ≤ column → Fits l.by a
       → scan (l.text ++ put l.by a) (front p x) ≡ scan a (front (after_line l p) (after_row literal empty_row x))
   empty_goes l a p x h le fits = through (l.text ++ put l.by a) a p (after_line l p) x (x.breaks ++ 10 ∷ []) (empty_passes column l a p x.breaks h le fits)

@@ -123,8 +123,6 @@ last_value h rs c m full =
     let none : breaks (empty_after 0 all) ≡ [] = sym z.breaks_are ∙ ap (λ (l : Lines). l.breaks) more in
     ap (λ t. t ++ tail (chomping_of h.chomping) true (record x { broken = false })) text ∙ ap (λ t. text_of h.style all ++ t) (grind arith)
 
--- ---- where content is found after rows, and how far rows go in a text
-
 -- ---- content is never empty
 
 drop_some : (n : ℕ) (w : List ℕ) (rs : List Row) → suc n ≤ length w → AreFull rs → AreFull (content_row (drop n w) ∷ rs)
@@ -169,8 +167,7 @@ module _ (column : ℕ) where
         record { char = z.char; rest = λ a. z.rest ++ put l.by (spell ls a); position = z.position; breaks_before = b; in_column = z.in_column; found = λ a are. z.found (put l.by (spell ls a)) b }
   ]
 
-  -- ---- empty lines alone
-
+  -- empty lines alone
   pub all_empty : (ls : List Line) (a : List ℕ) (p : Position) (b : List ℕ) (rs : List Row) → p.col ≡ 0 → AreLines ls a → rows_of column (texts ls) ≡ Some rs → has_content rs ≡ false
       → indent_from column (spell ls a) (at p b) ≡ indent_from column a (at (after_lines ls p) (b ++ breaks (length rs)))
   all_empty [] a p b rs col are h none = grind (arith, append-nil)
@@ -200,8 +197,6 @@ module _ (column : ℕ) where
   pub walked : (ms : List Line) (e : List ℕ) → AreLines ms e → is_in_line e ≡ true → list_all is_some (spell ms e) ≡ true → Walked ms e
   walked [] e are inner some = last_walked e (row_of column e) refl inner some
   walked (l ∷ ms) e are inner some = line_walked l ms e (row_of column l.text) refl are.0 some (walked ms e are.2 inner (of_line l (spell ms e) some).1)
-
--- ---- further text ends a block scalar
 
 -- ---- text outside
 

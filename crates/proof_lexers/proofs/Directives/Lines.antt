@@ -27,8 +27,7 @@ data Told (start : Position) (l n : List ℕ) (x : Result (Read Tok) Fault) : Ty
   fails : (f : Fault) → directive_of (37 ∷ l) ≡ None → IsDirectiveRefusal start l f → x ≡ Err f → Told start l n x
 
 module _ (start : Position) (l n : List ℕ) (line : has_no_break l ≡ true) (ends : ends_line n ≡ true) where
-  -- ---- the line's end
-
+  -- the line's end
   finish : (before m : List ℕ) (d : Directive) (p : Position) → l ≡ before ++ m → p ≡ further (suc (length before)) start → directive_of (37 ∷ l) ≡ (if is_rest_of_line m then Some d else None)
       → ((k : List ℕ) → m ≡ 35 ∷ k → IsDirectiveRefusal start l (At CommentNotSeparated (further (suc (length before)) start)))
       → (is_rest_of_line m ≡ false → begins_with 35 m ≡ false → IsDirectiveRefusal start l (At DirectiveEnd start)) → Told start l n (after_value start (record { rest = m ++ n; position = p; value = token_of d }))
@@ -225,8 +224,7 @@ module _ (start : Position) (l n : List ℕ) (line : has_no_break l ≡ true) (e
       | values.found is spelled e ↦ rw e (prefix_read is spelled)
     ])
 
-  -- ---- other directives
-
+  -- other directives
   ignored : (c : ℕ) (w : List ℕ) → leading classes.is_alpha l ≡ c ∷ w → is_same (c ∷ w) (codes "YAML") ≡ false → is_same (c ∷ w) (codes "TAG") ≡ false → is_at_gap after_word ≡ true
       → Told start l n (and_then (value start unknown (after_word ++ n) word_position) (λ t. after_value start t))
   unfolding directive_of

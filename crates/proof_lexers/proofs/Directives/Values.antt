@@ -106,8 +106,6 @@ pub gap_is : (m n : List ℕ) → ends_line n ≡ true → is_blank_or_breakz (s
 unfolding is_blank is_break classes.is_break
 gap_is a n h = grind (arith, eqb-true, same_gap)
 
--- ---- the numbers of a version, and the handle and the prefix of a declaration
-
 -- ---- a version's number
 
 -- What the scan of a number sees in a line: no digit; more than nine; or the number that it is.

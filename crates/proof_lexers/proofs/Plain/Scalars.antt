@@ -70,8 +70,7 @@ module _ (ctx : Context) (start : Position) where
   line_by c column a p t nul is lead ih (is_solid white plain) =
       by_outcome c a (on_line column) p t white refl ih (outcome ctx start c a (on_line column) p t white nul refl (line_is ctx c column a ∙ ap (λ k. at_marker k (c ∷ a) || is_shallow ctx k) is))
 
-  -- ---- after a TAB at a line's start
-
+  -- after a TAB at a line's start
   tabs_by : (c column : ℕ) (a : List ℕ) (p : Position) (t : Folded) → t.leading ≡ true → Scans ctx start a → Kind c → Found ctx start true (on_line column) p t (c ∷ a) (scan ctx start (c ∷ a) tabs p t)
   tabs_by c column a p t lead ih (is_breaks e) = break_step ctx start c a true tabs (on_line column) p t _ e ih (rw e refl)
   tabs_by c column a p t lead ih (is_blanks e f) =
@@ -87,8 +86,7 @@ module _ (ctx : Context) (start : Position) where
         | inr h ↦ fails (At PlainTab start) (tabbed (after_tab [] (c ∷ a) refl refl refl (rw (white, h) refl))) (rw (break, h, blank) refl)
       ]
 
-  -- ---- within a line
-
+  -- within a line
   inside_by : (c : ℕ) (a : List ℕ) (p : Position) (text : List ℕ) → (c == 0) ≡ false → (p.col == 0) ≡ false → is_shallow ctx p.col ≡ false → Scans ctx start a → Kind c
       → Found ctx start false defs.inside p (in_text text) (c ∷ a) (scan ctx start (c ∷ a) inside p (in_text text))
   inside_by c a p text nul off deep ih (is_breaks e) = break_step ctx start c a false inside defs.inside p (in_text text) _ e ih (rw e refl)
@@ -124,8 +122,7 @@ module _ (ctx : Context) (start : Position) where
   scans [] h = none
   scans (c ∷ a) h = let q = and_parts (not (is_nul c)) (has_no_nul a) h in step c a (not-true (is_nul c) q.0) (scans a q.1)
 
--- ---- plain scalars are read as their values
-
+-- a scalar that is indented is so after its first character too
 deep : (ctx : Context) (p : Position) → is_indented ctx p ≡ true → is_shallow ctx (p.col + 1) ≡ false
 unfolding is_shallow
 deep ctx p h = grind (arith, nat_tests)

@@ -113,8 +113,7 @@ module _ (ctx : Context) (start : Position) where
       moves : Moves ctx start c a u false s
       moves = record { begins = λ k i l h. absurd (grind (arith, breaks, (ap classes.is_blank i ∙ tab_blank))); goes_further = λ i b. absurd (grind (arith, breaks, b)); is_no_token = λ i. rw white refl }
 
-  -- ---- blanks
-
+  -- blanks
   pub blank_step : (c : ℕ) (a : List ℕ) (u : Bool) (m n : Mode) (s next : Stand) (p : Position) (t : Folded) (x : Result (Read Plain) Fault) → is_break c ≡ false → is_blank c ≡ true → defs.past_blank s ≡ next
       → ((blanks rest : List ℕ) → is_tabs n ≡ true → a ≡ blanks ++ rest → is_blanks blanks ≡ true → begins_token rest ≡ true → Tabbed ctx start u s (c ∷ a))
       → ((column : ℕ) → c ≡ 9 → s ≡ on_line column → nat_lt column ctx.indent ≡ true → is_tabs n ≡ true) → (u ≡ true → is_tabs n ≡ true)

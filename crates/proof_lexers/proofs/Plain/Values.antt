@@ -39,8 +39,7 @@ elements_of (suc n) [] = record { all = []; are = refl; same = λ t. refl }
 elements_of (suc n) (c ∷ a) = let z = elements_of n a in record { all = z.all; are = z.are; same = z.same }
 elements_of zero (c ∷ a) = first_element c a (λ k. elements_of k a)
 
--- ---- after content
-
+-- after content
 joined_solid : (c : ℕ) (r : List ℕ) (t : Folded) → ends_with_content c r ≡ true → (joined (after_text (c ∷ r) t)).text ≡ (after_text (c ∷ r) t).text
 joined_solid c [] t h = grind (arith, append-nil)
 joined_solid c (d ∷ r) t h = joined_solid d r (after_char c (d ∷ r) t) h
@@ -58,8 +57,7 @@ no_markers flow collection s [] next h = refl
 no_markers flow collection s (c ∷ r) next h =
     grind (arith, nat_tests, goes_on, no_marker_on, no_markers flow collection (past s c) r next)
 
--- ---- the value
-
+-- the value
 pub value_is : (c : ℕ) (r : List ℕ) → has_document_marker (c ∷ r) ≡ false → ends_with_content c r ≡ true → plain_value (c ∷ r) ≡ Some ((after_text (c ∷ r) nothing).text)
 unfolding plain_value
 value_is c r e f =

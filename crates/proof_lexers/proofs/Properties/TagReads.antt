@@ -49,8 +49,7 @@ module _ (flow : Bool) (rest : List ℕ) (g : defs.Tag) (p : Position) (follows 
   abbrev Reads : List ℕ → Type 0
   Reads piece = tag flow (33 ∷ (piece ++ rest)) p ≡ Ok (after_tag p (33 ∷ piece) rest g.handle g.suffix)
 
-  -- ---- verbatim tags
-
+  -- verbatim tags
   verbatim_read : (b : List ℕ) → defs.verbatim b ≡ Some g → Reads (60 ∷ b)
   unfolding tag verbatim
   verbatim_read b h = elim (cases_Bool (is_same (after classes.is_uri b) (codes ">"))) [

@@ -27,8 +27,7 @@ module _ (single : Bool) (ctx : Context) (start : Position) (text : List ℕ) wh
       subst (λ a. Ends (scan single ctx start a first (past start) nothing)) (sym cut)
       (through single ctx start Ends body rest has.0 has.1 no_feed still is_shallow (λ meets. refuses (At QuotedDocumentMarker start) (by_marker body rest cut has meets) refl) goes)
 
-  -- ---- a closing quote
-
+  -- a closing quote
   closes : (body rest : List ℕ) (has : HasElements single body) → text ≡ body ++ quote_of single ∷ rest → ends_before single rest ≡ true → has_marker body (quote_of single ∷ rest) ≡ false
       → (x : Result (Read (List ℕ)) Fault) → IsRead ctx start ((joined (after_elements has.0 nothing)).text) rest x → Ends x
   closes body rest has cut ends none x (shallow s) = is_shallow x s
@@ -36,8 +35,7 @@ module _ (single : Bool) (ctx : Context) (start : Position) (text : List ℕ) wh
       let unmarked = sym (same_marks single body rest (has_none single 0 body has.0 has.1)) ∙ none in
       reads _ (record { body = body; is_text = cut; is_value = value_is single body has.0 has.1 unmarked ∙ ap Some (sym (buffers_join has.0)); may_end = ends }) e
 
-  -- ---- no closing quote
-
+  -- no closing quote
   at_end : (m : Mode) (q : Position) (t : Folded) → Ready single t m → HasElements single text → Ends (scan single ctx start [] m q t)
   at_end m q t in_gap has = refuses (At QuotedEnd start) (by_end has) refl
   at_end m q t (after_escaped double e f) has = refuses (At QuotedEnd start) (by_end has) refl
