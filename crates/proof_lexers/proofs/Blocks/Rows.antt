@@ -156,23 +156,12 @@ module _ (literal : Bool) (column : ℕ) where
   row_goes : (l : Line) (a : List ℕ) (p : Position) (x : Lines) (r : Row) → p.col ≡ 0 → is_in_line l.text ≡ true → Fits l.by a → IsRow column l.text r
       → scan literal column (l.text ++ put l.by a) (front p x) ≡ scan literal column a (front (after_line l p) (after_row literal r x))
   row_goes l a p x empty_row col inner fits (no_content h le) = empty_goes literal column l a p x h (omega (arith, le, col)) fits
-  row_goes l a p x (content_row m) col inner fits (is_content lead long free) =
-      content_chars literal column l.text (put l.by a) p x col inner (break_ends l.by a) lead long free
-      ∙ line_ends literal column l.by a (along l.text p) (written literal column (content_row (drop column l.text)) x) fits
-      ∙ broken_again (drop column l.text)
-    where
-      -- content is never empty here
-      broken_again : (m : List ℕ) → scan literal column a (front (after_line l p) (record (written literal column (content_row m) x) { broken = true })) ≡ scan literal column a (front (after_line l p) (after_row literal (content_row m) x))
-      broken_again b = grind arith
+  row_goes l a p x (content_row m) col inner fits (is_content lead long free) = grind (arith, content_chars, break_ends, line_ends)
 
   pub rows_go : (ls : List Line) (a : List ℕ) (p : Position) (x : Lines) (rs : List Row) → p.col ≡ 0 → AreLines ls a → rows_of column (texts ls) ≡ Some rs
       → scan literal column (spell ls a) (front p x) ≡ scan literal column a (front (after_lines ls p) (after_rows literal rs x))
   rows_go [] a p x rs col are h = let none : [] ≡ rs = cc in ap (λ r. scan literal column a (front p (after_rows literal r x))) none
-  rows_go (l ∷ ls) a p x rs col are h = elim (first_of column l.text (texts ls) rs h) [
-    | first_row r more e is f ↦
-        row_goes l (spell ls a) p x r col are.0 are.1 is ∙ rows_go ls a (after_line l p) (after_row literal r x) more refl are.2 f
-        ∙ ap (λ y. scan literal column a (front (after_lines (l ∷ ls) p) (after_rows literal y x))) (sym e)
-  ]
+  rows_go (l ∷ ls) a p x rs col are h = grind (arith, first_of, row_goes, rows_go ls a (after_line l p))
 
   -- ---- a last line without a break
 

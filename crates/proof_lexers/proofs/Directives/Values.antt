@@ -83,7 +83,7 @@ distinct x d h k = ne_eqb x d (λ same. both_ways (is_alpha x) h (ap is_alpha sa
 pub spells_name : (w l n : List ℕ) → all_of classes.is_alpha w ≡ true → ends_line n ≡ true → spells w (l ++ n) ≡ is_same (leading classes.is_alpha l) w
 spells_name [] [] n h k = rw (first_at_end n k) refl
 spells_name [] (c ∷ l) n h k = grind (arith, same_alpha)
-spells_name (d ∷ w) [] n h k = let q = and_parts (classes.is_alpha d) (all_of classes.is_alpha w) h in rw (distinct (slice_index n 0) d (first_at_end n k) q.0) refl
+spells_name (d ∷ w) [] n h k = grind (arith, distinct, first_at_end)
 spells_name (d ∷ w) (c ∷ l) n h k = grind (arith, same_alpha, distinct, spells_name w l n)
 
 version_spelled : (a : List ℕ) → ((slice_index a 0 == 89) && (slice_index a 1 == 65) && (slice_index a 2 == 77) && (slice_index a 3 == 76) && not (is_alpha (slice_index a 4))) ≡ spells (codes "YAML") a

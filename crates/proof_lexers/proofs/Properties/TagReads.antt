@@ -69,13 +69,12 @@ module _ (flow : Bool) (rest : List ℕ) (g : defs.Tag) (p : Position) (follows 
   -- after a name and a second mark
   named_read : (name m : List ℕ) → defs.begins_with_mark m ≡ true → defs.named name m ≡ Some g → ReadsOn name m
   unfolding named
-  named_read name [] mark h = cc
-  named_read name (x ∷ []) mark h = cc
   named_read name (x ∷ c ∷ t) mark h =
       let k = of_class classes.is_tag (codes "!" ++ name ++ codes "!") (c ∷ t) g h in
       let some : is_empty g.suffix ≡ false = decoded_some c t g.suffix k.1 in
       let second : x ≡ 33 = eqb-true x 33 mark in
       rw (second, suffix_of (past (further (length name) (past p))) (c ∷ t) [] g.suffix k.0 k.1, some, same_end flow rest, follows, k.2, named_position p (length name) (length (c ∷ t)) (length (name ++ 33 ∷ c ∷ t)) (length-append name (33 ∷ c ∷ t))) refl
+  named_read name _ mark h = cc
 
   -- after a name and no mark
   local_read : (name m : List ℕ) → all_of classes.is_alpha name ≡ true → defs.begins_with_mark m ≡ false → is_empty (name ++ m) ≡ false → tag_of_class classes.is_tag (codes "!") (name ++ m) ≡ Some g → ReadsOn name m

@@ -159,11 +159,7 @@ module _ (test class : ℕ → Bool) (start : Position) (same : (c : ℕ) → cl
   first_by c a plains true true e f p t =
       let is_percent : c ≡ 37 = eqb-true c 37 f in
       rw (is_percent, leads) (at_percent a p t plains (octets_at lead a (past p) t))
-  first_by c a plains true false e f p t =
-      let tested : test c ≡ true = sym (same c) ∙ e in
-      let one : decoded (leading class (c ∷ a)) ≡ put_code c (decoded (leading class a)) = rw (e, f) refl in
-      let on : scan (c ∷ a) p t ≡ scan a (past p) (t ++ c ∷ []) = rw (tested, f) refl in
-      on ∙ plains 0 (past p) (t ++ c ∷ []) ∙ with_code c a (past p) t (decoded (leading class a)) ∙ more c a p t (put_code c (decoded (leading class a))) e ∙ ap (answer (c ∷ a) p t) (sym one)
+  first_by c a plains true false e f p t = grind (arith, plains 0 (past p) (t ++ c ∷ []), with_code, more)
   first_by c a plains false is_escape e f p t =
       let tested : test c ≡ false = sym (same c) ∙ e in
       rw (tested, e, e) (nothing_read (c ∷ a) p t)

@@ -32,7 +32,7 @@ module _ (single : Bool) (ctx : Context) (start : Position) where
   pub from_gap : (c : ℕ) (b a : List ℕ) (s : Spelled) (m : Mode) (p : Position) (t : Folded) → element_of single c b ≡ Some s → Ready single t m → scan single ctx start (c ∷ a) m p t ≡ scan single ctx start (c ∷ a) gap p t
   unfolding double_quoted_element
   from_gap c b a s m p t h in_gap = refl
-  from_gap c b a s m p t h (after_escaped double e f) = after_gap single ctx start c (c ∷ a) p t refl (rw double (let g : double_quoted_element c b ≡ Some s = rw double at h in (grind arith)))
+  from_gap c b a s m p t h (after_escaped double e f) = grind (arith, after_gap)
 
   abbrev Passes : ℕ → List ℕ → List ℕ → Type 0
   Passes n a r = (es : List Element) (m : Mode) (p : Position) (t : Folded) → elements (element_of single) n a ≡ Some es → Ready single t m
