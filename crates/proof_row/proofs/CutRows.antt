@@ -139,11 +139,9 @@ module _ (must : Bool) (s : Site) (line : Line) (f : List ℕ) (c : ℕ) (r : Li
           let there : account_at_piece (past_all (account_past_separation (in_cut place) f ((c ∷ r) ++ further)) us) (c ∷ r) ≡ opened = ap (λ d. account_at_piece d (c ∷ r)) lead.1 ∙ g.blocks_are in
           let keeps : IsKept z = kept_on o.line site_here.position o.blocks z.site.awaits c r further t k.0 one_line (λ i. no_directive (seen place site_here f) c r further None own t h.1.1 (inl (k.1 i))) in
           let piece : IsPiece opened (c ∷ r) further None own t = sees o one_line (λ i. in_line (subst IsKept to keeps) (ap is_waiting (sym line_is) ∙ i)) g.sees in
-          let past : account_past_token opened (c ∷ r) further t ≡ in_cut z =
-          ap (λ bs. account_by (position_after site_here.position (c ∷ r) further) (before_past_token before_here (c ∷ r) t) bs (levels_past [] (c ∷ r) t)) (blocks_alike opened c r further None own t (somes (with_key o.blocks o.line)) piece) ∙
-          (ap (λ ls. account_by (position_after site_here.position (c ∷ r) further) (before_past_token before_here (c ∷ r) t) (somes (with_key o.blocks o.line)) ls) (levels_outside t c r) ∙
-          ap (λ y. account_by (position_after site_here.position (c ∷ r) further) y (somes (with_key o.blocks o.line)) (levels_in (begun_by t)))
-          (grind arith)) in
+          let alike = blocks_alike opened c r further None own t (somes (with_key o.blocks o.line)) piece in
+          let levels = levels_outside t c r in
+          let past : account_past_token opened (c ∷ r) further t ≡ in_cut z = grind (arith, alike, levels) in
           subst (λ y. IsCutStep place shown_step ws after y) to
           (stepped place shown_step ws after z us own h.0 (ap (λ o. (ends_at site_here.position s.blocks site_here.blocks ++ more o) ++ (put own t ∷ [])) same_line) lead.0
           (λ last. subst (λ d. IsPiece d (c ∷ r) further last own t) (sym there) (whatever_follows opened c r further None last own t piece))
@@ -241,11 +239,8 @@ inside_step s line e es f c r t key ws after x h same on_line kept = by_line (li
         let after_all : PieceAccount = account_by at.position b bs (n.level ∷ levels_in es) in
         let there : account_at_piece (past_all here us) (c ∷ r) ≡ after_all = ap (λ d. account_at_piece d (c ∷ r)) n.account_is ∙ ap (λ y. account_by at.position b y (n.level ∷ levels_in es)) (settled_all at.position.col (with_key s.blocks line)) in
         let piece : IsPiece after_all (c ∷ r) next None own t = piece_in_flow at.position b (somes at.blocks) bs (level_of e) n.level (map level_of es) (levels_in es) c r next None None own t (same_many es) n.has_no_pair h.1.1 in
-        let past : account_past_token after_all (c ∷ r) next t ≡ in_cut z =
-        ap (λ y. account_by (position_after at.position (c ∷ r) next) (before_past_token b (c ∷ r) t) y (levels_past (n.level ∷ levels_in es) (c ∷ r) t)) (blocks_alike after_all c r next None own t bs piece) ∙
-        (ap (λ y. account_by (position_after at.position (c ∷ r) next) (before_past_token b (c ∷ r) t) bs y) n.levels_are ∙
-        (ap (λ y. account_by (position_after at.position (c ∷ r) next) y bs (levels_in zs)) (grind arith) ∙
-        ap (λ y. account_by (position_after at.position (c ∷ r) next) (before_by_previous (previous_by t)) (somes (with_key s.blocks y)) (levels_in zs)) (sym flow.0))) in
+        let alike = blocks_alike after_all c r next None own t bs piece in
+        let past : account_past_token after_all (c ∷ r) next t ≡ in_cut z = (let levels = n.levels_are in let same = flow.0 in grind (arith, alike, levels, same)) in
         let waiting : KeptBy l z.site = subst (λ y. KeptBy y z.site) (sym flow.0) (keeps line kept flow.1 one_line piece) in
         subst (λ y. IsCutStep a w ws after y) to
         (stepped a w ws after z us own h.0 refl n.are_empty
