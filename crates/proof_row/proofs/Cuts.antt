@@ -1,5 +1,5 @@
 -- A row is a cut, and steps with which a row may begin are a cut of a beginning of the text.
-use Rattle.proof_row.proofs.Common.{[], account_past, ap, append_assoc, append_cancel_right, Before, Begins, begins_free_line, block_end, Bool, ends_with_stream, Entry, false, first_account, first_position, has_break, have_no_key, if◌then◌else◌, is_closed, is_in_flow, is_in_line, is_renewed, is_separation, is_waiting, IsCut, IsRead, IsRowFrom, IsWritten, Leads, Line, line_past_separation, List, may_end, may_stand, nat_lt, None, not, on_one_line, Option, past_piece, Position, position_after, put, refl, Site, site_at, Some, spelled, start_token, Step, stream_end, stream_position, stream_start, subst, sym, Tok, Token, tokens_from, tokens_of, tokens_of_step, true, up_to_nul, waits, Written, ℕ, ◌&&◌, ◌++◌, ◌∙◌, ◌∷◌, ◌≡◌, arith}
+use Rattle.proof_row.proofs.Common.{[], account_past, ap, append_assoc, append_cancel_right, Before, Begins, begins_free_line, block_end, Bool, ends_with_stream, Entry, false, first_account, first_position, has_break, have_no_key, if◌then◌else◌, is_closed, is_in_flow, is_in_line, is_renewed, is_separation, is_waiting, IsCut, IsRead, IsRowFrom, IsWritten, Leads, Line, line_past_separation, List, may_end, may_stand, nat_lt, None, not, on_one_line, Option, past_piece, Position, position_after, put, refl, Site, site_at, Some, spelled, start_token, Step, stream_end, stream_position, subst, sym, Tok, Token, tokens_from, tokens_of, tokens_of_step, true, up_to_nul, waits, Written, ℕ, ◌&&◌, ◌++◌, ◌∙◌, ◌∷◌, ◌≡◌, arith}
 use Rattle.defs_token.specs.Account as cut
 use Rattle.defs_token.specs.Step.{Row}
 use Rattle.defs_token.specs.Step as step
@@ -67,8 +67,7 @@ cut_to a (w ∷ ws) after b h ends kept = by (account_past a w next) refl h.1 (�
         let r : IsCutTo x ws after b = later x l ends s.kept in
         record {
           tokens = tokens_of_step a w ws after ++ r.tokens;
-          are = ap (λ o. tokens_of_step a w ws after ++ tokens_from o ws after) e ∙ ap (λ y. tokens_of_step a w ws after ++ y) r.are ∙
-              sym (append_assoc (tokens_of_step a w ws after) r.tokens (tokens_from (Some b) [] after));
+          are = let more = r.are in grind (arith, append_assoc, e, more);
           cut = cut_append _ _ _ _ _ _ next after s.cut r.cut;
         }
 
@@ -142,8 +141,7 @@ rows_are_cuts text ts h =
       end = stream_position (position_after l.0.site.position r.last []);
       row = u.row;
       separation = r.last;
-      are_tokens = sym h.2 ∙ ap (λ ts. put first_position stream_start ∷ ts)
-          (c.are ∙ ap (λ ts. c.tokens ++ ts) e.are ∙ sym (append_assoc c.tokens e.tokens (end ∷ [])) ∙ ap (λ ts. ts ++ (end ∷ [])) (sym u.tokens_are));
+      are_tokens = let all = h.2 in let first = c.are in let more = e.are in let us = u.tokens_are in grind (arith, append_assoc, all, first, more, us);
       is_text = u.spells ∙ h.1.0;
       is_filled = l.2;
       is_row = u.is_row.is_row (Some stream_end);

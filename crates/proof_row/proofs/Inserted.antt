@@ -99,5 +99,5 @@ written_so a f (u ∷ us) p t next fills empty piece =
     record {
       is_row = λ last. subst (λ x. IsWritten a own x (first_token more last) × IsRow (account_past a own x) more next last) cut
           ((fills, subst (λ o. IsPiece here [] (p ++ next) o u.position u.tok) (sym (first_written [] us p t last)) empty.0), later.is_row last);
-      past = ap (λ x. account_past_row (account_past a own x) more next) (sym cut) ∙ later.past ∙ ap End (sym same);
+      past = let on = later.past in grind (arith, cut, on, same);
     }
