@@ -119,15 +119,11 @@ module _ (literal : Bool) (column : ℕ) where
       let deep : nat_lt z.position.col column ≡ false = le-ltb z.position.col column (omega (arith, in_column)) in
       let stops : indent_from column (z.char ∷ (z.rest ++ a)) (at z.position x.breaks) ≡ record { rest = z.char ∷ (z.rest ++ a); position = z.position; value = record { column = column; breaks = x.breaks } } = rw (deep, and_false (z.char == 32), q.0) refl in
       let first = begins_free column w a z.rest z.char z.position refl z.is z.in_column ends free in
-      through (w ++ a) (z.char ∷ (z.rest ++ a)) p z.position x x.breaks (z.found a x.breaks ∙ sym stops)
-      ∙ begin z.char (z.rest ++ a) z.position x deep q.0 first
-      ∙ chars z.rest a (past z.position) (with_char z.char (begun literal z.char x)) q.1
-      ∙ ap (λ t. scan a (inside (along z.rest (past z.position)) (record { text = t; breaks = []; broken = false; blank = is_blank z.char }))) (append_assoc (x.text ++ between literal x (is_blank z.char)) (z.char ∷ []) z.rest)
-      ∙ ap (λ q. scan a (inside q (written (content_row (z.char ∷ z.rest)) x))) z.ends
-      ∙ ap (λ m. scan a (inside (along w p) (written (content_row m) x))) (sym z.is)
-    where
-      begin : (c : ℕ) (r : List ℕ) (q : Position) (y : Lines) → nat_lt q.col column ≡ false → is_break c ≡ false → begins column q.col (c ∷ r) ≡ true → scan (c ∷ r) (front q y) ≡ scan r (inside (past q) (with_char c (begun literal c y)))
-      begin c r q y deep b e = rw (deep, and_false (c == 32), b, e) refl
+      let margin = through (w ++ a) (z.char ∷ (z.rest ++ a)) p z.position x x.breaks (z.found a x.breaks ∙ sym stops) in
+      let more = chars z.rest a (past z.position) (with_char z.char (begun literal z.char x)) q.1 in
+      let ends_there = z.ends in
+      let is = z.is in
+      margin ∙ rw (deep, and_false (z.char == 32), q.0, first) (more ∙ rw (append_assoc, ends_there, is) refl)
 
 -- ---- rows
 

@@ -83,8 +83,7 @@ pub content_value : (h : defs.Header) (unbroken : Bool) (rs : List Row) → AreF
     → (after_rows (is_literal_style h.style) rs (after_empty 0)).text ++ tail (chomping_of h.chomping) unbroken (after_rows (is_literal_style h.style) rs (after_empty 0)) ≡ with_content h (added unbroken) rs
 content_value h unbroken rs full some =
     let z = first_goes h.style rs 0 0 full some in
-    ap (λ t. t ++ tail (chomping_of h.chomping) unbroken (after_rows (is_literal_style h.style) rs (after_empty 0))) z.text_is
-    ∙ ap (λ t. text_of h.style rs ++ t) (tail_is h.chomping unbroken _ (empty_after 0 rs) z.breaks_are z.is_broken)
+    rw (z.text_is) (ap (λ t. text_of h.style rs ++ t) (tail_is h.chomping unbroken _ (empty_after 0 rs) z.breaks_are z.is_broken))
 
 pub empty_value : (h : defs.Header) (rs : List Row) → has_content rs ≡ false
     → (after_rows (is_literal_style h.style) rs (after_empty 0)).text ++ tail (chomping_of h.chomping) false (after_rows (is_literal_style h.style) rs (after_empty 0)) ≡ nothing_before_text h.chomping (length rs)
@@ -242,9 +241,4 @@ pub further_stops : (literal : Bool) (column : ℕ) (r : List ℕ) (p : Position
 further_stops literal column r p x z =
     let stops : indent_from column (z.char ∷ z.rest) (at z.position x.breaks) ≡ record { rest = z.char ∷ z.rest; position = z.position; value = record { column = column; breaks = x.breaks } } = rw (z.margin, z.solid) refl in
     through literal column r (z.char ∷ z.rest) p z.position x x.breaks (z.found x.breaks ∙ sym stops)
-    ∙ stop z.char z.rest z.position z.margin z.solid z.none
-    ∙ ap (λ a. Ok (record { rest = a; position = z.position; value = x })) (sym z.is)
-    ∙ ap (λ q. Ok (record { rest = without_spaces r; position = q; value = x })) (sym z.at_position)
-  where
-    stop : (c : ℕ) (a : List ℕ) (q : Position) → ((c == 32) && nat_lt q.col column) ≡ false → is_break c ≡ false → begins column q.col (c ∷ a) ≡ false → scan literal column (c ∷ a) (front q x) ≡ Ok (record { rest = c ∷ a; position = q; value = x })
-    stop c a q m b n = rw (m, b, n) refl
+    ∙ rw (z.margin, z.solid, z.none, z.is, z.at_position) refl
