@@ -203,10 +203,7 @@ module _ (h : defs.Header) (line : List ℕ) (k : Break) (indent : ℕ) (p : Pos
         let col : last_position.col + column ≡ column = (let e = at_front in omega (arith, e)) in
         let z = starts column column last last_position col lead long last_inner in
         let content_text : last_read.text ++ tail (chomping_of h.chomping) (is_open column [] (along last last_position).col) last_read ≡ value_before_end h column rs last last_row = let open_is : is_open column [] (along last last_position).col ≡ true = ap (λ n. nat_le column n && nat_lt 0 n) far ∙ opens (length last) long in
-        ap (λ b. last_read.text ++ tail (chomping_of h.chomping) b last_read) open_is
-        ∙ ap (λ m. (written (is_literal_style h.style) column (content_row m) rows_read).text ++ tail (chomping_of h.chomping) true (written (is_literal_style h.style) column (content_row m) rows_read)) z.is
-        ∙ last_value h rs z.char z.rest (are_full column (texts ls) rs rows)
-        ∙ ap (λ m. with_content h 0 (rs ++ content_row m ∷ [])) (sym z.is) in
+        rw (open_is, z.is) (last_value h rs z.char z.rest (are_full column (texts ls) rs rows)) in
         content_by last_row last_read (elim (cases_Bool (has_content rs)) [
           | inl e ↦ sees_before e
           | inr e ↦ record {

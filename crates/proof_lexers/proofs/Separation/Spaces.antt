@@ -66,9 +66,7 @@ spaces_are_passed tabs text p = rw (spaces_passed tabs text p nothing) (by (afte
       | inl f ↦ elim (cases_Bool (has 9 before || has 32 before)) [
         | inr g ↦
             let none = (leading_spaces tabs text).2 g in
-            rw (f, g) (refuses _ (glued (rw (cut (c ∷ a) e, none) f))
-            (ap (λ b. Err (At CommentNotSeparated (further (length b) p))) none
-            ∙ ap (λ q. Err (At CommentNotSeparated q)) (none_further p)))
+            rw (f, g) (refuses _ (glued (rw (cut (c ∷ a) e, none) f)) (rw (none, none_further p) refl))
         | inl g ↦
             let z = first_line a in
             let y = commented tabs (leading in_line a) (after in_line a) z.0 z.1 in
