@@ -1,5 +1,5 @@
 -- What rows leave in the model's buffers is the text that the definitions give them; where content is found after rows, and what ends them.
-use Rattle.proof_lexers.proofs.Common.{[], ap, append-nil, append_assoc, arith, between, between_lines, BlockStyle, Bool, breaks, chomping_of, clip, content_row, empty_after, empty_row, empty_text, false, has_content, if◌then◌else◌, is_blank, is_literal_style, keep, length, Lines, List, nothing_before_end, nothing_before_text, refl, Row, starts_blank, strip, suc, sym, tail, text_after, text_of, true, with_content, zero, ℕ, ◌++◌, ◌+◌, ◌||◌, ◌∙◌, ◌∷◌, ◌≡◌, drop, indent_from, is_further_text, is_in_line, is_some, list_all, None, Option, Position, row_of, rows_of, Some, ◌≤◌, and_parts, nat_tests, cases_Bool, eqb-true, inl, inr, is_break, is_document_marker, is_outside, lt-ltb, nat_lt, ne_eqb, not, not-true, Ok, past, past_spaces, without_spaces, ◌&&◌, ◌==◌, are_marks, is_nul, same_blank, same_break, same_marker}
+use Rattle.proof_lexers.proofs.Common.{[], ap, append-nil, append_assoc, arith, between, between_lines, BlockStyle, Bool, breaks, chomping_of, clip, content_row, empty_after, empty_row, empty_text, false, has_content, if◌then◌else◌, is_blank, is_literal_style, keep, length, Lines, List, nothing_before_end, nothing_before_text, refl, Row, starts_blank, strip, suc, sym, tail, text_after, text_of, true, with_content, zero, ℕ, ◌++◌, ◌+◌, ◌||◌, ◌∙◌, ◌∷◌, ◌≡◌, drop, indent_from, is_further_text, is_in_line, is_some, list_all, None, Option, Position, row_of, rows_of, Some, ◌≤◌, and_parts, nat_tests, cases_Bool, eqb-true, inl, inr, is_break, is_document_marker, is_outside, lt-ltb, nat_lt, ne_eqb, not, not-true, Ok, past, past_spaces, without_spaces, ◌&&◌, ◌==◌, are_marks, is_nul, same_blank, same_break, same_marker, subst}
 use Rattle.defs_text.specs.BlockScalar as defs
 use Rattle.proof_lexers.proofs.Fold.{more_breaks}
 use Rattle.proof_lexers.proofs.Blocks.Rows.{after_line, after_lines, after_row, after_rows, AreLines, at, Break, break_ends, empty_passes, first_of, first_row, front, is_content, IsRow, Line, no_content, put, scan, spell, starts, texts, through}
@@ -33,9 +33,6 @@ record Holds (x : Lines) (text : List ℕ) (n : ℕ) : Type 0 where
   breaks_are : x.breaks ≡ breaks n
   is_broken : x.broken ≡ true
 
-holds_on : (x y : Lines) (t u : List ℕ) (n : ℕ) → x ≡ y → t ≡ u → Holds y t n → Holds x u n
-holds_on x y t u n e f z = grind arith
-
 module _ (s : BlockStyle) where
   abbrev rows_after : List Row → Lines → Lines
   rows_after rs l = after_rows (is_literal_style s) rs l
@@ -48,10 +45,10 @@ module _ (s : BlockStyle) where
   text_goes (content_row (c ∷ m) ∷ rs) t l n b full e =
       let gap = between_lines s n (starts_blank l || starts_blank (c ∷ m)) in
       let same : between (is_literal_style s) (after_content t n b) (is_blank c) ≡ gap = (grind arith) ∙ ap (λ k. between_lines s n (k || is_blank c)) e ∙ ap (λ k. between_lines s n (starts_blank l || k)) (sym (same_blank c)) in
-      holds_on _ (rows_after rs (after_content ((t ++ gap) ++ c ∷ m) 0 (is_blank c))) (((t ++ gap) ++ c ∷ m) ++ text_after s (c ∷ m) 0 rs) _ _
-      (ap (λ g. rows_after rs (after_content ((t ++ g) ++ c ∷ m) 0 (is_blank c))) same)
-      (ap (λ y. y ++ text_after s (c ∷ m) 0 rs) (append_assoc t gap (c ∷ m)) ∙ append_assoc t (gap ++ c ∷ m) (text_after s (c ∷ m) 0 rs))
-      (text_goes rs ((t ++ gap) ++ c ∷ m) (c ∷ m) 0 (is_blank c) full (sym (same_blank c)))
+      let here = λ (g : List ℕ). rows_after rs (after_content ((t ++ g) ++ c ∷ m) 0 (is_blank c)) in
+      subst (λ g. Holds (here g) (t ++ text_after s l n (content_row (c ∷ m) ∷ rs)) (empty_after 0 rs)) (sym same)
+      (subst (λ u. Holds (here gap) u (empty_after 0 rs)) (ap (λ y. y ++ text_after s (c ∷ m) 0 rs) (append_assoc t gap (c ∷ m)) ∙ append_assoc t (gap ++ c ∷ m) _)
+      (text_goes rs ((t ++ gap) ++ c ∷ m) (c ∷ m) 0 (is_blank c) full (sym (same_blank c))))
 
   first_goes : (rs : List Row) (n k : ℕ) → AreFull rs → has_content rs ≡ true → Holds (rows_after rs (after_empty n)) (breaks n ++ text_of s rs) (empty_after k rs)
   unfolding between
