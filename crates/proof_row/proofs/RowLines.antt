@@ -1,4 +1,4 @@
--- Like lines stay like: over a separation, and over a piece outside flow.
+-- Like lines stay like over a separation.
 use Rattle.proof_row.proofs.Common.{Bool, Line, line_past_separation, ◌≡◌, arith}
 use Rattle.proof_row.proofs.Like.{LikeLine, Stepped}
 
