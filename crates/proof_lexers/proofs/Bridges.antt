@@ -1,6 +1,17 @@
 -- Classes and tables of the model and of the definitions tell the same characters apart.
 use Rattle.std.specs.Char.{is_digit}
-use Rattle.proof_lexers.proofs.Common.{and-false, arith, at_marker, Bool, cases_Bool, Char, Code, eqb-true, Escape, escape_of, escapes, false, if◌then◌else◌, inl, inr, is_alpha, is_alphanumeric, is_blank, is_blank_or_breakz, is_break, is_character_code, is_flow, is_hex, is_marker, is_scalar, is_tag, is_uri, is_uri_mark, List, lookup, nat_tests, None, numeric_escapes, Option, or-false, or_assoc, refl, Some, true, Unknown, ℕ, ◌&&◌, ◌==◌, ◌||◌, ◌≡◌}
+use Rattle.std.proofs.Math.Bool.{and-false, or-false, or_assoc}
+use Rattle.std.proofs.Common.{arith, Bool, false, if◌then◌else◌, inl, inr, List, None, Option, refl, Some, true, ℕ, ◌&&◌, ◌==◌, ◌||◌, ◌≡◌}
+unfoldable use Rattle.model_scanner.specs.Machine.{at_marker, is_marker}
+use Rattle.std.proofs.lemmas.Bool.{cases_Bool, eqb-true}
+use Rattle.model_scanner.specs.declared.kind.Escape.TheVariants.{Char, Code, Unknown}
+use Rattle.model_scanner.specs.declared.kind.Escape.{Escape}
+unfoldable use Rattle.model_scanner.specs.Quoted.{escape_of, is_scalar}
+use Rattle.defs_text.specs.FlowScalar.{escapes, lookup, numeric_escapes}
+unfoldable use Rattle.yaml_chars.specs.Class.{is_alpha, is_alphanumeric, is_blank, is_break, is_flow, is_hex, is_tag, is_uri, is_uri_mark}
+use Rattle.yaml_chars.specs.Class.{is_blank_or_breakz}
+unfoldable use Rattle.defs_text.specs.FlowScalar.{is_character_code}
+use Rattle.std.proofs.lemmas.Bool.Decides.{nat_tests}
 use Rattle.defs_text.specs.Classes as classes
 use Rattle.model_scanner.specs.declared.kind.Digits.{Digits}
 use Rattle.model_scanner.specs.declared.kind.Digits.TheVariants.{Two, Four, Eight}
@@ -62,8 +73,7 @@ pub same_escape : (c : ℕ) → escape_of c ≡ escape_by_rows (lookup c escapes
 unfolding escape_of
 same_escape c = grind (arith, nat_tests, row)
 
--- ---- classes of flow scalars
-
+-- classes of flow scalars
 pub same_flow : (c : ℕ) → classes.is_flow c ≡ is_flow c
 unfolding classes.is_flow is_flow
 same_flow c = simp (or_assoc, or_false) refl

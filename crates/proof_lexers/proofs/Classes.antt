@@ -1,5 +1,9 @@
 -- Characters of a class at a text's start, and what the model takes of them.
-use Rattle.proof_lexers.proofs.Common.{[], after, all_of, append-nil, append_assoc, arith, Bool, cases_Bool, false, further, inl, inr, leading, length, List, past, Position, refl, skip_while, suc, sym, take_while, true, ℕ, ◌++◌, ◌+◌, ◌∷◌, ◌≡◌}
+use Rattle.std.proofs.Common.{[], append-nil, append_assoc, arith, Bool, false, length, List, refl, suc, sym, true, ℕ, ◌++◌, ◌+◌, ◌∷◌, ◌≡◌}
+use Rattle.defs_text.specs.Tags.{after, all_of, leading}
+use Rattle.proof_lexers.specs.NameEnds.{further}
+use Rattle.model_scanner.specs.Machine.{past, skip_while, take_while}
+use Rattle.defs_text.specs.Position.{Position}
 use Rattle.proof_row.proofs.Texts as texts
 
 -- ---- positions
@@ -28,7 +32,7 @@ module _ (class : ℕ → Bool) where
 
   pub ends_after : (a : List ℕ) → begins_in class (after class a) ≡ false
   ends_after [] = refl
-  ends_after (c ∷ a) = elim (cases_Bool (class c)) [ inl e ↦ rw e (ends_after a) | inr e ↦ rw (e, e) refl ]
+  ends_after (c ∷ a) = grind (arith, ends_after a)
 
   -- what a text begins with, and what stands after that, before a text that does not go on with the class
   pub before_end : (l n : List ℕ) → begins_in class n ≡ false → (leading class (l ++ n) ≡ leading class l) × (after class (l ++ n) ≡ after class l ++ n)

@@ -1,7 +1,7 @@
 -- The buffers of a flow scalar's scan join the text of its lines, trimmed and folded.
-use Rattle.proof_lexers.proofs.Common.{[], after_elements, ap, append-nil, append_assoc, before_break, begun_with, blank, Bool, content, Element, escaped_break, false, Folded, folded_after, folded_break, if◌then◌else◌, is_empty, joined, last_line, line, line_break, line_feed, lines_of, List, not, refl, replicate, suc, sym, trimmed, trimmed_after, true, without_trailing_blanks, zero, ℕ, ◌&&◌, ◌++◌, ◌∙◌, ◌∷◌, ◌≡◌, arith}
+use Rattle.proof_lexers.proofs.Common.{[], after_elements, ap, append-nil, append_assoc, before_break, begun_with, blank, Bool, content, Element, escaped_break, false, Folded, folded_after, folded_break, if◌then◌else◌, is_empty, joined, last_line, line, line_break, line_feed, lines_of, List, not, refl, replicate, suc, sym, trimmed_after, true, without_trailing_blanks, zero, ℕ, ◌&&◌, ◌++◌, ◌∙◌, ◌∷◌, ◌≡◌, arith}
 use Rattle.defs_text.specs.Classes.{space}
-use Rattle.defs_text.specs.FlowScalar.{Lines, text_of, folded}
+use Rattle.defs_text.specs.FlowScalar.{Lines, text_of}
 use Rattle.proof_lexers.specs.BufferLaws.{BuffersJoinFoldedLines}
 
 -- blanks of a line, as elements before others
@@ -48,9 +48,6 @@ joined_text es t = (joined (after_elements es t)).text
 content_line : (g : List ℕ) (c : ℕ) (ls : Lines) → line_text g (begun_with (content c) ls) ≡ g ++ c ∷ line_text [] ls
 content_line g c ls = grind (arith, text_after, none_trailing, append_assoc)
 
-blank_line : (g : List ℕ) (c : ℕ) (ls : Lines) → line_text (g ++ c ∷ []) ls ≡ line_text g (begun_with (blank c) ls)
-blank_line g c ls = grind (arith, one_more)
-
 broken : (escaped : Bool) (n : ℕ) → (if true && not escaped && is_empty (replicate n line_feed) then space ∷ [] else replicate n line_feed) ≡ folded_break escaped n
 broken escaped n = grind arith
 
@@ -68,7 +65,7 @@ mutual
   line_joins : (es : List Element) (text g : List ℕ) → joined_text es (in_line text g) ≡ text ++ line_text g (lines_of es)
   line_joins [] text g = rw (text_after g [], append-nil) refl
   line_joins (content c ∷ es) text g = line_joins es ((text ++ g) ++ c ∷ []) [] ∙ rw (content_line g c (lines_of es), append_assoc, append_assoc) refl
-  line_joins (blank c ∷ es) text g = line_joins es text (g ++ c ∷ []) ∙ ap (λ l. text ++ l) (blank_line g c (lines_of es))
+  line_joins (blank c ∷ es) text g = line_joins es text (g ++ c ∷ []) ∙ ap (λ l. text ++ l) (grind (arith, one_more))
   line_joins (line_break ∷ es) text g = break_joins es false 0 text ∙ rw (all_trailing g) refl
   line_joins (escaped_break ∷ es) text g = break_joins es true 0 (text ++ g) ∙ rw (text_after g [], append-nil, append_assoc) refl
 
@@ -81,8 +78,5 @@ mutual
   break_joins (escaped_break ∷ es) escaped n text =
       grind (arith, broken, append-nil, append_assoc, break_joins es true 0 (text ++ folded_break escaped n))
 
-from_nothing : (ls : Lines) → line_text [] ls ≡ folded (trimmed ls)
-from_nothing ls = grind arith
-
 pub buffers_join : BuffersJoinFoldedLines
-buffers_join es = line_joins es [] [] ∙ from_nothing (lines_of es)
+buffers_join es = line_joins es [] [] ∙ (grind arith)

@@ -1,13 +1,10 @@
 -- How the rest of a line is read: blanks, and a comment after one.
-use Rattle.proof_lexers.proofs.Common.{[], along, and_parts, ap, arith, At, begins_with, cases_Bool, eqb-true, Err, false, Fault, further, has_no_break, inl, inr, is_blanks_and_comment, is_break, is_in_line, is_line, is_rest_of_line, length, List, nat_tests, not, not-true, Ok, or-true, or_cases, or_parts, past, Position, Read, refl, Result, skip_while, space, space_from, Spaces, sym, true, Whitespace, with_found, Yes, ℕ, ◌++◌, ◌==◌, ◌||◌, ◌∙◌, ◌∷◌, ◌≡◌, Bool, and-false, or-false, ◌&&◌, leading, has, after}
-use Rattle.yaml_tokens.specs.declared.problem.Problem.TheVariants as problem
+use Rattle.proof_lexers.proofs.Common.{[], along, and_parts, ap, arith, At, begins_with, cases_Bool, eqb-true, Err, false, Fault, further, has_no_break, inl, inr, is_blanks_and_comment, is_break, is_in_line, is_line, is_rest_of_line, length, List, nat_tests, not, not-true, Ok, or-true, or_cases, or_parts, past, Position, Read, refl, Result, skip_while, space, space_from, Spaces, sym, true, Whitespace, with_found, Yes, ℕ, ◌++◌, ◌==◌, ◌||◌, ◌∙◌, ◌∷◌, ◌≡◌, Bool, and-false, or-false, ◌&&◌, leading, has, after, CommentNotSeparated, same_break, none_further, one_further}
 use Rattle.defs_text.specs.Classes as classes
 use Rattle.defs_text.specs.Breaks.{touches_comment}
-use Rattle.proof_lexers.proofs.Bridges.{same_break}
 use Rattle.proof_lexers.specs.DirectiveEnds.{ends_line}
 use Rattle.model_scanner.specs.Blanks.{after_spaces, are_skipped}
 use Rattle.model_scanner.specs.declared.context.SkipTabs.{SkipTabs}
-use Rattle.proof_lexers.proofs.Classes.{none_further, one_further}
 
 pub along_further : (w : List ℕ) (p : Position) → along w p ≡ further (length w) p
 along_further [] p = sym (none_further p)
@@ -59,8 +56,7 @@ spaces_passed tabs (c ∷ a) p w = grind (
   spaces_passed tabs a (past p) (record w { found_tabs = true }),
 )
 
--- ---- a blank
-
+-- a blank
 record Blank (c : ℕ) (a : List ℕ) (s : Spaces) : Type 0 where
   next : Spaces
   position : next.position ≡ past s.position
@@ -72,7 +68,7 @@ record Blank (c : ℕ) (a : List ℕ) (s : Spaces) : Type 0 where
 -- After a blank or none: nothing of the line is left; a comment stands there without a blank; or other text.
 data Walked (some : Bool) (m n : List ℕ) (p : Position) (x : Result (Read Whitespace) Fault) : Type 0 where
   ended : (w : Whitespace) → is_blanks_and_comment m ≡ true → (some || not (touches_comment m)) ≡ true → x ≡ Ok (record { rest = n; position = further (length m) p; value = w }) → Walked some m n p x
-  stuck : (text : List ℕ) → m ≡ 35 ∷ text → some ≡ false → x ≡ Err (At problem.CommentNotSeparated p) → Walked some m n p x
+  stuck : (text : List ℕ) → m ≡ 35 ∷ text → some ≡ false → x ≡ Err (At CommentNotSeparated p) → Walked some m n p x
   other : (c : ℕ) (more : List ℕ) (q : Position) (w : Whitespace) → is_blanks_and_comment m ≡ false → begins_with 35 m ≡ false → is_break c ≡ false → x ≡ Ok (record { rest = c ∷ more; position = q; value = w }) → Walked some m n p x
 
 walked : (m n : List ℕ) (s : Spaces) → has_no_break m ≡ true → ends_line n ≡ true → Walked (s.found.found_tabs || s.found.has_valid_yaml_ws) m n s.position (space_from Yes (m ++ n) s)
@@ -105,7 +101,7 @@ walked (c ∷ m) n s h k = elim (cases_Bool (c == 35)) [
 -- Nothing of the line is left; a comment stands there without a blank; or other text.
 pub data Rest (m n : List ℕ) (p : Position) (x : Result (Read Whitespace) Fault) : Type 0 where
   ends : (w : Whitespace) → is_rest_of_line m ≡ true → x ≡ Ok (record { rest = n; position = further (length m) p; value = w }) → Rest m n p x
-  glued : (text : List ℕ) → m ≡ 35 ∷ text → is_rest_of_line m ≡ false → x ≡ Err (At problem.CommentNotSeparated p) → Rest m n p x
+  glued : (text : List ℕ) → m ≡ 35 ∷ text → is_rest_of_line m ≡ false → x ≡ Err (At CommentNotSeparated p) → Rest m n p x
   goes_on : (c : ℕ) (more : List ℕ) (q : Position) (w : Whitespace) → is_rest_of_line m ≡ false → begins_with 35 m ≡ false → is_break c ≡ false → x ≡ Ok (record { rest = c ∷ more; position = q; value = w }) → Rest m n p x
 
 pub rest_of_line : (m n : List ℕ) (p : Position) → has_no_break m ≡ true → ends_line n ≡ true → Rest m n p (space Yes (m ++ n) p)

@@ -1,5 +1,5 @@
 -- Like accounts stay like over a step with the same text; and where they are equal after it, they were, and so were the steps.
-use Rattle.proof_row.proofs.Common.{[], account_past, act_of, begins_free_line, begun_by, Bool, Entry, have_no_key, is_in_flow, is_renewed, Line, List, may_end, may_stand, None, on_one_line, Option, past_inside, past_piece, past_site, refl, Site, site_at, Some, Step, subst, Tok, true, ℕ, ◌∷◌, ◌≡◌, arith}
+use Rattle.proof_row.proofs.Common.{[], account_past, act_of, begins_free_line, begun_by, Bool, Entry, have_no_key, is_in_flow, is_renewed, Line, List, may_end, may_stand, on_one_line, Option, past_inside, past_piece, past_site, refl, Site, site_at, Some, Step, subst, Tok, true, ℕ, ◌∷◌, ◌≡◌, arith}
 use Rattle.defs_token.specs.RowAccount.{Account}
 use Rattle.proof_row.proofs.Like.{LikeLine, LikeEntries, IsLike, Stepped, weaker, where_both, both, same_entry}
 use Rattle.proof_row.proofs.RowLines.{separation_step}
@@ -15,14 +15,11 @@ inside_step s p t next l m a b y i h = grind arith
 piece_step : (s : Site) (p : List ℕ) (t : Tok) (next : List ℕ) (again b c : Bool) (Were : Type 0) (x y : Option Line) (ds es : List Entry) →
     LikeEntries ds es → Stepped LikeLine Were x y →
     Stepped IsLike (Were × (ds ≡ es) × (b ≡ c)) (past_piece s p t next again b x ds) (past_piece s p t next again c y es)
-piece_step s p t next again b c Were None y ds es j h = tt
-piece_step s p t next again b c Were (Some l) None ds es j h = grind arith
 piece_step s p t next again b c Were (Some l) (Some m) [] [] j h = grind (arith, weaker)
 piece_step s p t next again b c Were (Some l) (Some m) (d ∷ ds) (e ∷ es) j h =
     weaker IsLike ((l ≡ m) × ((d ∷ ds ≡ e ∷ es) × (b ≡ c))) (Were × (d ∷ ds ≡ e ∷ es) × (b ≡ c)) _ _ (λ k. (h.1 k.0, k.1.0, k.1.1))
     (inside_step s p t next l m ((d ∷ ds ≡ e ∷ es) × (b ≡ c)) _ _ h.0 (entries_step (act_of t) s.position again (begun_by t) b c d e ds es j.0 j.1))
-piece_step s p t next again b c Were (Some l) (Some m) [] (e ∷ es) j h = absurd j
-piece_step s p t next again b c Were (Some l) (Some m) (d ∷ ds) [] j h = absurd j
+piece_step s p t next again b c Were x y ds es j h = grind arith
 
 on_one_line_step : (p : List ℕ) (Were : Type 0) (x y : Option Account) → Stepped IsLike Were x y → Stepped IsLike Were (on_one_line p x) (on_one_line p y)
 on_one_line_step p d e y h = grind arith
@@ -60,8 +57,7 @@ account_step a b w v x y i f p t n =
 same_entries : (ds es : List Entry) → LikeEntries ds es → have_no_key ds ≡ true → have_no_key es ≡ true → ds ≡ es
 same_entries [] [] i h k = refl
 same_entries (d ∷ ds) (e ∷ es) i h k = grind (arith, and_parts, both, same_entry, same_entries ds es i.1)
-same_entries [] (e ∷ es) i h k = absurd i
-same_entries (d ∷ ds) [] i h k = absurd i
+same_entries ds es i h k = absurd i
 
 -- Like accounts at which a text may end are equal.
 pub same_at_end : (a b : Account) → IsLike a b → may_end a ≡ true → may_end b ≡ true → a ≡ b

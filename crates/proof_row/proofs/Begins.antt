@@ -1,9 +1,8 @@
 -- The text says which kind of piece begins.
-use Rattle.proof_row.proofs.Common.{[], Account, alias, alias_name, anchor, anchor_name, ap, are_marks, begins_flow, begins_plain, begins_with_space_or_break, block_entry, block_read, block_scalar, BlockRead, BlockStyle, Bool, codes, collection_column, colon, comma, dash, dashes, Directive, directive_line, directive_of, document_end, document_start, dots, double_quoted, ends_separation, eqb-true, false, flow_entry, flow_mapping_end, flow_mapping_start, flow_sequence_end, flow_sequence_start, folded, has_no_break, Holds, in_double_quotes, in_single_quotes, is_adjacent, is_at_gap, is_at_line_end, is_blank, is_blank_or_end, is_break, is_flow, is_nul, is_value_indicator, is_whole_plain, IsDoubleQuoted, IsNamed, IsPiece, IsSingleQuoted, key, Kind, kind_at, kind_by, kind_of, List, literal, mapping_closing, mapping_opening, not, nothing, Option, plain, plain_scalar, plain_value, Position, question, refl, reserved, scalar, SeparationsEndBeforePieces, sequence_closing, sequence_opening, single_quoted, Some, subst, sym, Tag, tag, tag_declaration, tag_directive, tag_text, TextsBeginWithOneKind, Tok, true, value, version, version_directive, written_tag, ℕ, ◌&&◌, ◌++◌, ◌||◌, ◌∙◌, ◌∷◌, ◌≡◌, ◌≢◌, arith, nat_tests}
+use Rattle.proof_row.proofs.Common.{[], Account, alias, alias_name, anchor, anchor_name, are_marks, begins_flow, begins_plain, begins_with_space_or_break, block_entry, block_read, block_scalar, BlockRead, BlockStyle, Bool, codes, collection_column, colon, comma, dash, dashes, Directive, directive_line, directive_of, document_end, document_start, dots, double_quoted, ends_separation, eqb-true, false, flow_entry, flow_mapping_end, flow_mapping_start, flow_sequence_end, flow_sequence_start, folded, has_no_break, Holds, in_double_quotes, in_single_quotes, is_adjacent, is_at_gap, is_at_line_end, is_blank, is_blank_or_end, is_break, is_flow, is_nul, is_value_indicator, is_whole_plain, IsDoubleQuoted, IsNamed, IsPiece, IsSingleQuoted, key, Kind, kind_at, kind_by, kind_of, List, literal, mapping_closing, mapping_opening, nothing, Option, plain, plain_scalar, plain_value, Position, question, refl, reserved, scalar, SeparationsEndBeforePieces, sequence_closing, sequence_opening, single_quoted, Some, subst, sym, Tag, tag, tag_declaration, tag_directive, tag_text, TextsBeginWithOneKind, Tok, true, value, version, version_directive, written_tag, ℕ, ◌&&◌, ◌++◌, ◌||◌, ◌∷◌, ◌≡◌, ◌≢◌, arith, nat_tests, gaps, ◌-◌}
 use Rattle.defs_token.specs.Account.{is_in_flow}
 use Rattle.proof_row.proofs.TagEnds.{mark_is_first}
 use Rattle.proof_row.proofs.Blocks.{begins_block, block_begins}
-use Rattle.proof_row.proofs.Texts.{gaps}
 
 -- ---- a piece and its token
 
@@ -105,25 +104,14 @@ pub kind_there : (k : Kind) (a : Context) (p x : List ℕ) (t : Tok) → Whole k
 unfolding is_blank_or_end is_blank is_break is_nul is_flow
 kind_there nothing a p x t h = absurd h
 kind_there plain_scalar a p x t h = grind arith
-kind_there sequence_opening a p x t h = known a p (codes "[") x _ h.0 (here a 91 x refl)
-kind_there sequence_closing a p x t h = known a p (codes "]") x _ h.0 (here a 93 x refl)
-kind_there mapping_opening a p x t h = known a p (codes "{") x _ h.0 (here a 123 x refl)
-kind_there mapping_closing a p x t h = known a p (codes "}") x _ h.0 (here a 125 x refl)
-kind_there comma a p x t h = known a p (codes ",") x _ h.0 (here a 44 x refl)
-kind_there question a p x t h = known a p (codes "?") x _ h.0 (here a 63 x (unplain _ _ (ap not (space_is_gap x h.1))))
-kind_there colon a p x t h = known a p (codes ":") x _ h.0 (here a 58 x (unplain _ _ (ap not h.1)))
-kind_there dash a p x t h = known a p (codes "-") x _ h.0 (here a 45 x (unplain _ _ (unplain _ _ (ap not h.1))) ∙ (rw h.1 refl))
 kind_there dashes a p x t h = known a p (codes "---") x _ h.0.0 (here a 45 (45 ∷ 45 ∷ x) (marked a 45 x dash_marks h.0.1 h.0.2))
 kind_there dots a p x t h = known a p (codes "...") x _ h.0.0 (here a 46 (46 ∷ 46 ∷ x) (marked a 46 x dot_marks h.0.1 h.0.2))
 kind_there directive_line a p x t h =
     let r : (r : List ℕ) × (p ≡ 37 ∷ r) = directive_begins p h.0 h.1 in
     known a p (37 ∷ r.0) x _ r.1 (here a 37 (r.0 ++ x) refl)
-kind_there alias_name a p x t h = known a p (42 ∷ h.0) x _ h.1.0 (here a 42 (h.0 ++ x) refl)
-kind_there anchor_name a p x t h = known a p (38 ∷ h.0) x _ h.1.0 (here a 38 (h.0 ++ x) refl)
 kind_there tag_text a p x t h = grind (arith, nat_tests, eqb-true, mark_is_first, known, here)
-kind_there in_single_quotes a p x t h = known a p (39 ∷ (h.1.0 ++ (39 ∷ []))) x _ h.1.1 (here a 39 ((h.1.0 ++ (39 ∷ [])) ++ x) refl)
-kind_there in_double_quotes a p x t h = known a p (34 ∷ (h.1.0 ++ (34 ∷ []))) x _ h.1.1 (here a 34 ((h.1.0 ++ (34 ∷ [])) ++ x) refl)
 kind_there block_scalar a p x t h = block_there a p x h.2 (block_begins a.collection p x h.0 h.1)
+kind_there k a p x t h = grind (arith, known, here, unplain, space_is_gap)
 
 -- and no separation goes on over it
 pub separations_end : (k : Kind) (a : Context) (p x : List ℕ) (t : Tok) → Whole k a p x t → ends_separation (p ++ x) ≡ true

@@ -1,9 +1,7 @@
 -- A block scalar has one end.
-use Rattle.proof_row.proofs.Common.{[], ap, append-nil, append_assoc, begins_with, block_read, BlockRead, BlockScalarsHaveOneEnd, body, Bool, column_by, content_column, Ending, false, further_text, has_no_nul, Header, header_of, if◌then◌else◌, inl, inr, is_at_end, is_break, is_further_text, List, None, Option, read_body, read_lines, read_split, refl, row_of, Some, Split, split, subst, sym, true, value_at_text, value_by, ℕ, ◌++◌, ◌==◌, ◌||◌, ◌∙◌, ◌∷◌, ◌≡◌, ◌⊎◌, arith}
+use Rattle.proof_row.proofs.Common.{[], ap, append-nil, append_assoc, begins_with, block_read, BlockRead, BlockScalarsHaveOneEnd, body, Bool, column_by, content_column, Ending, false, further_text, has_no_nul, Header, header_of, inl, inr, is_at_end, is_break, is_further_text, List, None, Option, read_body, read_lines, read_split, refl, row_of, Some, Split, split, subst, sym, true, value_at_text, value_by, ℕ, ◌++◌, ◌==◌, ◌||◌, ◌∙◌, ◌∷◌, ◌≡◌, ◌⊎◌, arith, both, untrue, no_nul_after}
 use Rattle.defs_text.specs.BlockScalar.{unbroken}
-use Rattle.proof_row.proofs.Runs.{both, untrue}
 use Rattle.proof_row.proofs.Splits.{More, splits}
-use Rattle.proof_row.proofs.Texts.{no_nul_after}
 use Rattle.proof_row.proofs.Lines.{of_lines, lines_after, split_append, up_to_break, first_line, line_of, line_is, line_more, no_lines}
 use Rattle.proof_row.proofs.Columns.{column_same, IsBefore, further, further_is_no_break, no_rows}
 
@@ -21,17 +19,10 @@ begins_block (c ∷ r) = (c == 124) || (c == 62)
 no_header : (l : List ℕ) → begins_block l ≡ false → header_of l ≡ None
 no_header a h = grind arith
 
-break_is_none : (c : ℕ) (r : List ℕ) → is_break c ≡ true → begins_block (c ∷ r) ≡ false
-unfolding is_break
-break_is_none c r h = grind arith
-
 line_begins : (p : List ℕ) → begins_block (up_to_break p) ≡ begins_block p
+unfolding is_break
 line_begins [] = refl
-line_begins (c ∷ r) = by (is_break c) refl
-  where
-    by : (break : Bool) → is_break c ≡ break → begins_block (if break then [] else c ∷ up_to_break r) ≡ begins_block (c ∷ r)
-    by true f = sym (break_is_none c r f)
-    by false f = refl
+line_begins (c ∷ r) = grind arith
 
 -- A block scalar begins with `|` or `>`.
 pub block_begins : (collection : Option ℕ) (p x : List ℕ) (r : BlockRead) → block_read collection p x ≡ Some r → begins_block p ≡ true
@@ -41,8 +32,6 @@ block_begins collection p x r e = by (begins_block p) refl
     by true f = refl
     by false f = absurd (has_header collection ((split p).complete) ((split p).last) x (is_at_end x) r e (no_header (line_of p) (ap begins_block (line_is p) ∙ (line_begins p ∙ f))))
 
--- ---- before further text
-
 -- a block scalar before further text: its header, and lines that all have their breaks
 record BeforeText (collection : Option ℕ) (s : Split) (next : List ℕ) : Type 0 where
   pub head : List ℕ
@@ -51,12 +40,6 @@ record BeforeText (collection : Option ℕ) (s : Split) (next : List ℕ) : Type
   pub is_split : s ≡ of_lines (head ∷ lines) []
   pub is_header : header_of head ≡ Some header
   pub is_further : is_further_text (column_by header.digit collection lines) next ≡ true
-
--- ---- lines after it have no value
-
-no_end : (h : Header) (collection : Option ℕ) (ls zs : List (List ℕ)) (last : List ℕ) → IsBefore (column_by h.digit collection ls) (first_line zs last) →
-    value_by h (content_column h collection (ls ++ zs) (unbroken last)) (ls ++ zs) (unbroken last) ≡ None
-no_end h collection ls zs last b = grind (arith, no_rows, append-nil, column_same, append_assoc)
 
 -- what has no value is not read
 unread : (h : Header) (collection : Option ℕ) (lines : List (List ℕ)) (ending : Ending) (next : List ℕ) (r : BlockRead) → value_by h (content_column h collection lines ending) lines ending ≡ None →
@@ -73,7 +56,7 @@ at_end : (y : List ℕ) → has_no_nul y ≡ true → is_at_end y ≡ true → y
 at_end a c e = grind arith
 
 begins_not : (z y : List ℕ) → begins_with 10 (z ++ y) ≡ false → begins_with 10 z ≡ false
-begins_not a y h = grind arith
+begins_not z y h = grind arith
 
 -- The lines of a longer scalar, of which the first after the shorter one is further text.
 longer_lines : (collection : Option ℕ) (head : List ℕ) (ls : List (List ℕ)) (h : Header) (z y : List ℕ) (zs : List (List ℕ)) (last : List ℕ) (s : BlockRead) → header_of head ≡ Some h →
@@ -84,7 +67,7 @@ longer_lines collection head ls h z y zs last s i j k n c true e f =
     let first : up_to_break (z ++ y) ≡ first_line zs last =
     ap (λ x. up_to_break (z ++ x)) ended ∙ (ap up_to_break (append-nil z) ∙ (sym (line_is z) ∙ ap (λ x. first_line (x.complete) (x.last)) j)) in
     let b : IsBefore (column_by h.digit collection ls) (first_line zs last) = subst (λ l. IsBefore (column_by h.digit collection ls) l) first (further _ _ k) in
-    unread h collection (ls ++ zs) (unbroken last) y s (no_end h collection ls zs last b) (ap (λ o. read_body o collection (body (ls ++ zs) (unbroken last)) y) (sym i) ∙ f)
+    unread h collection (ls ++ zs) (unbroken last) y s (grind (arith, no_rows, append-nil, column_same, append_assoc)) (ap (λ o. read_body o collection (body (ls ++ zs) (unbroken last)) y) (sym i) ∙ f)
 longer_lines collection head ls h z y zs (d ∷ last) s i j k n c false e f = cc f
 longer_lines collection head ls h z y [] [] s i j k n c false e f = n (no_lines z j)
 longer_lines collection head ls h z y (l ∷ zs) [] s i j k n c false e f =

@@ -1,6 +1,5 @@
 -- The content column of a block scalar is fixed by its lines up to the first content line; and further text is no line of it.
-use Rattle.proof_row.proofs.Common.{[], are_marks, arith, begins_with, column_by, deepest_start, eqb-true, false, is_at_gap, is_break, is_content_line, is_document_marker, is_empty_line, is_further_text, is_outside, is_spaces, leading_spaces, List, lt-leb, max, None, Option, refl, row_of, rows_of, suc, true, zero, ℕ, ◌++◌, ◌<◌, ◌∷◌, ◌≡◌, ◌≤◌}
-use Rattle.proof_row.proofs.Runs.{both}
+use Rattle.proof_row.proofs.Common.{[], are_marks, arith, begins_with, column_by, deepest_start, eqb-true, false, is_at_gap, is_break, is_content_line, is_document_marker, is_empty_line, is_further_text, is_outside, is_spaces, leading_spaces, List, lt-leb, max, None, Option, refl, row_of, rows_of, suc, true, zero, ℕ, ◌++◌, ◌<◌, ◌∷◌, ◌≡◌, ◌≤◌, both}
 use Rattle.proof_row.proofs.Lines.{up_to_break}
 
 -- ---- the column
@@ -43,11 +42,6 @@ no_row : (column : ℕ) (l : List ℕ) → is_spaces l ≡ false → is_content_
 unfolding row_of is_empty_line
 no_row column l h k = rw (h, k) refl
 
--- a line that begins before the column is no content
-shallow : (column : ℕ) (l : List ℕ) → leading_spaces l < column → is_content_line column l ≡ false
-unfolding is_content_line
-shallow column l h = rw (lt-leb column (leading_spaces l) h) refl
-
 -- a document marker in column 0 is no content
 unmarked : (l : List ℕ) → is_document_marker l ≡ true → is_content_line 0 l ≡ false
 unfolding is_content_line
@@ -70,25 +64,23 @@ unfolding is_break are_marks
 dots r h = record { written = refl; start = omega arith; none = no_row 0 (46 ∷ 46 ∷ 46 ∷ up_to_break r) refl (unmarked (46 ∷ 46 ∷ 46 ∷ up_to_break r) (grind arith)) }
 
 marker : (t : List ℕ) → is_document_marker t ≡ true → IsBefore 0 (up_to_break t)
-marker [] h = absurd (cc h)
-marker (a ∷ []) h = absurd (cc h)
-marker (a ∷ b ∷ []) h = absurd (cc h)
 marker (a ∷ b ∷ c ∷ r) h = marks (λ a b c. Marked a b c r) a b c (both _ _ h).0 (dashes r (both _ _ h).1) (dots r (both _ _ h).1)
+marker _ h = absurd (cc h)
 
 -- Further text's first line is no line of the scalar before it.
 pub further : (column : ℕ) (t : List ℕ) → is_further_text column t ≡ true → IsBefore column (up_to_break t)
+unfolding is_content_line
 further zero t h = marker t h
 further (suc n) t h =
     let o : Outside (suc n) (up_to_break t) = outside (suc n) t h in
-    record { written = o.0; start = omega (arith, o.1); none = no_row (suc n) (up_to_break t) o.0 (shallow (suc n) (up_to_break t) o.1) }
+    record { written = o.0; start = omega (arith, o.1); none = no_row (suc n) (up_to_break t) o.0 (rw (lt-leb (suc n) (leading_spaces (up_to_break t)) o.1) refl) }
 
 -- Further text does not begin with a line feed.
 pub further_is_no_break : (column : ℕ) (t : List ℕ) → is_further_text column t ≡ true → begins_with 10 t ≡ false
 unfolding is_break are_marks
 further_is_no_break column a h = grind (arith, zero, eqb-true)
 
--- ---- lines of which one is none of the scalar's
-
+-- lines of which one is none of the scalar's
 pub no_rows : (column : ℕ) (ls : List (List ℕ)) (l : List ℕ) (more : List (List ℕ)) → row_of column l ≡ None → rows_of column (ls ++ (l ∷ more)) ≡ None
 no_rows column [] l more h = rw h refl
 no_rows column (k ∷ ls) l more h = grind (arith, no_rows column ls l more h)

@@ -23,13 +23,15 @@ pub use Rattle.defs_token.specs.BlockPiece.{block_read, BlockRead, read_body, re
 pub use Rattle.defs_token.specs.Column.{blocks_at, is_deeper, is_in_column, not_ended, opened}
 pub use Rattle.defs_token.specs.Cut.{account_past_row, first_token, IsCut, IsRow, spelled, start_token, tokens_of, Written}
 pub use Rattle.defs_token.specs.FlowEntry.{begun_by, entries_past, Entry, entry_past, filled, fresh, Had, had_after, is_keyed, is_renewed, Pair, pair_past, renewed, settled, single_pair, takes_pair, with_had}
-pub use Rattle.defs_token.specs.Key.{begins_free_line, free, is_near, is_waiting, keyed, Line, line_past, line_past_separation, Outside, taken, unless_key, waits}
-pub use Rattle.defs_token.specs.Piece.{begins_node, begins_with_key_indicator, begins_with_space_or_break, ends_entry, goes_on_with_name, Holds, IsDoubleQuoted, IsNamed, IsPiece, IsSingleQuoted}
+pub use Rattle.defs_token.specs.Key.{begins_free_line, free, is_waiting, Line, line_past, line_past_separation, Outside, taken, waits}
+pub use Rattle.defs_token.specs.Piece.{begins_with_key_indicator, begins_with_space_or_break, ends_entry, goes_on_with_name, Holds, IsDoubleQuoted, IsNamed, IsPiece, IsSingleQuoted}
 pub use Rattle.defs_token.specs.Plain.{after_blank, begins_flow, begins_plain, ends_with_content, goes_on, inside, is_value_indicator, is_whole_plain, on_line, past, Stand, stops}
 pub use Rattle.defs_token.specs.Row.{IsRead, IsRowFrom, IsWritten, OneReading, OneRow}
 pub use Rattle.defs_token.specs.RowAccount.{account_past, first_account, have_no_key, is_in_flow, level_of, may_end, may_stand, on_one_line, past_inside, past_outside, past_piece, past_site, seen, Site, site_at, site_past}
 pub use Rattle.defs_token.specs.Separation.{is_separation, past_separation}
-pub use Rattle.defs_token.specs.Step.{Act, act_of, gives_block_scalar, gives_closing, gives_colon, gives_comma, gives_dash, gives_marker, gives_node, gives_nothing, gives_question, has_break, is_marker, previous_by, Step}
-pub use Rattle.defs_token.specs.Token.{alias, anchor, block_end, block_entry, block_mapping_start, block_sequence_start, document_end, document_start, double_quoted, flow_entry, flow_mapping_end, flow_mapping_start, flow_sequence_end, flow_sequence_start, folded, key, literal, plain, scalar, single_quoted, stream_end, stream_start, tag, tag_directive, Tok, Token, value, version_directive}
-pub use Rattle.defs_token.specs.Tokens.{begun_inside, begun_outside, Colon, ends_at, ends_with_stream, key_end, key_tokens, pair_end, pair_position, put, shown_position, start_if, stream_position, tokens_from, tokens_of_row, tokens_of_step}
+pub use Rattle.defs_token.specs.Step.{Act, act_of, gives_closing, gives_colon, gives_comma, gives_dash, gives_node, gives_question, has_break, is_marker, previous_by, Step}
+pub use Rattle.defs_token.specs.Token.{alias, anchor, block_end, block_entry, document_end, document_start, double_quoted, flow_entry, flow_mapping_end, flow_mapping_start, flow_sequence_end, flow_sequence_start, folded, key, literal, plain, scalar, single_quoted, stream_end, tag, tag_directive, Tok, Token, value, version_directive}
+pub use Rattle.defs_token.specs.Tokens.{begun_inside, begun_outside, Colon, ends_at, ends_with_stream, key_end, key_tokens, pair_end, pair_position, put, shown_position, stream_position, tokens_from, tokens_of_row, tokens_of_step}
 pub use Rattle.proof_row.specs.Ends.{alias_name, anchor_name, block_scalar, BlockScalarsHaveOneEnd, colon, comma, dash, dashes, directive_line, DirectivesHaveOneEnd, dots, DoubleQuotedScalarsHaveOneEnd, ends_separation, in_double_quotes, in_single_quotes, IsSeenAlike, IsWholeSeparation, IsWholeTag, Kind, kind_at, kind_by, kind_of, mapping_closing, mapping_opening, NamesHaveOneEnd, NoPieceIsInASeparation, nothing, PiecesHaveOneEnd, PiecesSeenAlikeHaveOneEnd, plain_scalar, PlainScalarsHaveOneEnd, question, SeparationsBeforePiecesAreOne, SeparationsEndBeforePieces, SeparationsHaveOneEnd, sequence_closing, sequence_opening, SingleQuotedScalarsHaveOneEnd, tag_text, TagsHaveOneEnd, TextsBeginWithOneKind, TextsUpToTheirEndHaveNoNul}
+pub use Rattle.proof_row.proofs.Runs.{both, contrary, ends_run, joined, longer, runs, same_head, untrue}
+pub use Rattle.proof_row.proofs.Texts.{all_append, all_leading, all_weaker, flows, gaps, leading_after, no_nul_after}

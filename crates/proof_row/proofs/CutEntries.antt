@@ -1,5 +1,5 @@
 -- A step of a row in a flow collection, as a cut has it: keys, and starts and ends of single pairs, have no piece.
-use Rattle.proof_row.proofs.Common.{[], Account, Act, act_of, ap, Before, begins_with_key_indicator, begun_by, begun_inside, Bool, ends_entry, entries_past, Entry, false, filled, flow_mapping_start, FlowKind, fresh, gives_closing, gives_colon, gives_comma, gives_marker, gives_node, gives_question, Had, inl, key_tokens, Level, levels_past, List, None, Option, Pair, pair_end, pair_past, past_separation, Position, refl, settled, Some, sym, takes_pair, Tok, Token, true, ℕ, ◌++◌, ◌||◌, ◌∷◌, ◌≡◌, ◌⊎◌, arith}
+use Rattle.proof_row.proofs.Common.{Account, Act, act_of, Before, begins_with_key_indicator, begun_by, begun_inside, Bool, ends_entry, entries_past, Entry, false, flow_mapping_start, FlowKind, fresh, gives_closing, gives_colon, gives_comma, gives_node, Had, key_tokens, Level, levels_past, List, None, Option, Pair, pair_end, past_separation, Position, Some, takes_pair, Tok, Token, true, ℕ, ◌++◌, ◌∷◌, ◌≡◌, ◌⊎◌, arith}
 use Rattle.defs_token.specs.FlowEntry.{waits}
 use Rattle.proof_row.proofs.CutPieces.{account_by}
 use Rattle.proof_row.proofs.CutSteps.{level_in, levels_in}
@@ -29,11 +29,6 @@ in_entry : (d : Account) (us : List Token) (next : List ℕ) (t : Tok) (c : ℕ)
     AreEmpty d us next t → past_all d us ≡ record d { levels = level_in e ∷ levels_in es } → Entered d us next t c r es (begun_by t ++ (e ∷ es))
 in_entry d us next t c r es e k a no_comma no_close empty same = grind arith
 
--- the same, where nothing begins
-nothing : (here : Position) (b : Before) (bs : List (Option ℕ)) (e f : Entry) (next : List ℕ) (t : Tok) (c : ℕ) (r : List ℕ) (es : List Entry) (k : Act) → act_of t ≡ k → (k ≡ gives_comma → ⊥) → (k ≡ gives_closing → ⊥) → level_in e ≡ level_in f →
-    Entered (Inner here b bs e es) [] next t c r es (begun_by t ++ (f ∷ es))
-nothing here b bs e f next t c r es k a no_comma no_close same = in_entry (Inner here b bs e es) [] next t c r es f k a no_comma no_close tt (ap (λ l. account_by here b bs (l ∷ levels_in es)) same)
-
 -- ---- nodes
 
 -- an entry without a key that waits
@@ -44,8 +39,6 @@ Unkeyed here b bs kind pair es = Inner here b bs (entry_by kind pair fresh) es
 key_enters : (kind : FlowKind) (pair : Pair) (here colon : Position) (b : Before) (bs : List (Option ℕ)) (next : List ℕ) (t : Tok) (c : ℕ) (r : List ℕ) (es : List Entry) → act_of t ≡ gives_node → begins_with_key_indicator (past_separation false next) ≡ false →
     Entered (Unkeyed here b bs kind pair es) (key_tokens (takes_pair kind pair) colon flow_mapping_start here) next t c r es (begun_by t ++ (entry_by kind pair (waits here) ∷ es))
 key_enters kind pair here colon b bs next t c r es a q = grind (arith, in_entry)
-
--- ---- `?`, lines for the document, and colons
 
 -- ---- ends of entries
 
@@ -58,36 +51,4 @@ pair_ends a kind here b bs next t c r es zs e l = grind arith
 pub entered : (k : Act) (again key : Bool) (had : Had) (kind : FlowKind) (pair : Pair) (here colon own : Position) (b : Before) (bs : List (Option ℕ)) (next : List ℕ) (t : Tok) (c : ℕ) (r : List ℕ) (es : List Entry) → act_of t ≡ k →
     ((act_of t ≡ gives_node) ⊎ (act_of t ≡ gives_colon) → begins_with_key_indicator (past_separation false next) ≡ false) →
     EnteredBy (Inner here b bs (entry_by kind pair had) es) (begun_inside (takes_pair kind pair) pair here colon own k key had) next t c r es (entries_past here again k (begun_by t) key (entry_by kind pair had) es)
-entered gives_node true true fresh kind pair here colon own b bs next t c r es a q = key_enters kind pair here colon b bs next t c r es a (q (inl a))
-entered gives_node true true filled kind pair here colon own b bs next t c r es a q = key_enters kind pair here colon b bs next t c r es a (q (inl a))
-entered gives_node true true settled kind pair here colon own b bs next t c r es a q = key_enters kind pair here colon b bs next t c r es a (q (inl a))
-entered gives_node false true fresh kind pair here colon own b bs next t c r es a q = key_enters kind pair here colon b bs next t c r es a (q (inl a))
-entered gives_node true false fresh kind pair here colon own b bs next t c r es a q = nothing here b bs (entry_by kind pair fresh) (entry_by kind pair filled) next t c r es gives_node a (λ h. cc h) (λ h. cc h) refl
-entered gives_node true false filled kind pair here colon own b bs next t c r es a q = nothing here b bs (entry_by kind pair filled) (entry_by kind pair filled) next t c r es gives_node a (λ h. cc h) (λ h. cc h) refl
-entered gives_node true false settled kind pair here colon own b bs next t c r es a q = nothing here b bs (entry_by kind pair settled) (entry_by kind pair filled) next t c r es gives_node a (λ h. cc h) (λ h. cc h) refl
-entered gives_node false false fresh kind pair here colon own b bs next t c r es a q = nothing here b bs (entry_by kind pair fresh) (entry_by kind pair filled) next t c r es gives_node a (λ h. cc h) (λ h. cc h) refl
-entered gives_node false false had kind pair here colon own b bs next t c r es a q = nothing here b bs (entry_by kind pair had) (entry_by kind pair had) next t c r es gives_node a (λ h. cc h) (λ h. cc h) refl
-entered gives_node _ _ _ kind pair here colon own b bs next t c r es a q = tt
-entered gives_question again key had kind pair here colon own b bs next t c r es a q = by again key had
-  where
-    entry : Entry
-    entry = entry_by kind (pair_past (takes_pair kind pair) gives_question pair) settled
-
-    settles : Entered (Unkeyed here b bs kind pair es) [] next t c r es (begun_by t ++ (entry ∷ es))
-    settles = nothing here b bs (entry_by kind pair fresh) entry next t c r es gives_question a (λ h. cc h) (λ h. cc h)
-        (ap (λ z. let l : Level = record { kind = kind; pair = z || false } in l) (sym (grind arith)))
-
-    by : (again key : Bool) (had : Had) → EnteredBy (Inner here b bs (entry_by kind pair had) es) (begun_inside (takes_pair kind pair) pair here colon own gives_question key had) next t c r es (entries_past here again gives_question (begun_by t) key (entry_by kind pair had) es)
-    by a b d = grind (arith, settles)
-entered gives_marker again key had kind pair here colon own b bs next t c r es a q = by again key had
-  where
-    settles : Entered (Unkeyed here b bs kind pair es) [] next t c r es (begun_by t ++ (entry_by kind pair settled ∷ es))
-    settles = nothing here b bs (entry_by kind pair fresh) (entry_by kind pair settled) next t c r es gives_marker a (λ h. cc h) (λ h. cc h) refl
-
-    by : (again key : Bool) (had : Had) → EnteredBy (Inner here b bs (entry_by kind pair had) es) (begun_inside (takes_pair kind pair) pair here colon own gives_marker key had) next t c r es (entries_past here again gives_marker (begun_by t) key (entry_by kind pair had) es)
-    by a b d = grind (arith, settles)
-entered gives_colon again key had kind pair here colon own b bs next t c r es a q = grind (arith, in_entry, nothing)
-entered gives_comma again key had kind pair here colon own b bs next t c r es a q = grind (arith, pair_ends)
-entered gives_closing again key had kind pair here colon own b bs next t c r es a q = grind (arith, pair_ends)
-entered _ true key had kind pair here colon own b bs next t c r es a q = tt
-entered _ false key had kind pair here colon own b bs next t c r es a q = tt
+entered k again key had kind pair here colon own b bs next t c r es a q = grind (arith, in_entry, pair_ends, key_enters)

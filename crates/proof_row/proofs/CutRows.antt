@@ -1,5 +1,5 @@
 -- Each step of a row is a row of a cut: tokens without a piece, and the one that it shows.
-use Rattle.proof_row.proofs.Common.{[], account_at_piece, account_past, account_past_separation, account_past_token, Act, act_of, ap, arith, Before, before_past, before_past_token, begins_free_line, begun_by, begun_inside, begun_outside, blocks_at, Bool, Colon, ends_at, entries_past, Entry, false, free, gives_node, has_break, has_no_break, if◌then◌else◌, inl, inr, is_deeper, is_in_column, is_in_line, is_marker, is_renewed, is_separation, is_waiting, IsPiece, IsWritten, key_end, length, level_of, levels_past, Line, line_past, line_past_separation, List, map, may_stand, None, not_ended, on_one_line, Option, Outside, pair_position, past_inside, past_outside, past_piece, piece_with_blocks, Position, position_after, previous_by, put, refl, seen, shown_position, Site, site_at, site_past, Some, spelled, Step, subst, suc, sym, taken, takes_pair, Tok, Token, tokens_of, tokens_of_step, true, waits, Written, ℕ, ◌&&◌, ◌++◌, ◌<◌, ◌∙◌, ◌∷◌, ◌≡◌, ◌≤◌}
+use Rattle.proof_row.proofs.Common.{[], account_at_piece, account_past, account_past_separation, account_past_token, Act, act_of, ap, arith, Before, before_past, before_past_token, begins_free_line, begun_by, begun_inside, begun_outside, blocks_at, Bool, Colon, ends_at, entries_past, Entry, false, free, gives_node, has_break, has_no_break, if◌then◌else◌, inl, inr, is_deeper, is_in_column, is_in_line, is_marker, is_renewed, is_separation, is_waiting, IsPiece, IsWritten, key_end, length, level_of, levels_past, Line, line_past, line_past_separation, List, map, may_stand, None, not_ended, on_one_line, Option, Outside, pair_position, past_inside, past_outside, past_piece, piece_with_blocks, Position, position_after, previous_by, put, refl, seen, shown_position, Site, site_at, site_past, Some, spelled, Step, subst, suc, sym, taken, takes_pair, Tok, Token, tokens_of_step, true, waits, ℕ, ◌&&◌, ◌++◌, ◌<◌, ◌∙◌, ◌∷◌, ◌≡◌, ◌≤◌}
 use Rattle.defs_token.specs.Account.{Account as PieceAccount}
 use Rattle.defs_token.specs.Step as step
 use Rattle.defs_token.specs.RowAccount.{Account, before_by as before_by_previous}
@@ -7,7 +7,7 @@ use Rattle.proof_row.proofs.CutColumns.{LeadTo, blocks_end, not_ended_twice, not
 use Rattle.proof_row.proofs.CutEntries.{EnteredBy, entered}
 use Rattle.proof_row.proofs.CutPieces.{account_by, whatever_follows, indicator_with_blocks, piece_in_flow, begins_no_key}
 use Rattle.proof_row.proofs.CutSteps.{somes, with_key, levels_in, in_cut, blocks_alike, settled_all, levels_outside, Sees, BegunBy, begun}
-use Rattle.proof_row.proofs.Inserted.{written, spelled_written, tokens_written, past_all, AreEmpty, IsRowTo, written_so}
+use Rattle.proof_row.proofs.Inserted.{written, spelled_written, tokens_written, past_all, AreEmpty, IsCutOf, written_so}
 
 -- ---- a key that waits
 
@@ -27,10 +27,8 @@ idle_kept a s h = grind arith
 
 -- A step as a row of a cut: its text, its tokens, and the account after it.
 pub record IsCutStep (a : Account) (w : Step) (ws : List Step) (after : List ℕ) (b : Account) : Type 0 where
-  pub row : List Written
-  pub spells : spelled row (step.spelled ws after) ≡ w.separation ++ (w.piece ++ step.spelled ws after)
-  pub tokens_are : tokens_of row ≡ tokens_of_step a w ws after
-  pub is_row : IsRowTo (in_cut a) row (step.spelled ws after) (in_cut b)
+  pub cut : (let next : List ℕ = step.spelled ws after in
+      IsCutOf (in_cut a) (w.separation ++ (w.piece ++ next)) (tokens_of_step a w ws after) next (in_cut b))
   pub kept : IsKept b
 
 -- the piece and account of a step, from the account at its piece
@@ -40,13 +38,14 @@ stepped : (a : Account) (w : Step) (ws : List Step) (after : List ℕ) (b : Acco
     account_past_token (account_at_piece (past_all here us) w.piece) w.piece next w.shown ≡ in_cut b → IsKept b → IsCutStep a w ws after b)
 stepped a w ws after b us p fills tokens empty piece same kept =
     let next : List ℕ = step.spelled ws after in
-    let so : IsRowTo (in_cut a) (written w.separation us w.piece (put p w.shown)) next (account_past_token (account_at_piece (past_all (account_past_separation (in_cut a) w.separation (w.piece ++ next)) us) w.piece) w.piece next w.shown) =
-    written_so (in_cut a) w.separation us w.piece (put p w.shown) next fills empty piece in
+    let so = written_so (in_cut a) w.separation us w.piece (put p w.shown) next fills empty piece in
     record {
-      row = written w.separation us w.piece (put p w.shown);
-      spells = spelled_written w.separation us w.piece (put p w.shown) next;
-      tokens_are = tokens_written w.separation us w.piece (put p w.shown) ∙ sym tokens;
-      is_row = record { is_row = so.is_row; past = so.past ∙ same };
+      cut = record {
+        row = written w.separation us w.piece (put p w.shown);
+        spells = spelled_written w.separation us w.piece (put p w.shown) next;
+        tokens_are = tokens_written w.separation us w.piece (put p w.shown) ∙ sym tokens;
+        is_row = record { is_row = so.is_row; past = so.past ∙ same };
+      };
       kept = kept;
     }
 
@@ -67,136 +66,123 @@ waits_on a must b l d bs w n = grind arith
 -- a key that waits still does after a piece
 kept_on : (l : Line) (here : Position) (bs : List ℕ) (awaits : Bool) (c : ℕ) (r next : List ℕ) (t : Tok) → WaitsAt l here.col bs → (is_waiting l ≡ true → has_no_break (c ∷ r) ≡ true) → (is_waiting l ≡ true → (f : List ℕ) → begins_free_line (previous_by t) f ≡ has_break f) →
     KeptBy l (record { position = position_after here (c ∷ r) next; blocks = bs; awaits = awaits; before = previous_by t })
-kept_on free here bs awaits c r next t w h f = tt
-kept_on taken here bs awaits c r next t w h f = tt
 kept_on (waits begin) here bs awaits c r next t w h f = (w.0, omega (arith, column_grows here (c ∷ r) next (h refl), w.1), f refl)
+kept_on _ here bs awaits c r next t w h f = tt
 
 -- the separation before a piece, where a key may wait
 abbrev Leads : Site → Line → (at : Site) → Line → Before → Type 0
 Leads s line at l b = LeadTo (account_by at.position b (somes (with_key s.blocks line)) []) (ends_at at.position s.blocks at.blocks) (account_by at.position b (somes (with_key at.blocks l)) [])
-
-outside_so : (must : Bool) (s : Site) (line l : Line) (f : List ℕ) (c : ℕ) (r : List ℕ) (t : Tok) (key : Bool) (ws : List Step) (after : List ℕ) (x : Account) →
-    (let a : Account = record { site = s; line = line; entries = [] } in
-    let w : Step = record { separation = f; piece = c ∷ r; shown = t; key = key } in
-    let next : List ℕ = step.spelled ws after in
-    let at : Site = site_at false s f (c ∷ r) t next in
-    IsWritten a w next → line_past_separation false (begins_free_line s.before f) line ≡ Some l →
-    past_outside at (c ∷ r) t next (line_past must at.position at.blocks (act_of t) key l) ≡ Some x →
-    (has_break (c ∷ r) && is_waiting x.line) ≡ false → (IsKept x → is_waiting x.line ≡ true → is_in_line next ≡ true) →
-    Leads s line at l (before_past (before_by_previous s.before) f) → WaitsAt l at.position.col at.blocks → IsCutStep a w ws after x)
-outside_so must s line l f c r t key ws after x h same_line same on_line in_line leads waiting =
-    by (line_past must at.position at.blocks (act_of t) key l) same
-    (begun (act_of t) must key l at.position colon.here b ((c ∷ r) ++ next) t c r at.blocks refl)
-    (waits_on (act_of t) must key l at.position at.blocks waiting on_node)
-  where
-    a : Account
-    a = record { site = s; line = line; entries = [] }
-
-    w : Step
-    w = record { separation = f; piece = c ∷ r; shown = t; key = key }
-
-    next : List ℕ
-    next = step.spelled ws after
-
-    at : Site
-    at = site_at false s f (c ∷ r) t next
-
-    b : Before
-    b = before_past (before_by_previous s.before) f
-
-    colon : Colon
-    colon = key_end t (position_after at.position (c ∷ r) next) ws after
-
-    own : Position
-    own = shown_position at (c ∷ r) t next
-
-    -- at a node the collections that go on are those that it does not end
-    on_node : act_of t ≡ gives_node → not_ended at.position.col at.blocks ≡ at.blocks
-    on_node k = subst (λ bs. not_ended at.position.col bs ≡ bs) (sym (ap (λ z. blocks_at false z at.position.col s.blocks) k)) (not_ended_twice at.position.col s.blocks)
-
-    more : Option Line → List Token
-    more o = begun_outside (is_deeper at.position.col at.blocks) at.position colon.here (act_of t) key o
-
-    us : List Token
-    us = ends_at at.position s.blocks at.blocks ++ more (Some l)
-
-    begin : PieceAccount
-    begin = account_by at.position b (somes (with_key at.blocks l)) []
-
-    by : (o : Option Outside) → past_outside at (c ∷ r) t next o ≡ Some x → BegunBy begin (more (Some l)) ((c ∷ r) ++ next) t (act_of t) c r at.blocks o → WaitsThen (act_of t) at.position.col o → IsCutStep a w ws after x
-    by None e g k = absurd (cc e)
-    by (Some o) e g k =
-        let z : Account = record { site = site_past false at (c ∷ r) t next o.blocks; line = o.line; entries = begun_by t } in
-        let to : z ≡ x = cc e in
-        let line_is : o.line ≡ x.line = ap (λ y. y.line) to in
-        let one_line : is_waiting o.line ≡ true → has_no_break (c ∷ r) ≡ true = λ h. (grind arith) in
-        let lead : AreEmpty (account_past_separation (in_cut a) f ((c ∷ r) ++ next)) us ((c ∷ r) ++ next) t × (past_all (account_past_separation (in_cut a) f ((c ∷ r) ++ next)) us ≡ past_all begin (more (Some l))) =
-        leads (more (Some l)) ((c ∷ r) ++ next) t g.are_empty in
-        let opened : PieceAccount = account_by at.position b (somes (with_key o.blocks o.line)) [] in
-        let there : account_at_piece (past_all (account_past_separation (in_cut a) f ((c ∷ r) ++ next)) us) (c ∷ r) ≡ opened = ap (λ d. account_at_piece d (c ∷ r)) lead.1 ∙ g.blocks_are in
-        let keeps : IsKept z = kept_on o.line at.position o.blocks z.site.awaits c r next t k.0 one_line (λ i. no_directive (seen a at f) c r next None own t h.1.1 (inl (k.1 i))) in
-        let piece : IsPiece opened (c ∷ r) next None own t = sees o one_line (λ i. in_line (subst IsKept to keeps) (ap is_waiting (sym line_is) ∙ i)) g.sees in
-        let past : account_past_token opened (c ∷ r) next t ≡ in_cut z =
-        ap (λ bs. account_by (position_after at.position (c ∷ r) next) (before_past_token b (c ∷ r) t) bs (levels_past [] (c ∷ r) t)) (blocks_alike opened c r next None own t (somes (with_key o.blocks o.line)) piece) ∙
-        (ap (λ ls. account_by (position_after at.position (c ∷ r) next) (before_past_token b (c ∷ r) t) (somes (with_key o.blocks o.line)) ls) (levels_outside t c r) ∙
-        ap (λ y. account_by (position_after at.position (c ∷ r) next) y (somes (with_key o.blocks o.line)) (levels_in (begun_by t)))
-        (grind arith)) in
-        subst (λ y. IsCutStep a w ws after y) to
-        (stepped a w ws after z us own h.0 (ap (λ o. (ends_at at.position s.blocks at.blocks ++ more o) ++ (put own t ∷ [])) same_line) lead.0
-        (λ last. subst (λ d. IsPiece d (c ∷ r) next last own t) (sym there) (whatever_follows opened c r next None last own t piece))
-        (ap (λ d. account_past_token d (c ∷ r) next t) there ∙ past) keeps)
-      where
-        sees : (o : Outside) → (is_waiting o.line ≡ true → has_no_break (c ∷ r) ≡ true) → (is_waiting o.line ≡ true → is_in_line next ≡ true) → Sees (act_of t) at.blocks o → IsPiece (account_by at.position b (somes (with_key o.blocks o.line)) []) (c ∷ r) next None own t
-        sees o one on (inl e) = subst (λ bs. IsPiece (account_by at.position b (somes bs) []) (c ∷ r) next None own t) (sym e) h.1.1
-        sees o one on (inr (inl k)) = piece_with_blocks (somes (with_key o.blocks o.line)) (account_by at.position b (somes at.blocks) []) (c ∷ r) next None own t (grind arith) (one k.0) (on k.0) h.1.1
-        sees o one on (inr (inr i)) = indicator_with_blocks (somes (with_key o.blocks o.line)) (account_by at.position b (somes at.blocks) []) c r next None own t i h.1.1
 
 -- after a piece outside flow, where a key must begin or not
 abbrev pub past_by : (must : Bool) → Site → (piece : List ℕ) → Tok → (next : List ℕ) → (key : Bool) → Option Line → Option Account
 past_by must at p t next key None = None
 past_by must at p t next key (Some l) = past_outside at p t next (line_past must at.position at.blocks (act_of t) key l)
 
-outside_step : (must : Bool) (s : Site) (line : Line) (f : List ℕ) (c : ℕ) (r : List ℕ) (t : Tok) (key : Bool) (ws : List Step) (after : List ℕ) (x : Account) →
-    (let a : Account = record { site = s; line = line; entries = [] } in
-    let w : Step = record { separation = f; piece = c ∷ r; shown = t; key = key } in
-    let next : List ℕ = step.spelled ws after in
-    let at : Site = site_at false s f (c ∷ r) t next in
-    IsWritten a w next → past_by must at (c ∷ r) t next key (line_past_separation false (begins_free_line s.before f) line) ≡ Some x →
-    (has_break (c ∷ r) && is_waiting x.line) ≡ false → (IsKept x → is_waiting x.line ≡ true → is_in_line next ≡ true) → IsKept a → IsCutStep a w ws after x)
-outside_step must s line f c r t key ws after x h same on_line in_line kept = by (begins_free_line s.before f) line refl refl
-  where
-    next : List ℕ
-    next = step.spelled ws after
+-- a piece outside flow, and the account before it
+module _ (must : Bool) (s : Site) (line : Line) (f : List ℕ) (c : ℕ) (r : List ℕ) (t : Tok) (key : Bool) (ws : List Step) (after : List ℕ) (x : Account) where
+  abbrev place : Account
+  place = record { site = s; line = line; entries = [] }
 
-    at : Site
-    at = site_at false s f (c ∷ r) t next
+  abbrev shown_step : Step
+  shown_step = record { separation = f; piece = c ∷ r; shown = t; key = key }
 
-    b : Before
-    b = before_past (before_by_previous s.before) f
+  abbrev further : List ℕ
+  further = step.spelled ws after
 
-    Of : Option Line → Type 0
-    Of o = past_by must at (c ∷ r) t next key o ≡ Some x
+  abbrev site_here : Site
+  site_here = site_at false s f (c ∷ r) t further
 
-    so : (l m : Line) → line ≡ m → line_past_separation false (begins_free_line s.before f) m ≡ Some l → Leads s m at l b → WaitsAt l at.position.col at.blocks → IsCutStep (record { site = s; line = line; entries = [] }) (record { separation = f; piece = c ∷ r; shown = t; key = key }) ws after x
-    so l m e g leads waiting =
-        let there : line_past_separation false (begins_free_line s.before f) line ≡ Some l = ap (λ z. line_past_separation false (begins_free_line s.before f) z) e ∙ g in
-        outside_so must s line l f c r t key ws after x h there (subst Of there same) on_line in_line (subst (λ z. Leads s z at l b) (sym e) leads) waiting
+  abbrev before_here : Before
+  before_here = before_past (before_by_previous s.before) f
 
-    free_so : (l m : Line) → (with_key s.blocks m ≡ s.blocks) → (with_key at.blocks l ≡ at.blocks) → Leads s m at l b
-    free_so l m e g = subst (λ cs. LeadTo (account_by at.position b (somes cs) []) (ends_at at.position s.blocks at.blocks) (account_by at.position b (somes (with_key at.blocks l)) [])) (sym e)
-        (subst (λ cs. LeadTo (account_by at.position b (somes s.blocks) []) (ends_at at.position s.blocks at.blocks) (account_by at.position b (somes cs) [])) (sym g) (blocks_end (act_of t) at.position at.position b s.blocks))
+  abbrev IsCut : Type 0
+  IsCut = IsCutStep place shown_step ws after x
 
-    waiting_so : (begin : Position) → line ≡ waits begin → begins_free_line s.before f ≡ false → (m : Bool) → is_marker (act_of t) ≡ m → IsCutStep (record { site = s; line = line; entries = [] }) (record { separation = f; piece = c ∷ r; shown = t; key = key }) ws after x
-    waiting_so begin e g true k = grind (arith, t, key, line, same, at, next, must, waits, x)
-    waiting_so begin e g false k = grind (arith, column_grows, next, unbroken, not_ended_further, so, b)
+  outside_so : (l : Line) → IsWritten place shown_step further → line_past_separation false (begins_free_line s.before f) line ≡ Some l
+      → past_outside site_here (c ∷ r) t further (line_past must site_here.position site_here.blocks (act_of t) key l) ≡ Some x
+      → (has_break (c ∷ r) && is_waiting x.line) ≡ false → (IsKept x → is_waiting x.line ≡ true → is_in_line further ≡ true)
+      → Leads s line site_here l before_here → WaitsAt l site_here.position.col site_here.blocks → IsCut
+  outside_so l h same_line same on_line in_line leads waiting =
+      by (line_past must site_here.position site_here.blocks (act_of t) key l) same
+      (begun (act_of t) must key l site_here.position colon.here before_here ((c ∷ r) ++ further) t c r site_here.blocks refl)
+      (waits_on (act_of t) must key l site_here.position site_here.blocks waiting on_node)
+    where
+      colon : Colon
+      colon = key_end t (position_after site_here.position (c ∷ r) further) ws after
 
-    by : (n : Bool) (m : Line) → begins_free_line s.before f ≡ n → line ≡ m → IsCutStep (record { site = s; line = line; entries = [] }) (record { separation = f; piece = c ∷ r; shown = t; key = key }) ws after x
-    by true free g e = so free free e (ap (λ z. line_past_separation false z free) g) (free_so free free refl refl) tt
-    by false free g e = so free free e (ap (λ z. line_past_separation false z free) g) (free_so free free refl refl) tt
-    by true taken g e = so free taken e (ap (λ z. line_past_separation false z taken) g) (free_so free taken refl refl) tt
-    by false taken g e = so taken taken e (ap (λ z. line_past_separation false z taken) g) (free_so taken taken refl refl) tt
-    by false (waits begin) g e = waiting_so begin e g (is_marker (act_of t)) refl
-    by true (waits begin) g e = absurd (cc (subst Of (ap (λ z. line_past_separation false z line) g ∙ ap (λ z. line_past_separation false true z) e) same))
+      own : Position
+      own = shown_position site_here (c ∷ r) t further
+
+      -- at a node the collections that go on are those that it does not end
+      on_node : act_of t ≡ gives_node → not_ended site_here.position.col site_here.blocks ≡ site_here.blocks
+      on_node k = subst (λ bs. not_ended site_here.position.col bs ≡ bs) (sym (ap (λ z. blocks_at false z site_here.position.col s.blocks) k)) (not_ended_twice site_here.position.col s.blocks)
+
+      more : Option Line → List Token
+      more o = begun_outside (is_deeper site_here.position.col site_here.blocks) site_here.position colon.here (act_of t) key o
+
+      us : List Token
+      us = ends_at site_here.position s.blocks site_here.blocks ++ more (Some l)
+
+      begin : PieceAccount
+      begin = account_by site_here.position before_here (somes (with_key site_here.blocks l)) []
+
+      by : (o : Option Outside) → past_outside site_here (c ∷ r) t further o ≡ Some x → BegunBy begin (more (Some l)) ((c ∷ r) ++ further) t (act_of t) c r site_here.blocks o → WaitsThen (act_of t) site_here.position.col o → IsCut
+      by None e g k = absurd (cc e)
+      by (Some o) e g k =
+          let z : Account = record { site = site_past false site_here (c ∷ r) t further o.blocks; line = o.line; entries = begun_by t } in
+          let to : z ≡ x = cc e in
+          let line_is : o.line ≡ x.line = ap (λ y. y.line) to in
+          let one_line : is_waiting o.line ≡ true → has_no_break (c ∷ r) ≡ true = λ h. (grind arith) in
+          let lead : AreEmpty (account_past_separation (in_cut place) f ((c ∷ r) ++ further)) us ((c ∷ r) ++ further) t × (past_all (account_past_separation (in_cut place) f ((c ∷ r) ++ further)) us ≡ past_all begin (more (Some l))) =
+          leads (more (Some l)) ((c ∷ r) ++ further) t g.are_empty in
+          let opened : PieceAccount = account_by site_here.position before_here (somes (with_key o.blocks o.line)) [] in
+          let there : account_at_piece (past_all (account_past_separation (in_cut place) f ((c ∷ r) ++ further)) us) (c ∷ r) ≡ opened = ap (λ d. account_at_piece d (c ∷ r)) lead.1 ∙ g.blocks_are in
+          let keeps : IsKept z = kept_on o.line site_here.position o.blocks z.site.awaits c r further t k.0 one_line (λ i. no_directive (seen place site_here f) c r further None own t h.1.1 (inl (k.1 i))) in
+          let piece : IsPiece opened (c ∷ r) further None own t = sees o one_line (λ i. in_line (subst IsKept to keeps) (ap is_waiting (sym line_is) ∙ i)) g.sees in
+          let alike = blocks_alike opened c r further None own t (somes (with_key o.blocks o.line)) piece in
+          let levels = levels_outside t c r in
+          let past : account_past_token opened (c ∷ r) further t ≡ in_cut z = grind (arith, alike, levels) in
+          subst (λ y. IsCutStep place shown_step ws after y) to
+          (stepped place shown_step ws after z us own h.0 (ap (λ o. (ends_at site_here.position s.blocks site_here.blocks ++ more o) ++ (put own t ∷ [])) same_line) lead.0
+          (λ last. subst (λ d. IsPiece d (c ∷ r) further last own t) (sym there) (whatever_follows opened c r further None last own t piece))
+          (ap (λ d. account_past_token d (c ∷ r) further t) there ∙ past) keeps)
+        where
+          sees : (o : Outside) → (is_waiting o.line ≡ true → has_no_break (c ∷ r) ≡ true) → (is_waiting o.line ≡ true → is_in_line further ≡ true) → Sees (act_of t) site_here.blocks o → IsPiece (account_by site_here.position before_here (somes (with_key o.blocks o.line)) []) (c ∷ r) further None own t
+          sees o one on (inl e) = subst (λ bs. IsPiece (account_by site_here.position before_here (somes bs) []) (c ∷ r) further None own t) (sym e) h.1.1
+          sees o one on (inr (inl k)) = piece_with_blocks (somes (with_key o.blocks o.line)) (account_by site_here.position before_here (somes site_here.blocks) []) (c ∷ r) further None own t (grind arith) (one k.0) (on k.0) h.1.1
+          sees o one on (inr (inr i)) = indicator_with_blocks (somes (with_key o.blocks o.line)) (account_by site_here.position before_here (somes site_here.blocks) []) c r further None own t i h.1.1
+
+  outside_step : IsWritten place shown_step further → past_by must site_here (c ∷ r) t further key (line_past_separation false (begins_free_line s.before f) line) ≡ Some x
+      → (has_break (c ∷ r) && is_waiting x.line) ≡ false → (IsKept x → is_waiting x.line ≡ true → is_in_line further ≡ true) → IsKept place → IsCut
+  outside_step h same on_line in_line kept = by (begins_free_line s.before f) line refl refl
+    where
+      Of : Option Line → Type 0
+      Of o = past_by must site_here (c ∷ r) t further key o ≡ Some x
+
+      so : (l m : Line) → line ≡ m → line_past_separation false (begins_free_line s.before f) m ≡ Some l → Leads s m site_here l before_here → WaitsAt l site_here.position.col site_here.blocks → IsCut
+      so l m e g leads waiting =
+          let there : line_past_separation false (begins_free_line s.before f) line ≡ Some l = ap (λ z. line_past_separation false (begins_free_line s.before f) z) e ∙ g in
+          outside_so l h there (subst Of there same) on_line in_line (subst (λ z. Leads s z site_here l before_here) (sym e) leads) waiting
+
+      free_so : (l m : Line) → (with_key s.blocks m ≡ s.blocks) → (with_key site_here.blocks l ≡ site_here.blocks) → Leads s m site_here l before_here
+      free_so l m e g = subst (λ cs. LeadTo (account_by site_here.position before_here (somes cs) []) (ends_at site_here.position s.blocks site_here.blocks) (account_by site_here.position before_here (somes (with_key site_here.blocks l)) [])) (sym e)
+          (subst (λ cs. LeadTo (account_by site_here.position before_here (somes s.blocks) []) (ends_at site_here.position s.blocks site_here.blocks) (account_by site_here.position before_here (somes cs) [])) (sym g) (blocks_end (act_of t) site_here.position site_here.position before_here s.blocks))
+
+      waiting_so : (begin : Position) → line ≡ waits begin → begins_free_line s.before f ≡ false → (m : Bool) → is_marker (act_of t) ≡ m → IsCut
+      waiting_so begin e g true k = grind (arith, same)
+      waiting_so begin e g false k =
+          let keeps : KeptBy (waits begin) s = subst (λ z. KeptBy z s) e kept in
+          let right : begin.col ≤ site_here.position.col = omega (arith, keeps.1, column_grows s.position f ((c ∷ r) ++ further) (unbroken f (sym (keeps.2 f) ∙ g))) in
+          let all : site_here.blocks ≡ s.blocks = ap (λ m. if m then [] else not_ended site_here.position.col s.blocks) k ∙ not_ended_further begin.col site_here.position.col s.blocks right keeps.0 in
+          so (waits begin) (waits begin) e (rw g refl) (λ us n u i. grind (arith, all)) (rw all keeps.0, right)
+
+      by : (n : Bool) (m : Line) → begins_free_line s.before f ≡ n → line ≡ m → IsCut
+      by true free g e = so free free e (ap (λ z. line_past_separation false z free) g) (free_so free free refl refl) tt
+      by false free g e = so free free e (ap (λ z. line_past_separation false z free) g) (free_so free free refl refl) tt
+      by true taken g e = so free taken e (ap (λ z. line_past_separation false z taken) g) (free_so free taken refl refl) tt
+      by false taken g e = so taken taken e (ap (λ z. line_past_separation false z taken) g) (free_so taken taken refl refl) tt
+      by false (waits begin) g e = waiting_so begin e g (is_marker (act_of t)) refl
+      by true (waits begin) g e = absurd (cc (subst Of (ap (λ z. line_past_separation false z line) g ∙ ap (λ z. line_past_separation false true z) e) same))
 
 -- ---- in flow
 
@@ -253,11 +239,8 @@ inside_step s line e es f c r t key ws after x h same on_line kept = by_line (li
         let after_all : PieceAccount = account_by at.position b bs (n.level ∷ levels_in es) in
         let there : account_at_piece (past_all here us) (c ∷ r) ≡ after_all = ap (λ d. account_at_piece d (c ∷ r)) n.account_is ∙ ap (λ y. account_by at.position b y (n.level ∷ levels_in es)) (settled_all at.position.col (with_key s.blocks line)) in
         let piece : IsPiece after_all (c ∷ r) next None own t = piece_in_flow at.position b (somes at.blocks) bs (level_of e) n.level (map level_of es) (levels_in es) c r next None None own t (same_many es) n.has_no_pair h.1.1 in
-        let past : account_past_token after_all (c ∷ r) next t ≡ in_cut z =
-        ap (λ y. account_by (position_after at.position (c ∷ r) next) (before_past_token b (c ∷ r) t) y (levels_past (n.level ∷ levels_in es) (c ∷ r) t)) (blocks_alike after_all c r next None own t bs piece) ∙
-        (ap (λ y. account_by (position_after at.position (c ∷ r) next) (before_past_token b (c ∷ r) t) bs y) n.levels_are ∙
-        (ap (λ y. account_by (position_after at.position (c ∷ r) next) y bs (levels_in zs)) (grind arith) ∙
-        ap (λ y. account_by (position_after at.position (c ∷ r) next) (before_by_previous (previous_by t)) (somes (with_key s.blocks y)) (levels_in zs)) (sym flow.0))) in
+        let alike = blocks_alike after_all c r next None own t bs piece in
+        let past : account_past_token after_all (c ∷ r) next t ≡ in_cut z = (let levels = n.levels_are in let same = flow.0 in grind (arith, alike, levels, same)) in
         let waiting : KeptBy l z.site = subst (λ y. KeptBy y z.site) (sym flow.0) (keeps line kept flow.1 one_line piece) in
         subst (λ y. IsCutStep a w ws after y) to
         (stepped a w ws after z us own h.0 refl n.are_empty
@@ -299,7 +282,9 @@ cut_no_key must a w ws after x none idle idle_then h same = by a.entries w.piece
         IsWritten b v next → past_by must at p w.shown next w.key (line_past_separation false (begins_free_line a.site.before w.separation) a.line) ≡ Some x → IsCutStep b v ws after x)
     by (e ∷ es) p i h same = absurd (cc i)
     by [] [] i h same = absurd (cc h.1.0)
-    by [] (c ∷ r) i h same = grind (arith, outside_step, must, after, x, not_both, has_break, idle)
+    by [] (c ∷ r) i h same =
+        outside_step must a.site a.line w.separation c r w.shown w.key ws after x h same (not_both (has_break (c ∷ r)) (is_waiting x.line) idle_then)
+        (λ k j. absurd (cc (j, idle_then))) (idle_kept a.line a.site idle)
 
 -- A step of a row is a row of a cut, if where a key waits the text after it goes on in the line.
 pub cut_step : (a : Account) (w : Step) (ws : List Step) (after : List ℕ) (x : Account) → IsWritten a w (step.spelled ws after) → account_past a w (step.spelled ws after) ≡ Some x →

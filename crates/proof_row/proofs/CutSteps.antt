@@ -1,5 +1,5 @@
 -- A step of a row, as a cut has it: the tokens before the one that it shows have no piece, and the account of the cut goes on as that of the row.
-use Rattle.proof_row.proofs.Common.{[], Account, account_at_piece, Act, act_of, ap, Before, begins_node, begun_by, begun_outside, block_mapping_start, block_sequence_start, blocks_past, Bool, Entry, false, free, gives_block_scalar, gives_closing, gives_colon, gives_comma, gives_dash, gives_marker, gives_node, gives_question, if◌then◌else◌, inl, inr, is_deeper, is_keyed, is_near, is_waiting, IsPiece, key_tokens, keyed, Level, levels_past, Line, line_past, List, map, None, opened, Option, Outside, Pair, Position, refl, single_pair, Some, start_if, taken, takes_pair, Tok, Token, true, unless_key, waits, ℕ, ◌&&◌, ◌||◌, ◌∷◌, ◌≡◌, ◌⊎◌, arith}
+use Rattle.proof_row.proofs.Common.{[], Account, account_at_piece, Act, act_of, ap, Before, begun_by, begun_outside, blocks_past, Bool, Entry, false, gives_colon, gives_dash, gives_node, gives_question, is_deeper, is_keyed, is_waiting, IsPiece, Level, levels_past, Line, line_past, List, map, None, opened, Option, Outside, Pair, Position, refl, single_pair, Some, takes_pair, Tok, Token, true, waits, ℕ, ◌&&◌, ◌||◌, ◌∷◌, ◌≡◌, ◌⊎◌, arith}
 use Rattle.defs_token.specs.Account.{settled}
 use Rattle.defs_token.specs.RowAccount.{Account as RowAccount, before_by as before_by_previous}
 use Rattle.proof_row.proofs.CutPieces.{account_by}
@@ -69,49 +69,7 @@ BegunBy d us next t k c r bs (Some x) = Begun d us next t k c r bs x
 abbrev Outer : Position → Before → List ℕ → Account
 Outer here b bs = account_by here b (somes bs) []
 
--- nothing begins
-plainly : (here : Position) (b : Before) (next : List ℕ) (t : Tok) (k : Act) (c : ℕ) (r bs : List ℕ) (x : Outside) → (cs : List ℕ) → with_key x.blocks x.line ≡ cs → Sees k bs x → Begun (Outer here b cs) [] next t k c r bs x
-plainly here b next t k c r bs x cs e s = grind (arith, settled_all)
-
-unless : (here : Position) (b : Before) (must : Bool) (next : List ℕ) (t : Tok) (k : Act) (c : ℕ) (r bs : List ℕ) (l : Line) → with_key bs l ≡ bs → BegunBy (Outer here b bs) [] next t k c r bs (unless_key must l bs)
-unless here b true next t k c r bs l e = tt
-unless here b false next t k c r bs l e = plainly here b next t k c r bs (record { line = l; blocks = bs }) bs e (inl e)
-
--- a block collection begins with an indicator
-collection_begins : (here : Position) (b : Before) (start : Tok) (next : List ℕ) (t : Tok) (k : Act) (c : ℕ) (r bs : List ℕ) → (start ≡ block_sequence_start) ⊎ (start ≡ block_mapping_start) → IsIndicator k →
-    Begun (Outer here b bs) (start_if (is_deeper here.col bs) here start) next t k c r bs (record { line = free; blocks = opened here.col bs })
-collection_begins here b start next t k c r bs s i = grind (arith, settled_all, plainly)
-
--- a key begins, and its mapping where it is deeper
-key_begins : (here colon : Position) (b : Before) (next : List ℕ) (t : Tok) (c : ℕ) (r bs : List ℕ) → begins_node (Some t) ≡ true →
-    Begun (Outer here b bs) (key_tokens (is_deeper here.col bs) colon block_mapping_start here) next t gives_node c r bs (record { line = waits here; blocks = bs })
-key_begins here colon b next t c r bs n = grind (arith, settled_all)
-
--- a colon ends the key that waits
-key_ends : (here : Position) (b : Before) (next : List ℕ) (t : Tok) (c : ℕ) (r bs : List ℕ) (begin : Position) → BegunBy (Outer here b (opened begin.col bs)) [] next t gives_colon c r bs (keyed begin here bs)
-key_ends here b next t c r bs begin = by (is_near begin here)
-  where
-    by : (n : Bool) → BegunBy (Outer here b (opened begin.col bs)) [] next t gives_colon c r bs (if n then Some (record { line = taken; blocks = opened begin.col bs }) else None)
-    by true = plainly here b next t gives_colon c r bs (record { line = taken; blocks = opened begin.col bs }) (opened begin.col bs) refl (inr (inr (inr (inr refl))))
-    by false = tt
-
 -- every piece outside flow
 pub begun : (k : Act) (must key : Bool) (l : Line) (here colon : Position) (b : Before) (next : List ℕ) (t : Tok) (c : ℕ) (r bs : List ℕ) → act_of t ≡ k →
     BegunBy (Outer here b (with_key bs l)) (begun_outside (is_deeper here.col bs) here colon k key (Some l)) next t k c r bs (line_past must here bs k key l)
-begun gives_node must true free here colon b next t c r bs e = key_begins here colon b next t c r bs (grind arith)
-begun gives_node must false free here colon b next t c r bs e = unless here b must next t gives_node c r bs taken refl
-begun gives_node must false taken here colon b next t c r bs e = plainly here b next t gives_node c r bs (record { line = taken; blocks = bs }) bs refl (inl refl)
-begun gives_node must false (waits begin) here colon b next t c r bs e = plainly here b next t gives_node c r bs (record { line = waits begin; blocks = bs }) (opened begin.col bs) refl (inr (inl (refl, refl)))
-begun gives_block_scalar must false free here colon b next t c r bs e = unless here b must next t gives_block_scalar c r bs free refl
-begun gives_block_scalar must false taken here colon b next t c r bs e = plainly here b next t gives_block_scalar c r bs (record { line = free; blocks = bs }) bs refl (inl refl)
-begun gives_dash must false free here colon b next t c r bs e = collection_begins here b block_sequence_start next t gives_dash c r bs (inl refl) (inl refl)
-begun gives_question must false free here colon b next t c r bs e = collection_begins here b block_mapping_start next t gives_question c r bs (inr refl) (inr (inl refl))
-begun gives_colon must false free here colon b next t c r bs e = collection_begins here b block_mapping_start next t gives_colon c r bs (inr refl) (inr (inr refl))
-begun gives_colon must false (waits begin) here colon b next t c r bs e = key_ends here b next t c r bs begin
-begun gives_comma must false free here colon b next t c r bs e = plainly here b next t gives_comma c r bs (record { line = free; blocks = bs }) bs refl (inl refl)
-begun gives_comma must false taken here colon b next t c r bs e = plainly here b next t gives_comma c r bs (record { line = free; blocks = bs }) bs refl (inl refl)
-begun gives_closing must false free here colon b next t c r bs e = plainly here b next t gives_closing c r bs (record { line = taken; blocks = bs }) bs refl (inl refl)
-begun gives_closing must false taken here colon b next t c r bs e = plainly here b next t gives_closing c r bs (record { line = taken; blocks = bs }) bs refl (inl refl)
-begun gives_marker must false free here colon b next t c r bs e = plainly here b next t gives_marker c r bs (record { line = taken; blocks = bs }) bs refl (inl refl)
-begun gives_marker must false taken here colon b next t c r bs e = plainly here b next t gives_marker c r bs (record { line = taken; blocks = bs }) bs refl (inl refl)
-begun _ must key l here colon b next t c r bs e = tt
+begun k must key l here colon b next t c r bs e = grind (arith, settled_all)

@@ -1,15 +1,14 @@
 -- A row is a cut, and steps with which a row may begin are a cut of a beginning of the text.
-use Rattle.proof_row.proofs.Common.{[], account_past, account_past_row, ap, append_assoc, append_cancel_right, Before, Begins, begins_free_line, block_end, Bool, ends_with_stream, Entry, false, first_account, first_position, first_token, free, has_break, have_no_key, if◌then◌else◌, is_closed, is_in_flow, is_in_line, is_renewed, is_separation, is_waiting, IsCut, IsRead, IsRow, IsRowFrom, IsWritten, Leads, Line, line_past_separation, List, may_end, may_stand, nat_lt, None, not, on_one_line, Option, past_piece, Position, position_after, put, refl, Site, site_at, Some, spelled, start_token, Step, stream_end, stream_position, stream_start, subst, sym, taken, Tok, Token, tokens_from, tokens_of, tokens_of_step, true, up_to_nul, waits, Written, ℕ, ◌&&◌, ◌++◌, ◌∙◌, ◌∷◌, ◌≡◌, arith}
+use Rattle.proof_row.proofs.Common.{[], account_past, ap, append_assoc, append_cancel_right, Before, Begins, begins_free_line, block_end, Bool, ends_with_stream, Entry, false, first_account, first_position, has_break, have_no_key, if◌then◌else◌, is_closed, is_in_flow, is_in_line, is_renewed, is_separation, is_waiting, IsCut, IsRead, IsRowFrom, IsWritten, Leads, Line, line_past_separation, List, may_end, may_stand, nat_lt, None, not, on_one_line, Option, past_piece, Position, position_after, put, refl, Site, site_at, Some, spelled, start_token, Step, stream_end, stream_position, subst, sym, Tok, Token, tokens_from, tokens_of, tokens_of_step, true, up_to_nul, waits, Written, ℕ, ◌&&◌, ◌++◌, ◌∙◌, ◌∷◌, ◌≡◌, arith}
 use Rattle.defs_token.specs.Account as cut
 use Rattle.defs_token.specs.Step.{Row}
 use Rattle.defs_token.specs.Step as step
 use Rattle.defs_token.specs.RowAccount.{Account, before_by as before_by_previous}
-use Rattle.defs_token.proofs.Append.{spelled_append, tokens_append, account_append, row_append}
 use Rattle.proof_row.proofs.Begins.{separations_end_before}
 use Rattle.proof_row.proofs.CutColumns.{in_line, unbroken}
 use Rattle.proof_row.proofs.CutRows.{IsKept, KeptBy, idle_kept, past_by, IsCutStep, cut_no_key, cut_step}
 use Rattle.proof_row.proofs.CutSteps.{in_cut, somes, with_key}
-use Rattle.proof_row.proofs.Inserted.{before_again, IsRowTo}
+use Rattle.proof_row.proofs.Inserted.{before_again, cut_append, IsCutOf, IsRowTo, nothing_cut}
 use Rattle.proof_row.proofs.CutPieces.{account_by}
 
 -- ---- a key that waits
@@ -40,24 +39,22 @@ waits_in_line a (w ∷ ws) after b h ends kept waiting = by_line a.line refl wai
         (subst (λ l. (if may then on_one_line w.piece (past_piece at w.piece w.shown next again w.key (line_past_separation (is_in_flow a.entries) (begins_free_line a.site.before w.separation) l) a.entries) else None) ≡ Some x) e g)
 
     by_line : (l : Line) → a.line ≡ l → is_waiting l ≡ true → is_in_line (w.separation ++ (w.piece ++ next)) ≡ true
-    by_line free e i = absurd (cc i)
-    by_line taken e i = absurd (cc i)
     by_line (waits begin) e i =
         let keeps : KeptBy (waits begin) a.site = subst (λ z. KeptBy z a.site) e kept in
         by_piece w.separation w.piece w.shown h.0 (sym (keeps.2 w.separation) ∙ by_past begin e (account_past a w next) refl h.1)
+    by_line _ e i = absurd (cc i)
 
 -- ---- steps
 
 -- Steps as a row of a cut, before a text: the tokens up to there are those of the cut.
 pub record IsCutTo (a : Account) (ws : List Step) (after : List ℕ) (b : Account) : Type 0 where
-  pub row : List Written
-  pub spells : spelled row after ≡ step.spelled ws after
-  pub tokens_are : tokens_from (Some a) ws after ≡ tokens_of row ++ tokens_from (Some b) [] after
-  pub is_row : IsRowTo (in_cut a) row after (in_cut b)
+  pub tokens : List Token
+  pub are : tokens_from (Some a) ws after ≡ tokens ++ tokens_from (Some b) [] after
+  pub cut : IsCutOf (in_cut a) (step.spelled ws after) tokens after (in_cut b)
 
 -- Steps that lead to an account at which no key waits are a row of a cut.
 pub cut_to : (a : Account) (ws : List Step) (after : List ℕ) (b : Account) → Leads (Some a) ws after b → may_end b ≡ true → IsKept a → IsCutTo a ws after b
-cut_to a [] after b h ends kept = grind arith
+cut_to a [] after b h ends kept = let z : IsCutTo a [] after a = record { tokens = []; are = refl; cut = nothing_cut (in_cut a) after } in subst (λ y. IsCutTo a [] after y) h z
 cut_to a (w ∷ ws) after b h ends kept = by (account_past a w next) refl h.1 (λ x. cut_to x ws after b)
   where
     next : List ℕ
@@ -68,46 +65,35 @@ cut_to a (w ∷ ws) after b h ends kept = by (account_past a w next) refl h.1 (�
     by (Some x) e l later =
         let s : IsCutStep a w ws after x = cut_step a w ws after x h.0 e (waits_in_line x ws after b l ends) kept in
         let r : IsCutTo x ws after b = later x l ends s.kept in
-        let all : List Written = s.row ++ r.row in
-        let cut : next ≡ spelled r.row after = sym r.spells in
         record {
-          row = all;
-          spells = spelled_append s.row r.row after ∙ ap (λ y. spelled s.row y) r.spells ∙ s.spells;
-          tokens_are = ap (λ o. tokens_of_step a w ws after ++ tokens_from o ws after) e ∙ ap (λ y. tokens_of_step a w ws after ++ y) r.tokens_are ∙ ap (λ y. y ++ (tokens_of r.row ++ tokens_from (Some b) [] after)) (sym s.tokens_are) ∙
-              sym (append_assoc (tokens_of s.row) (tokens_of r.row) (tokens_from (Some b) [] after)) ∙ ap (λ y. y ++ tokens_from (Some b) [] after) (sym (tokens_append s.row r.row));
-          is_row = record {
-            is_row = λ last. row_append (in_cut a) s.row r.row after last (subst (λ y. IsRow (in_cut a) s.row y (first_token r.row last)) cut (s.is_row.is_row (first_token r.row last)))
-                (subst (λ y. IsRow y r.row after last) (sym (ap (λ y. account_past_row (in_cut a) s.row y) (sym cut) ∙ s.is_row.past)) (r.is_row.is_row last));
-            past = account_append (in_cut a) s.row r.row after ∙ ap (λ y. account_past_row y r.row after) (ap (λ y. account_past_row (in_cut a) s.row y) (sym cut) ∙ s.is_row.past) ∙ r.is_row.past;
-          };
+          tokens = tokens_of_step a w ws after ++ r.tokens;
+          are = let more = r.are in grind (arith, append_assoc, e, more);
+          cut = cut_append _ _ _ _ _ _ next after s.cut r.cut;
         }
 
 -- ---- the text's end
 
 -- all block collections end
-abbrev ends_written : (bs : List ℕ) (end : Position) → List Written
-ends_written [] end = []
-ends_written (n ∷ bs) end = record { separation = []; piece = []; token = put (if nat_lt end.col n then end else stream_position end) block_end } ∷ ends_written bs end
+ends_cut : (bs : List ℕ) (p end : Position) (b : Before) (after : List ℕ) → IsCutOf (account_by p b (somes bs) []) after (ends_with_stream end bs) after (account_by p b [] [])
+ends_cut [] p end b after = nothing_cut (account_by p b [] []) after
+ends_cut (n ∷ bs) p end b after =
+    let z = ends_cut bs p end b after in
+    let rows = z.is_row in
+    let t : Token = put (if nat_lt end.col n then end else stream_position end) block_end in
+    record {
+      row = record { separation = []; piece = []; token = t } ∷ z.row;
+      spells = z.spells;
+      tokens_are = ap (λ ts. t ∷ ts) z.tokens_are;
+      is_row = grind (arith, before_again, rows);
+    }
 
-ends_spelled : (bs : List ℕ) (end : Position) (after : List ℕ) → spelled (ends_written bs end) after ≡ after
-ends_spelled [] end after = refl
-ends_spelled (n ∷ bs) end after = ends_spelled bs end after
-
-ends_tokens : (bs : List ℕ) (end : Position) → tokens_of (ends_written bs end) ≡ ends_with_stream end bs
-ends_tokens [] end = refl
-ends_tokens (n ∷ bs) end = ap (λ ts. put (if nat_lt end.col n then end else stream_position end) block_end ∷ ts) (ends_tokens bs end)
-
-ends_row : (bs : List ℕ) (p end : Position) (b : Before) (after : List ℕ) → IsRowTo (account_by p b (somes bs) []) (ends_written bs end) after (account_by p b [] [])
-ends_row [] p end b after = grind (arith)
-ends_row (n ∷ bs) p end b after = grind (arith, before_again, ends_row bs p end b after)
-
--- the row after a text's last piece
+-- the row after a text's last piece, which leaves nothing open
 record IsEnd (a : Account) (last : List ℕ) : Type 0 where
-  row : List Written
-  spells : spelled row last ≡ last
-  tokens_are : tokens_from (Some a) [] last ≡ tokens_of row ++ (put (stream_position (position_after a.site.position last [])) stream_end ∷ [])
-  is_row : IsRow (in_cut a) row last (Some stream_end)
-  closes : is_closed (account_past_row (in_cut a) row last) ≡ true
+  tokens : List Token
+  are : tokens_from (Some a) [] last ≡ tokens ++ (put (stream_position (position_after a.site.position last [])) stream_end ∷ [])
+  closed : cut.Account
+  closes : is_closed closed ≡ true
+  is_cut : IsCutOf (in_cut a) last tokens last closed
 
 ends_so : (a : Account) (last : List ℕ) → may_end a ≡ true → IsEnd a last
 ends_so a last h = by a.line a.entries h
@@ -118,21 +104,20 @@ ends_so a last h = by a.line a.entries h
     outside : (l : Line) → with_key a.site.blocks l ≡ a.site.blocks → IsEnd (record { site = a.site; line = l; entries = [] }) last
     outside l e =
         let b : Before = before_by_previous a.site.before in
-        let r : IsRowTo (account_by a.site.position b (somes a.site.blocks) []) (ends_written a.site.blocks end) last (account_by a.site.position b [] []) = ends_row a.site.blocks a.site.position end b last in
-        let same : account_by a.site.position b (somes a.site.blocks) [] ≡ in_cut (record { site = a.site; line = l; entries = [] }) = ap (λ bs. account_by a.site.position b (somes bs) []) (sym e) in
+        let none : cut.Account = account_by a.site.position b [] [] in
         record {
-          row = ends_written a.site.blocks end;
-          spells = ends_spelled a.site.blocks end last;
-          tokens_are = ap (λ ts. ts ++ (put (stream_position end) stream_end ∷ [])) (sym (ends_tokens a.site.blocks end));
-          is_row = subst (λ y. IsRow y (ends_written a.site.blocks end) last (Some stream_end)) same (r.is_row (Some stream_end));
-          closes = ap is_closed (ap (λ y. account_past_row y (ends_written a.site.blocks end) last) (sym same) ∙ r.past);
+          tokens = ends_with_stream end a.site.blocks;
+          are = refl;
+          closed = none;
+          closes = refl;
+          is_cut = subst (λ bs. IsCutOf (account_by a.site.position b (somes bs) []) last (ends_with_stream end a.site.blocks) last none) (sym e)
+              (ends_cut a.site.blocks a.site.position end b last);
         }
 
     by : (l : Line) (es : List Entry) → (not (is_waiting l) && have_no_key es) ≡ true → IsEnd (record { site = a.site; line = l; entries = es }) last
     by (waits begin) es h = absurd (cc h)
-    by l (e ∷ es) h = record { row = []; spells = refl; tokens_are = refl; is_row = tt; closes = refl }
-    by free [] h = outside free refl
-    by taken [] h = outside taken refl
+    by l (e ∷ es) h = record { tokens = []; are = refl; closed = in_cut (record { site = a.site; line = l; entries = e ∷ es }); closes = refl; is_cut = nothing_cut _ last }
+    by l [] h = outside l refl
 
 -- ---- laws
 
@@ -150,19 +135,17 @@ rows_are_cuts text ts h =
     let c : IsCutTo first_account r.steps r.last l.0 = cut_to first_account r.steps r.last l.0 l.1 l.3 tt in
     let e : IsEnd l.0 r.last = ends_so l.0 r.last l.3 in
     let end : Token = put (stream_position (position_after l.0.site.position r.last [])) stream_end in
-    let past : in_cut l.0 ≡ account_past_row cut.first_account c.row (spelled e.row r.last) = sym (ap (λ y. account_past_row cut.first_account c.row y) e.spells ∙ c.is_row.past) in
+    let u : IsCutOf cut.first_account (step.spelled r.steps r.last) (c.tokens ++ e.tokens) r.last e.closed = cut_append _ _ _ _ _ _ r.last r.last c.cut e.is_cut in
     record {
       begin = first_position;
       end = stream_position (position_after l.0.site.position r.last []);
-      row = c.row ++ e.row;
+      row = u.row;
       separation = r.last;
-      are_tokens = sym h.2 ∙ ap (λ ts. put first_position stream_start ∷ ts)
-          (c.tokens_are ∙ ap (λ ts. tokens_of c.row ++ ts) e.tokens_are ∙ sym (append_assoc (tokens_of c.row) (tokens_of e.row) (end ∷ [])) ∙ ap (λ ts. ts ++ (end ∷ [])) (sym (tokens_append c.row e.row)));
-      is_text = spelled_append c.row e.row r.last ∙ ap (λ y. spelled c.row y) e.spells ∙ c.spells ∙ h.1.0;
+      are_tokens = let all = h.2 in let first = c.are in let more = e.are in let us = u.tokens_are in grind (arith, append_assoc, all, first, more, us);
+      is_text = u.spells ∙ h.1.0;
       is_filled = l.2;
-      is_row = row_append cut.first_account c.row e.row r.last (Some stream_end) (subst (λ y. IsRow cut.first_account c.row y (first_token e.row (Some stream_end))) (sym e.spells) (c.is_row.is_row (first_token e.row (Some stream_end))))
-          (subst (λ y. IsRow y e.row r.last (Some stream_end)) past e.is_row);
-      closes = ap is_closed (account_append cut.first_account c.row e.row r.last ∙ ap (λ y. account_past_row y e.row r.last) (sym past)) ∙ e.closes;
+      is_row = u.is_row.is_row (Some stream_end);
+      closes = ap is_closed u.is_row.past ∙ e.closes;
     }
 
 -- Tokens of a text as a cut up to an account, before the text after it.
@@ -177,28 +160,21 @@ pub beginnings_are_cuts : (text after : List ℕ) (a : Account) (ts : List Token
     start_token first_position ∷ tokens_from (Some first_account) g.steps after ≡ ts ++ tokens_from (Some a) [] after → IsCutUpTo text after a ts
 beginnings_are_cuts text after a ts g ends same =
     let c : IsCutTo first_account g.steps after a = cut_to first_account g.steps after a g.leads ends tt in
-    record {
-      row = c.row;
-      are_tokens = append_cancel_right ts (start_token first_position ∷ tokens_of c.row) (tokens_from (Some a) [] after) (sym same ∙ ap (λ us. start_token first_position ∷ us) c.tokens_are);
-      is_text = c.spells ∙ g.spells;
-      is_row = c.is_row;
-    }
+    let are = append_cancel_right ts (start_token first_position ∷ c.tokens) (tokens_from (Some a) [] after) (sym same ∙ ap (λ us. start_token first_position ∷ us) c.are) in
+    record { row = c.cut.row; are_tokens = are ∙ ap (λ us. start_token first_position ∷ us) (sym c.cut.tokens_are); is_text = c.cut.spells ∙ g.spells; is_row = c.cut.is_row }
 
 -- A cut goes on with a step that is one.
 goes_on : (text after : List ℕ) (a b : Account) (ts : List Token) (w : Step) (ws : List Step) (last : List ℕ) → after ≡ w.separation ++ (w.piece ++ step.spelled ws last) → IsCutStep a w ws last b → IsCutUpTo text after a ts →
     IsCutUpTo text (step.spelled ws last) b (ts ++ tokens_of_step a w ws last)
 goes_on text after a b ts w ws last parts s c =
     let next : List ℕ = step.spelled ws last in
-    let on : after ≡ spelled s.row next = parts ∙ sym s.spells in
-    let there : account_past_row cut.first_account c.row (spelled s.row next) ≡ in_cut a = ap (λ y. account_past_row cut.first_account c.row y) (sym on) ∙ c.is_row.past in
+    let own : IsCutOf cut.first_account (up_to_nul text) (tokens_of c.row) after (in_cut a) = record { row = c.row; spells = c.is_text; tokens_are = refl; is_row = c.is_row } in
+    let u = cut_append _ _ _ _ _ _ after next own (subst (λ y. IsCutOf (in_cut a) y (tokens_of_step a w ws last) next (in_cut b)) (sym parts) s.cut) in
     record {
-      row = c.row ++ s.row;
-      are_tokens = ap (λ us. us ++ tokens_of_step a w ws last) c.are_tokens ∙ ap (λ us. start_token first_position ∷ (tokens_of c.row ++ us)) (sym s.tokens_are) ∙ ap (λ us. start_token first_position ∷ us) (sym (tokens_append c.row s.row));
-      is_text = spelled_append c.row s.row next ∙ ap (λ y. spelled c.row y) (sym on) ∙ c.is_text;
-      is_row = record {
-        is_row = λ o. row_append cut.first_account c.row s.row next o (subst (λ y. IsRow cut.first_account c.row y (first_token s.row o)) on (c.is_row.is_row (first_token s.row o))) (subst (λ y. IsRow y s.row next o) (sym there) (s.is_row.is_row o));
-        past = account_append cut.first_account c.row s.row next ∙ ap (λ y. account_past_row y s.row next) there ∙ s.is_row.past;
-      };
+      row = u.row;
+      are_tokens = ap (λ us. us ++ tokens_of_step a w ws last) c.are_tokens ∙ ap (λ us. start_token first_position ∷ us) (sym u.tokens_are);
+      is_text = u.spells;
+      is_row = u.is_row;
     }
 
 -- A cut goes on with a step of a row, where no key waits outside flow.

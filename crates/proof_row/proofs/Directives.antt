@@ -1,14 +1,12 @@
 -- A directive has one end: its line's.
-use Rattle.proof_row.proofs.Common.{[], all_of, Bool, DirectivesHaveOneEnd, has_no_break, has_no_nul, is_at_line_end, is_break, List, not, refl, true, ℕ, ◌∷◌, ◌≡◌, arith}
-use Rattle.proof_row.proofs.Runs.{both, joined, ends_run, runs}
-use Rattle.proof_row.proofs.Texts.{no_nul_after}
+use Rattle.proof_row.proofs.Common.{[], all_of, Bool, DirectivesHaveOneEnd, has_no_break, has_no_nul, is_at_line_end, is_break, List, not, refl, true, ℕ, ◌∷◌, ◌≡◌, arith, ends_run, runs, no_nul_after}
 
 abbrev is_in_line : ℕ → Bool
 is_in_line c = not (is_break c)
 
 in_line : (p : List ℕ) → has_no_break p ≡ true → all_of is_in_line p ≡ true
 in_line [] h = refl
-in_line (c ∷ p) h = joined _ _ (both _ _ h).0 (in_line p (both _ _ h).1)
+in_line (c ∷ p) h = grind (arith, in_line p)
 
 ended : (x : List ℕ) → is_at_line_end x ≡ true → has_no_nul x ≡ true → ends_run is_in_line x ≡ true
 ended a h k = grind arith

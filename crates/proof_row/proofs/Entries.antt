@@ -1,5 +1,5 @@
 -- Like entries stay like over a piece in flow.
-use Rattle.proof_row.proofs.Common.{Act, Bool, entries_past, Entry, entry_past, FlowKind, gives_block_scalar, gives_closing, gives_colon, gives_comma, gives_dash, gives_marker, gives_node, gives_nothing, gives_question, Had, had_after, List, Option, Pair, pair_past, Position, renewed, subst, takes_pair, with_had, ◌∷◌, ◌≡◌, arith}
+use Rattle.proof_row.proofs.Common.{Act, Bool, entries_past, Entry, entry_past, FlowKind, gives_closing, gives_comma, Had, had_after, List, Option, Pair, pair_past, Position, renewed, subst, takes_pair, with_had, ◌∷◌, ◌≡◌, arith}
 use Rattle.proof_row.proofs.Like.{LikeHad, LikeEntry, LikeEntries, Stepped, weaker, tails, both, like_after, same_after, same_entry}
 
 -- ---- an entry that goes on
@@ -24,16 +24,8 @@ goes_on k here again begun b c d e ds es i j =
     let pairs : T e.kind e.pair = subst (λ x. T e.kind x) i.1 kinds in
     weaker LikeEntries Were ((d ∷ ds ≡ e ∷ es) × (b ≡ c)) _ _ (λ h. (both d e ds es (same_entry d e i.0 i.1 h.0.0) h.1, h.0.1)) pairs
 
--- ---- an entry that ends
-
 -- Like entries are like again after a piece in flow.
 pub entries_step : (k : Act) → EntriesStep k
-entries_step gives_comma here again begun b c d e ds es i j = grind (arith, weaker, both, same_entry, tails)
 entries_step gives_closing here again begun b c d e ds es i j = grind (arith, weaker, both, same_entry)
-entries_step gives_node here again begun b c d e ds es i j = goes_on gives_node here again begun b c d e ds es i j
-entries_step gives_block_scalar here again begun b c d e ds es i j = goes_on gives_block_scalar here again begun b c d e ds es i j
-entries_step gives_dash here again begun b c d e ds es i j = goes_on gives_dash here again begun b c d e ds es i j
-entries_step gives_question here again begun b c d e ds es i j = goes_on gives_question here again begun b c d e ds es i j
-entries_step gives_colon here again begun b c d e ds es i j = goes_on gives_colon here again begun b c d e ds es i j
-entries_step gives_marker here again begun b c d e ds es i j = goes_on gives_marker here again begun b c d e ds es i j
-entries_step gives_nothing here again begun b c d e ds es i j = goes_on gives_nothing here again begun b c d e ds es i j
+entries_step gives_comma here again begun b c d e ds es i j = grind (arith, weaker, both, same_entry, tails)
+entries_step k here again begun b c d e ds es i j = goes_on k here again begun b c d e ds es i j

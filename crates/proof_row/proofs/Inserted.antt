@@ -1,6 +1,7 @@
 -- Tokens without a piece before a token with its piece, as a cut has them: what each step of a row is there.
 use Rattle.proof_row.proofs.Common.{[], Account, account_at_piece, account_past_row, account_past_separation, account_past_token, ap, Before, before_past, blocks_past, false, first_token, is_separation, IsPiece, IsRow, levels_past, List, Option, refl, Some, spelled, subst, sym, Tok, Token, tokens_of, true, Written, ℕ, ◌++◌, ◌∙◌, ◌∷◌, ◌≡◌, arith}
 use Rattle.defs_token.specs.Cut.{IsWritten, account_past}
+use Rattle.defs_token.proofs.Append.{spelled_append, tokens_append, account_append, row_append}
 
 -- ---- the row
 
@@ -50,6 +51,34 @@ pub record IsRowTo (a : Account) (row : List Written) (next : List ℕ) (b : Acc
   pub is_row : (last : Option Tok) → IsRow a row next last
   pub past : account_past_row a row next ≡ b
 
+-- A text and its tokens as a row of a cut, before another text, and the accounts before and after it.
+pub record IsCutOf (a : Account) (text : List ℕ) (ts : List Token) (next : List ℕ) (b : Account) : Type 0 where
+  pub row : List Written
+  pub spells : spelled row next ≡ text
+  pub tokens_are : tokens_of row ≡ ts
+  pub is_row : IsRowTo a row next b
+
+-- nothing, before a text
+pub nothing_cut : (a : Account) (next : List ℕ) → IsCutOf a next [] next a
+nothing_cut a next = record { row = []; spells = refl; tokens_are = refl; is_row = record { is_row = λ last. tt; past = refl } }
+
+-- Two of them after each other are one.
+pub cut_append : (a b c : Account) (text : List ℕ) (ts us : List Token) (between next : List ℕ)
+    → IsCutOf a text ts between b → IsCutOf b between us next c → IsCutOf a text (ts ++ us) next c
+cut_append a b c text ts us between next r s =
+    let past : account_past_row a r.row (spelled s.row next) ≡ b = ap (λ y. account_past_row a r.row y) s.spells ∙ r.is_row.past in
+    record {
+      row = r.row ++ s.row;
+      spells = spelled_append r.row s.row next ∙ ap (λ y. spelled r.row y) s.spells ∙ r.spells;
+      tokens_are = tokens_append r.row s.row ∙ ap (λ x. x ++ tokens_of s.row) r.tokens_are ∙ ap (λ x. ts ++ x) s.tokens_are;
+      is_row = record {
+        is_row = λ o. row_append a r.row s.row next o
+            (subst (λ y. IsRow a r.row y (first_token s.row o)) (sym s.spells) (r.is_row.is_row (first_token s.row o)))
+            (subst (λ y. IsRow y s.row next o) (sym past) (s.is_row.is_row o));
+        past = account_append a r.row s.row next ∙ ap (λ y. account_past_row y s.row next) past ∙ s.is_row.past;
+      };
+    }
+
 -- Such tokens are a row, if they stand so after the separation and the piece after them.
 pub written_so : (a : Account) (f : List ℕ) (us : List Token) (p : List ℕ) (t : Token) (next : List ℕ) → is_separation false f (p ++ next) ≡ true →
     AreEmpty (account_past_separation a f (p ++ next)) us (p ++ next) t.tok →
@@ -70,5 +99,5 @@ written_so a f (u ∷ us) p t next fills empty piece =
     record {
       is_row = λ last. subst (λ x. IsWritten a own x (first_token more last) × IsRow (account_past a own x) more next last) cut
           ((fills, subst (λ o. IsPiece here [] (p ++ next) o u.position u.tok) (sym (first_written [] us p t last)) empty.0), later.is_row last);
-      past = ap (λ x. account_past_row (account_past a own x) more next) (sym cut) ∙ later.past ∙ ap End (sym same);
+      past = let on = later.past in grind (arith, cut, on, same);
     }

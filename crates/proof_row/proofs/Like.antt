@@ -1,5 +1,5 @@
 -- Accounts that are alike but for keys that wait, and what a step makes of two like things.
-use Rattle.proof_row.proofs.Common.{[], Bool, Entry, filled, free, fresh, Had, if◌then◌else◌, Line, List, None, Option, Outside, refl, settled, Some, taken, waits, ◌++◌, ◌∷◌, ◌≡◌, arith}
+use Rattle.proof_row.proofs.Common.{[], Bool, Entry, filled, free, fresh, Had, if◌then◌else◌, Line, List, None, Option, refl, settled, Some, taken, waits, ◌++◌, ◌∷◌, ◌≡◌, arith}
 use Rattle.defs_token.specs.FlowEntry.{Had.waits as had_waits}
 use Rattle.defs_token.specs.RowAccount.{Account}
 
@@ -35,9 +35,6 @@ LikeEntries _ _ = ⊥
 -- The relation that carries the proof: all is equal but for keys that wait.
 abbrev pub IsLike : Account → Account → Type 0
 IsLike a b = (a.site ≡ b.site) × LikeLine a.line b.line × LikeEntries a.entries b.entries
-
-abbrev pub LikeOutside : Outside → Outside → Type 0
-LikeOutside x y = LikeLine x.line y.line × (x.blocks ≡ y.blocks)
 
 -- ---- what a step makes of two like things
 

@@ -1,5 +1,5 @@
 -- The lines of a text after another one, and a text's first line.
-use Rattle.proof_row.proofs.Common.{[], ap, begins_with, Bool, false, if◌then◌else◌, is_before_line_feed, is_break, List, put_first, refl, Split, split, split_by, true, with_first, ℕ, ◌++◌, ◌∙◌, ◌∷◌, ◌≡◌, arith}
+use Rattle.proof_row.proofs.Common.{[], ap, begins_with, Bool, false, if◌then◌else◌, is_before_line_feed, is_break, List, put_first, refl, Split, split, split_by, with_first, ℕ, ◌++◌, ◌∙◌, ◌∷◌, ◌≡◌, arith}
 
 abbrev pub of_lines : (complete : List (List ℕ)) → (last : List ℕ) → Split
 of_lines ls l = record { complete = ls; last = l }
@@ -10,15 +10,11 @@ of_lines ls l = record { complete = ls; last = l }
 abbrev pub lines_after : List (List ℕ) → Split → Split
 lines_after ls s = of_lines (ls ++ s.complete) (s.last)
 
--- more text that does not begin with a line feed does not change whether one follows
-before_same : (c : ℕ) (r z : List ℕ) → begins_with 10 z ≡ false → is_before_line_feed c (r ++ z) ≡ is_before_line_feed c r
-before_same c a z h = grind arith
-
 -- a text whose last line is complete, and one after it that does not go on with a line feed
 pub split_append : (p z : List ℕ) (ls : List (List ℕ)) → split p ≡ of_lines ls [] → begins_with 10 z ≡ false → split (p ++ z) ≡ lines_after ls (split z)
-split_append [] z ls e h = ap (λ s. lines_after (s.complete) (split z)) e
+split_append [] z ls e h = grind arith
 split_append (c ∷ p) z ls e h =
-    ap (λ b. split_by (is_break c) b c (split (p ++ z))) (before_same c p z h) ∙ by (is_break c) (is_before_line_feed c p) (split p) refl (λ ls e. split_append p z ls e h) e
+    ap (λ b. split_by (is_break c) b c (split (p ++ z))) (grind arith) ∙ by (is_break c) (is_before_line_feed c p) (split p) refl (λ ls e. split_append p z ls e h) e
   where
     kept : (complete : List (List ℕ)) (last : List ℕ) → put_first c complete last ≡ of_lines ls [] → ((ls : List (List ℕ)) → of_lines complete last ≡ of_lines ls [] → split (p ++ z) ≡ lines_after ls (split z)) →
         with_first c (split (p ++ z)) ≡ lines_after ls (split z)

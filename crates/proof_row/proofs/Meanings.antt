@@ -26,9 +26,9 @@ abbrev pub somewhere : Ev → Ev × Position
 somewhere e = (e, record { index = 0; line = 1; col = 0 })
 
 pub with_somewhere : (es : List (Ev × Position)) (fs : List Ev) → events_of (es ++ map somewhere fs) ≡ events_of es ++ fs
-with_somewhere [] [] = refl
-with_somewhere [] (f ∷ fs) = ap (λ vs. f ∷ vs) (with_somewhere [] fs)
 with_somewhere (e ∷ es) fs = ap (λ vs. e.0 ∷ vs) (with_somewhere es fs)
+with_somewhere [] (f ∷ fs) = ap (λ vs. f ∷ vs) (with_somewhere [] fs)
+with_somewhere [] [] = refl
 
 pub read_again : (r q : Result (List Tree) Tree) (x : Loader) → HasRead r x → HasRead q x → {trees : List Tree} → q ≡ Ok trees → r ≡ Ok trees
 read_again r a x h k e = grind arith

@@ -1,6 +1,5 @@
 -- The name of an anchor or of an alias has one end.
-use Rattle.proof_row.proofs.Common.{ap, is_anchor_name, NamesHaveOneEnd, sym, ◌++◌, ◌∙◌, ◌∷◌, ◌≡◌, arith}
-use Rattle.proof_row.proofs.Runs.{same_head, runs}
+use Rattle.proof_row.proofs.Common.{ap, is_anchor_name, NamesHaveOneEnd, sym, ◌++◌, ◌∙◌, ◌∷◌, ◌≡◌, arith, same_head, runs}
 
 pub names : NamesHaveOneEnd
 names i p q x y h k e =

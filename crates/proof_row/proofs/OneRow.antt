@@ -1,6 +1,5 @@
 -- A text has one row. The choice of keys goes forwards, the proof backwards: at the text's end no key waits, so like accounts are equal there, and that is carried back to the start.
-use Rattle.proof_row.proofs.Common.{[], account_past, ap, false, first_account, has_no_nul, Holds, is_separation, IsRowFrom, IsWritten, List, None, OneReading, OneRow, Option, refl, Some, Step, subst, sym, tokens_of_row, ℕ, ◌++◌, ◌∙◌, ◌∷◌, ◌≡◌, arith}
-use Rattle.proof_row.proofs.Texts.{no_nul_after}
+use Rattle.proof_row.proofs.Common.{[], account_past, ap, false, first_account, has_no_nul, Holds, is_separation, IsRowFrom, IsWritten, List, None, OneReading, OneRow, Option, refl, Some, Step, subst, sym, tokens_of_row, ℕ, ◌++◌, ◌∙◌, ◌∷◌, ◌≡◌, arith, no_nul_after}
 use Rattle.proof_row.proofs.Pieces.{no_piece_at_end, clean_up_to_end}
 use Rattle.defs_token.specs.Step.{Row, spelled}
 use Rattle.defs_token.specs.RowAccount.{Account}
@@ -15,7 +14,7 @@ at_end b v f next h k e = grind (arith, no_piece_at_end, not_empty)
 rows_from : (Were : Type 0) (x y : Option Account) (r s : List Step) (f g : List ℕ) → Stepped IsLike Were x y →
     IsRowFrom x r f → IsRowFrom y s g → spelled r f ≡ spelled s g → Holds (has_no_nul (spelled r f)) → Were × (r ≡ s) × (f ≡ g)
 rows_from Were None y r s f g t h k e c = absurd h
-rows_from Were (Some a) None r s f g t h k e c = absurd k
+rows_from Were x None r s f g t h k e c = absurd k
 rows_from Were (Some a) (Some b) [] [] f g t h k e c = (t.1 (same_at_end a b t.0 h.1 k.1), refl, e)
 rows_from Were (Some a) (Some b) [] (v ∷ vs) f g t h k e c = absurd (at_end b v f (spelled vs g) h.0 k.0 e)
 rows_from Were (Some a) (Some b) (w ∷ ws) [] f g t h k e c = absurd (at_end a w g (spelled ws f) k.0 h.0 (sym e))

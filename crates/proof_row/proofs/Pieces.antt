@@ -1,6 +1,5 @@
 -- At one account a text begins with one piece of one token.
-use Rattle.proof_row.proofs.Common.{[], alias_name, anchor_name, ap, append-nil, block_read, block_scalar, BlockRead, colon, comma, dash, dashes, directive_line, dots, double_quoted_value, has_no_nul, in_double_quotes, in_single_quotes, Kind, List, mapping_closing, mapping_opening, NoPieceIsInASeparation, nothing, PiecesHaveOneEnd, PiecesSeenAlikeHaveOneEnd, plain_scalar, question, refl, SeparationsBeforePiecesAreOne, sequence_closing, sequence_opening, single_quoted_value, Some, subst, sym, Tag, tag, tag_text, TextsUpToTheirEndHaveNoNul, Tok, true, written_tag, ℕ, ◌++◌, ◌∙◌, ◌∷◌, ◌≡◌, IsNamed, alias, anchor, arith}
-use Rattle.proof_row.proofs.Runs.{joined, same_head}
+use Rattle.proof_row.proofs.Common.{[], alias_name, anchor_name, ap, append-nil, block_read, block_scalar, BlockRead, directive_line, double_quoted_value, has_no_nul, in_double_quotes, in_single_quotes, Kind, List, NoPieceIsInASeparation, nothing, PiecesHaveOneEnd, PiecesSeenAlikeHaveOneEnd, plain_scalar, refl, SeparationsBeforePiecesAreOne, single_quoted_value, Some, subst, sym, Tag, tag, tag_text, TextsUpToTheirEndHaveNoNul, Tok, true, written_tag, ℕ, ◌++◌, ◌∙◌, ◌∷◌, ◌≡◌, IsNamed, alias, anchor, arith, joined, same_head}
 use Rattle.proof_row.proofs.Separations.{separations}
 use Rattle.proof_row.proofs.Names.{names}
 use Rattle.proof_row.proofs.Plains.{plains}
@@ -45,16 +44,6 @@ read_token r = block_token (r.style) (r.text)
 pub one_of : (k : Kind) → OneOf k
 one_of nothing a p q x y t u h k e n = absurd h
 one_of plain_scalar a p q x y t u h k e n = grind (arith, plains, some, same_by)
-one_of sequence_opening a p q x y t u h k e n = same_by p q x y t u (alike p q _ x y h.0 k.0 e) (h.1 ∙ sym k.1)
-one_of sequence_closing a p q x y t u h k e n = same_by p q x y t u (alike p q _ x y h.0 k.0 e) (h.1 ∙ sym k.1)
-one_of mapping_opening a p q x y t u h k e n = same_by p q x y t u (alike p q _ x y h.0 k.0 e) (h.1 ∙ sym k.1)
-one_of mapping_closing a p q x y t u h k e n = same_by p q x y t u (alike p q _ x y h.0 k.0 e) (h.1 ∙ sym k.1)
-one_of comma a p q x y t u h k e n = same_by p q x y t u (alike p q _ x y h.0 k.0 e) (h.1 ∙ sym k.1)
-one_of question a p q x y t u h k e n = same_by p q x y t u (alike p q _ x y h.0 k.0 e) (h.2 ∙ sym k.2)
-one_of colon a p q x y t u h k e n = same_by p q x y t u (alike p q _ x y h.0 k.0 e) (h.2 ∙ sym k.2)
-one_of dash a p q x y t u h k e n = same_by p q x y t u (alike p q _ x y h.0 k.0 e) (h.2 ∙ sym k.2)
-one_of dashes a p q x y t u h k e n = same_by p q x y t u (alike p q _ x y h.0.0 k.0.0 e) (h.1 ∙ sym k.1)
-one_of dots a p q x y t u h k e n = same_by p q x y t u (alike p q _ x y h.0.0 k.0.0 e) (h.1 ∙ sym k.1)
 one_of directive_line a p q x y t u h k e n = grind (arith, directives, some, same_by)
 one_of alias_name a p q x y t u h k e n = one_name 42 alias p q x y t u h k e
 one_of anchor_name a p q x y t u h k e n = one_name 38 anchor p q x y t u h k e
@@ -76,6 +65,7 @@ one_of block_scalar a p q x y t u h k e n =
     let second : block_read a.collection q x ≡ block_read a.collection q y = ap (λ z. block_read a.collection q z) same.1 in
     let r : h.0 ≡ k.0 = some _ _ (sym h.1 ∙ (first ∙ (second ∙ k.1))) in
     same_by p q x y t u same (h.3 ∙ (ap read_token r ∙ sym k.3))
+one_of k a p q x y t u h i e n = grind (arith, alike, same_by)
 
 -- ---- pieces at accounts that are seen alike
 
@@ -83,7 +73,7 @@ pub pieces_seen_alike : PiecesSeenAlikeHaveOneEnd
 pieces_seen_alike a b p q x y f g m n t u like collection i j h k e c = grind (arith, piece_of, kind_there, one_of)
 
 pub pieces : PiecesHaveOneEnd
-pieces a p q x y f g m n t u i j h k e c = pieces_seen_alike a a p q x y f g m n t u (refl, refl, refl) (λ z. refl) i j h k e c
+pieces a p q x y f g m n t u i j h k e c = grind (arith, pieces_seen_alike)
 
 -- ---- separations and pieces
 
@@ -99,8 +89,7 @@ no_piece_at_end a v w p x f m t h k i r e =
     empty [] e = refl
     empty (c ∷ p) e = absurd (cc e)
 
--- ---- the text up to its end
-
+-- the text up to its end
 pub clean_up_to_end : TextsUpToTheirEndHaveNoNul
 clean_up_to_end [] = refl
 clean_up_to_end (c ∷ r) = grind (arith, joined, clean_up_to_end r)

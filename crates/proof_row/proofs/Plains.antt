@@ -1,6 +1,5 @@
 -- A plain scalar has one end.
-use Rattle.proof_row.proofs.Common.{[], after_blank, Bool, ends_with_content, false, goes_on, inside, List, on_line, Option, past, PlainScalarsHaveOneEnd, refl, Stand, stops, subst, sym, true, ℕ, ◌++◌, ◌∷◌, ◌≡◌, arith}
-use Rattle.proof_row.proofs.Runs.{both, untrue, contrary, same_head, longer}
+use Rattle.proof_row.proofs.Common.{[], after_blank, Bool, ends_with_content, false, goes_on, inside, List, on_line, Option, past, PlainScalarsHaveOneEnd, refl, Stand, stops, subst, sym, true, ℕ, ◌++◌, ◌∷◌, ◌≡◌, arith, both, untrue, contrary, same_head, longer}
 
 -- whether the last character of a text is content, or what stands before an empty one
 abbrev settled : Stand → List ℕ → Bool
@@ -19,10 +18,8 @@ from : (fl : Bool) (coll : Option ℕ) (s : Stand) (p q x y : List ℕ) → goes
 from fl coll s [] [] x y h k f g i j e = (refl, e)
 from fl coll inside [] (d ∷ q) x y h k f g i j e = absurd (over fl coll inside d q y (subst (λ z. stops fl coll inside z ≡ true) e i) k g)
 from fl coll inside (c ∷ p) [] x y h k f g i j e = absurd (over fl coll inside c p x (subst (λ z. stops fl coll inside z ≡ true) (sym e) j) h f)
-from fl coll after_blank [] (d ∷ q) x y h k f g i j e = absurd (cc f)
-from fl coll after_blank (c ∷ p) [] x y h k f g i j e = absurd (cc g)
-from fl coll (on_line n) [] (d ∷ q) x y h k f g i j e = absurd (cc f)
-from fl coll (on_line n) (c ∷ p) [] x y h k f g i j e = absurd (cc g)
+from fl coll s [] (d ∷ q) x y h k f g i j e = absurd (cc f)
+from fl coll s (c ∷ p) [] x y h k f g i j e = absurd (cc g)
 from fl coll s (c ∷ p) (d ∷ q) x y h k f g i j e = grind (arith, same_head, both, longer, from fl coll (past s c) p q x y)
 
 pub plains : PlainScalarsHaveOneEnd

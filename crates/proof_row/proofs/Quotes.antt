@@ -1,6 +1,5 @@
 -- A scalar in quotes has one end: no quote that would end it stands inside a body that has a value.
-use Rattle.proof_row.proofs.Common.{[], ap, append-nil, append_assoc, arith, begins_with, Bool, double_quote, double_quoted_element, double_quoted_value, DoubleQuotedScalarsHaveOneEnd, Element, elements, eqb-true, escape, false, folded_elements, followed, has_document_marker, if◌then◌else◌, is_nul, IsDoubleQuoted, IsSingleQuoted, length, length-take, List, None, numeric_escape, Option, plain_element, refl, single_quote, single_quoted_element, single_quoted_value, SingleQuotedScalarsHaveOneEnd, Some, Spelled, suc, sym, take-append-le, true, zero, ℕ, ◌++◌, ◌==◌, ◌∙◌, ◌∷◌, ◌≡◌, ◌≤◌, ◌⊎◌}
-use Rattle.proof_row.proofs.Runs.{contrary, same_head}
+use Rattle.proof_row.proofs.Common.{[], ap, append-nil, append_assoc, arith, begins_with, Bool, double_quote, double_quoted_element, double_quoted_value, DoubleQuotedScalarsHaveOneEnd, Element, elements, eqb-true, escape, false, folded_elements, followed, has_document_marker, if◌then◌else◌, is_nul, IsDoubleQuoted, IsSingleQuoted, length, length-take, List, None, numeric_escape, Option, plain_element, refl, single_quote, single_quoted_element, single_quoted_value, SingleQuotedScalarsHaveOneEnd, Some, Spelled, suc, sym, take-append-le, true, zero, ℕ, ◌++◌, ◌==◌, ◌∙◌, ◌∷◌, ◌≡◌, ◌≤◌, ◌⊎◌, contrary, same_head}
 use Rattle.proof_row.proofs.Splits.{More, splits}
 
 -- ---- an element is its own characters
@@ -13,8 +12,7 @@ Onward r (Some s) o = (s.further ≤ length r) × (o ≡ Some s)
 abbrev IsOnward : (ℕ → List ℕ → Option Spelled) → Type 0
 IsOnward at = (c : ℕ) (r z : List ℕ) → begins_with 10 z ≡ false → Onward r (at c r) (at c (r ++ z))
 
--- ---- single quotes
-
+-- single quotes
 single_onward : IsOnward single_quoted_element
 unfolding single_quoted_element plain_element
 single_onward c r z h = grind arith

@@ -1,5 +1,6 @@
 -- Tests that hold together, and texts of which each character is of a class.
-use Rattle.proof_row.proofs.Common.{[], all_of, Bool, false, List, not, refl, true, ℕ, ◌&&◌, ◌++◌, ◌||◌, ◌∷◌, ◌≡◌, arith}
+use Rattle.std.proofs.Common.{[], Bool, false, List, not, refl, true, ℕ, ◌&&◌, ◌++◌, ◌||◌, ◌∷◌, ◌≡◌, arith}
+use Rattle.defs_text.specs.Tags.{all_of}
 
 -- ---- tests
 
@@ -34,6 +35,5 @@ ends_run class (c ∷ r) = not (class c)
 -- a run of characters of a class, before a text that begins with no other one, has one end
 pub runs : (class : ℕ → Bool) (p q x y : List ℕ) → all_of class p ≡ true → all_of class q ≡ true → ends_run class x ≡ true → ends_run class y ≡ true → p ++ x ≡ q ++ y → (p ≡ q) × (x ≡ y)
 runs class [] [] x y h k f g e = (refl, e)
-runs class [] (d ∷ q) x y h k f g e = grind (arith, contrary, both, untrue)
-runs class (c ∷ p) [] x y h k f g e = grind (arith, contrary, both, untrue)
 runs class (c ∷ p) (d ∷ q) x y h k f g e = grind (arith, same_head, both, longer, runs class p q x y)
+runs class _ _ x y h k f g e = grind (arith, contrary, both, untrue)

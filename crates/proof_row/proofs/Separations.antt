@@ -1,21 +1,15 @@
 -- A separation has one end.
-use Rattle.proof_row.proofs.Common.{[], Bool, ends_separation, false, is_at_line_end, is_blank, is_blank_or_end, is_break, is_separation, List, not, refl, SeparationsHaveOneEnd, true, ℕ, ◌++◌, ◌==◌, ◌||◌, ◌∷◌, ◌≡◌, arith}
-use Rattle.proof_row.proofs.Runs.{both, contrary, same_head, longer}
+use Rattle.proof_row.proofs.Common.{[], Bool, ends_separation, false, is_at_line_end, is_blank, is_blank_or_end, is_break, is_separation, List, not, refl, SeparationsHaveOneEnd, true, ℕ, ◌++◌, ◌==◌, ◌||◌, ◌∷◌, ◌≡◌, arith, both, contrary, same_head, longer}
 
 -- what ends a separation is no character of one
 unfilled : (c : ℕ) (r : List ℕ) → ends_separation (c ∷ r) ≡ true → (is_blank c || is_break c || (c == 35)) ≡ false
 unfolding is_blank_or_end
 unfilled c r h = grind arith
 
--- and no end of a line
-inside_line : (c : ℕ) (r : List ℕ) → ends_separation (c ∷ r) ≡ true → is_at_line_end (c ∷ r) ≡ false
-unfolding is_blank_or_end
-inside_line c r h = grind arith
-
 -- a separation that goes on over a text at which another ends
 pub over : (in_comment : Bool) (c : ℕ) (r next rest : List ℕ) → is_separation in_comment (c ∷ r) next ≡ true → (not in_comment || is_at_line_end (c ∷ rest)) ≡ true → ends_separation (c ∷ rest) ≡ true → ⊥
-over false c r next rest h k f = contrary _ (both _ _ h).0 (unfilled c rest f)
-over true c r next rest h k f = contrary _ k (inside_line c rest f)
+unfolding is_blank_or_end
+over b c r next rest h k f = grind (arith, unfilled, contrary, both)
 
 from : (in_comment : Bool) (p q x y : List ℕ) → is_separation in_comment p x ≡ true → is_separation in_comment q y ≡ true → ends_separation x ≡ true → ends_separation y ≡ true → p ++ x ≡ q ++ y → (p ≡ q) × (x ≡ y)
 from b [] [] x y h k f g e = (refl, e)

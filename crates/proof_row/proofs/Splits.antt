@@ -1,6 +1,5 @@
 -- A text that is two texts after each other in two ways.
-use Rattle.proof_row.proofs.Common.{[], List, ℕ, ◌++◌, ◌∷◌, ◌≡◌, ◌⊎◌, arith}
-use Rattle.proof_row.proofs.Runs.{same_head, longer}
+use Rattle.proof_row.proofs.Common.{[], List, ℕ, ◌++◌, ◌∷◌, ◌≡◌, ◌⊎◌, arith, same_head, longer}
 
 -- a text with more after it
 pub record More (p q x y : List ℕ) : Type 0 where

@@ -1,5 +1,8 @@
 -- Characters that end a piece, and the texts before and after a run.
-use Rattle.proof_row.proofs.Common.{[], after, all_of, Bool, has_no_nul, is_blank, is_blank_or_end, is_break, is_flow, is_nul, leading, List, refl, true, ℕ, ◌++◌, ◌∷◌, ◌≡◌, arith}
+use Rattle.std.proofs.Common.{[], Bool, List, refl, true, ℕ, ◌++◌, ◌∷◌, ◌≡◌, arith}
+use Rattle.defs_text.specs.Tags.{after, all_of, leading}
+use Rattle.defs_text.specs.Text.{has_no_nul}
+unfoldable use Rattle.defs_text.specs.Classes.{is_blank, is_blank_or_end, is_break, is_flow, is_nul}
 use Rattle.proof_row.proofs.Runs.{both, joined}
 
 -- ---- characters

@@ -1,6 +1,5 @@
 -- The text says which piece comes: at like accounts, two steps with which one text begins have the same separation, piece and token.
-use Rattle.proof_row.proofs.Common.{[], Act, act_of, ap, before_past, blocks_at, Bool, Entry, has_no_nul, Holds, innermost_column, is_adjacent, is_empty, is_in_flow, IsSeenAlike, IsWritten, kind_of, level_of, List, map, None, not, Option, position_after, refl, seen, shown_position, Site, site_at, Some, Step, true, ℕ, ◌++◌, ◌∙◌, ◌∷◌, ◌≡◌, ◌≢◌, arith}
-use Rattle.proof_row.proofs.Texts.{no_nul_after}
+use Rattle.proof_row.proofs.Common.{[], Act, act_of, ap, before_past, blocks_at, Bool, Entry, has_no_nul, Holds, innermost_column, is_adjacent, is_empty, is_in_flow, IsSeenAlike, IsWritten, kind_of, level_of, List, map, None, not, Option, position_after, refl, seen, shown_position, Site, site_at, Some, Step, true, ℕ, ◌++◌, ◌∙◌, ◌∷◌, ◌≡◌, ◌≢◌, arith, no_nul_after}
 use Rattle.proof_row.proofs.Pieces.{pieces_seen_alike, separations_before}
 use Rattle.defs_token.specs.RowAccount.{Account, before_by}
 use Rattle.proof_row.proofs.Like.{LikeEntries, IsLike}
@@ -13,8 +12,7 @@ in_levels es = not (is_empty (map level_of es))
 same_levels : (ds es : List Entry) → LikeEntries ds es → in_levels ds ≡ in_levels es
 same_levels [] [] j = refl
 same_levels (d ∷ ds) (e ∷ es) j = refl
-same_levels [] (e ∷ es) j = absurd j
-same_levels (d ∷ ds) [] j = absurd j
+same_levels _ _ j = absurd j
 
 abbrev pub At : Account → Step → (next : List ℕ) → Site
 At a w next = site_at (is_in_flow a.entries) a.site w.separation w.piece w.shown next

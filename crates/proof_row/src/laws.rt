@@ -91,6 +91,7 @@ pub fn texts_up_to_their_end_have_no_nul()
 {}
 
 /// A text has at most one row.
+#[tactic(auto, using(crate::proofs::OneRow::one_row))]
 pub fn one_row()
     ensures { OneRow }
 {}

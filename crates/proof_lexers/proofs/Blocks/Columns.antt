@@ -1,7 +1,5 @@
 -- Which lines a block scalar's text goes up to, and that the lines after it don't change its content column.
-use Rattle.proof_lexers.proofs.Common.{[], ap, append-nil, append_assoc, arith, column_by, column_same, ends_line, false, first_line, is_content_line, is_document_marker, is_empty_line, is_further_text, is_in_line, is_outside, is_some, is_spaces, IsBefore, le-leb, leading_spaces, length, List, list_all, nat_le, None, not, not-false, Option, refl, row_of, suc, sym, true, up_to_break, zero, ℕ, ◌&&◌, ◌++◌, ◌==◌, ◌∙◌, ◌∷◌, ◌≡◌, ◌≤◌, max, nat_tests}
-use Rattle.defs_text.specs.Classes as classes
-use Rattle.proof_lexers.proofs.Bridges.{same_break}
+use Rattle.proof_lexers.proofs.Common.{[], ap, append-nil, append_assoc, arith, column_by, column_same, ends_line, false, first_line, is_content_line, is_document_marker, is_empty_line, is_further_text, is_in_line, is_outside, is_some, is_spaces, IsBefore, le-leb, leading_spaces, length, List, list_all, nat_le, None, not, not-false, Option, refl, row_of, suc, sym, true, up_to_break, zero, ℕ, ◌&&◌, ◌++◌, ◌==◌, ◌∙◌, ◌∷◌, ◌≡◌, ◌≤◌, max, nat_tests, is_nul, same_break}
 use Rattle.proof_lexers.proofs.Blocks.Rows.{AreLines, break_ends, first_inner, Line, line_marker, put, spell, suc_off, texts}
 use Rattle.proof_row.proofs.Columns.{further}
 
@@ -16,7 +14,7 @@ spaces_leading [] h = refl
 spaces_leading (c ∷ w) h = grind (arith, spaces_leading w)
 
 none_outside : (n : ℕ) (w y : List ℕ) → (is_spaces w && nat_le (length w) n) ≡ false → (nat_le n (leading_spaces w) && nat_le (suc n) (length w)) ≡ false → is_in_line w ≡ true → list_all is_some w ≡ true → is_outside n (w ++ y) ≡ true
-unfolding classes.is_nul
+unfolding is_nul
 none_outside n [] y e f inner some = grind arith
 none_outside zero (c ∷ w) y e f inner some = grind arith
 none_outside (suc n) (c ∷ w) y e f inner some = grind (arith, none_outside n w y)

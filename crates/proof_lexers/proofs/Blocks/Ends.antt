@@ -1,5 +1,5 @@
 -- Each piece that is a block scalar is read as it, and each scan of one ends as its text says.
-use Rattle.proof_lexers.proofs.Common.{[], ap, append-nil, arith, begins_with, block, block_read, BlockRead, BlockScansEndAsTheirTextSays, BlockStyle, body, collection_of, column_by, ends_line, EndsAs, false, first_line, further_text, header, header_of, indicator_of, is_at_end, is_further_text, is_in_line, is_literal_style, is_some, IsHeaderRead, IsHeaderRefusal, IsRead, leading_spaces, linebreak, List, list_all, None, Option, past, Position, Read, read_body, read_lines, read_split, reads, refl, refuses, Row, rows_of, Some, starts_with_tab, subst, sym, tab, true, unbroken, value_before_end, value_before_text, whole_header, ℕ, ◌++◌, ◌==◌, ◌∙◌, ◌∷◌, ◌≡◌, and_parts, BlockPiecesAreRead, Body, Bool, digit_by, digit_or_zero, further_is_no_break, indent_from, input_ends, is_single, is_tabbed, not, not-true, row_of, slice_index, Split, split, ◌&&◌, if◌then◌else◌, nat_tests}
+use Rattle.proof_lexers.proofs.Common.{[], ap, append-nil, arith, begins_with, block, block_read, BlockRead, BlockScansEndAsTheirTextSays, BlockStyle, body, collection_of, column_by, ends_line, EndsAs, false, first_line, further_text, header, header_of, indicator_of, is_at_end, is_further_text, is_in_line, is_literal_style, is_some, IsHeaderRead, IsHeaderRefusal, IsRead, leading_spaces, linebreak, List, list_all, None, Option, past, Position, Read, read_body, read_lines, read_split, reads, refl, refuses, Row, rows_of, Some, starts_with_tab, subst, sym, tab, true, unbroken, value_before_end, value_before_text, whole_header, ℕ, ◌++◌, ◌==◌, ◌∙◌, ◌∷◌, ◌≡◌, and_parts, BlockPiecesAreRead, Body, Bool, digit_by, digit_or_zero, further_is_no_break, indent_from, input_ends, is_single, is_tabbed, not, not-true, row_of, slice_index, Split, split, ◌&&◌, if◌then◌else◌, nat_tests, is_nul}
 use Rattle.defs_text.specs.BlockScalar as defs
 use Rattle.proof_lexers.specs.BlockEnds.{IsBlockPiece, IsBlockRead, IsBlockRefusal, whole_block, after_piece, bad_header}
 use Rattle.proof_lexers.proofs.Ends.{ends_also}
@@ -10,7 +10,6 @@ use Rattle.proof_lexers.proofs.Blocks.Columns.{first_before, first_left, same_co
 use Rattle.proof_lexers.proofs.Blocks.Values.{of_line, stops, ends, walked, further_outside}
 use Rattle.proof_lexers.proofs.Blocks.Scans.{style_inner, start, after, block_is, tab_fails, before_further, before_the_end, header_alone_is_read}
 use Rattle.proof_lexers.proofs.Blocks.First.{least_is}
-use Rattle.defs_text.specs.Classes as classes
 use Rattle.defs_token.specs.BlockPiece.{with_value}
 use Rattle.proof_lexers.specs.BlockScan.{tabbed}
 use Rattle.defs_text.specs.BlockScalar.{value_at_end, value_at_text}
@@ -26,9 +25,6 @@ tab_whole [] (c ∷ e) = refl
 tab_whole (l ∷ ls) e = tab_line l.text (spell ls e) l.by (texts ls ++ e ∷ [])
 
 -- ---- further text begins with no line feed, and is not the end
-
-no_feed : (column : ℕ) (r : List ℕ) → is_further_text column r ≡ true → (slice_index r 0 == 10) ≡ false
-no_feed column r h = grind (arith, nat_tests, further_is_no_break)
 
 -- whether a CR is a break read_alone goes by the character after it
 pub fits_alone : (k : Break) → Fits k []
@@ -49,8 +45,7 @@ pub are_before : (ls : List Line) (a b : List ℕ) → ((k : Break) → Fits k b
 are_before [] a b fits are = tt
 are_before (l ∷ ls) a b fits are = (are.0, fits_before l.by ls a b (fits l.by) are.1, are_before ls a b fits are.2)
 
--- ---- the column is that of the whole text
-
+-- the column is that of the whole text
 pub whole_column : (digit : Option ℕ) (indent : ℕ) (ls ns : List Line) (e : List ℕ) (column : ℕ) → AreLines ns e → is_in_line e ≡ true → column_by digit (collection_of indent) (texts ls) ≡ column → is_further_text column (spell ns e) ≡ true
     → column_by digit (collection_of indent) (texts (ls ++ ns) ++ e ∷ []) ≡ column
 whole_column digit indent ls ns e column are inner same further =
@@ -78,7 +73,7 @@ module _ (indent : ℕ) (p : Position) (next : List ℕ) where
     column_here = column_by h.digit (collection_of indent) (texts ls)
 
     free : (slice_index next 0 == 10) ≡ false
-    free = no_feed column_here next z.further
+    free = grind (arith, nat_tests, further_is_no_break)
 
     tabbed_is : (ls : List Line) → Fits k (spell ls []) → AreLines ls [] → starts_with_tab (texts ls) ≡ false → is_tabbed (indicator_of h.style ∷ (line ++ put k (spell ls []))) next ≡ begins_with tab (spell ls next)
     tabbed_is ls fits are free =
@@ -136,7 +131,7 @@ module _ (indent : ℕ) (p : Position) where
 -- ---- each piece
 
 pub some_next : (d : ℕ) (n : List ℕ) → list_all is_some (d ∷ n) ≡ true → is_at_end (d ∷ n) ≡ false
-unfolding classes.is_nul
+unfolding is_nul
 some_next d n h = not-true _ ((and_parts (not (d == 0)) (list_all is_some n) h).0)
 
 -- a piece's first line is a header
@@ -190,9 +185,8 @@ module _ (indent : ℕ) (p : Position) (b : BlockRead) where
   read_of_lines (l ∷ ls) last [] are inner some true x e = to_end l.text l.by ls last are.0 are.1 are.2 inner e
   read_of_lines ls last [] are inner some false x e = let no : true ≡ false = x in cc
   read_of_lines ls last (d ∷ n) are inner some true x e = let no : false ≡ true = sym (some_next d n some) ∙ x in cc
-  read_of_lines [] last (d ∷ n) are inner some false x e = cc
   read_of_lines (l ∷ ls) [] (d ∷ n) are inner some false x e = read_to_text l.text l.by ls (d ∷ n) are.0 are.1 are.2 x e
-  read_of_lines (l ∷ ls) (c ∷ last) (d ∷ n) are inner some false x e = cc
+  read_of_lines _ last (d ∷ n) are inner some false x e = cc
 
 pub pieces_are_read : BlockPiecesAreRead
 pieces_are_read indent piece next p b some e =
@@ -200,13 +194,6 @@ pieces_are_read indent piece next p b some e =
     let cut : split piece ≡ record { complete = texts z.lines; last = z.last } = ap split z.is ∙ split_spell z.lines z.last z.are z.inner in
     let lines : read_lines (collection_of indent) (texts z.lines) z.last next (is_at_end next) ≡ Some b = ap (λ s. read_split (collection_of indent) s next) (sym cut) ∙ e in
     subst (λ x. Read_as indent p b x next) (sym z.is) (read_of_lines indent p b z.lines z.last next z.are z.inner some (is_at_end next) refl lines)
-
--- ---- each scan ends as its text says
-
--- ---- the column of a piece
-
-further_not_end : (column : ℕ) (next : List ℕ) → is_further_text column next ≡ true → list_all is_some next ≡ true → is_at_end next ≡ false
-further_not_end column a h some = grind (arith, some_next)
 
 -- the column of a piece is that of the whole text
 part_column : (digit : Option ℕ) (indent : ℕ) (ls ns : List Line) (e : List ℕ) → AreLines ns e → is_in_line e ≡ true → is_further_text (column_by digit (collection_of indent) (texts (ls ++ ns) ++ e ∷ [])) (spell ns e) ≡ true
@@ -260,13 +247,14 @@ module _ (style : BlockStyle) (indent : ℕ) (p : Position) where
 
     to_text : (own ns : List Line) (rs : List Row) → ls ≡ own ++ ns → rows_of column (texts own) ≡ Some rs → is_further_text column (spell ns last) ≡ true → list_all is_some (spell ns last) ≡ true → Ends (line ++ put k (spell ls last))
     to_text own ns rs split_at rows further some_next_text =
+        let further_not_end : is_at_end (spell ns last) ≡ false = grind (arith, some_next) in
         let joined : spell ls last ≡ spell own (spell ns last) = ap (λ x. spell x last) split_at ∙ spell_append own ns last in
         let parts = are_parts own ns last (rw (← split_at) are) in
         let column_is : column ≡ column_by h.digit (collection_of indent) (texts (own ++ ns) ++ last ∷ []) = ap (λ x. column_by h.digit (collection_of indent) (texts x ++ last ∷ [])) split_at in
         let same : column ≡ column_by h.digit (collection_of indent) (texts own) = column_is ∙ part_column h.digit indent own ns last parts.1 last_inner (rw (← column_is) further) in
         let fits_own : Fits k (spell own []) = fits_before k own (spell ns last) [] (fits_alone k) (rw (← joined) fits) in
         let tab_free = tab_of own (spell ns last) (rw (← joined) tabless) in
-        let not_end = further_not_end column (spell ns last) further some_next_text in
+        let not_end = further_not_end in
         let lines = split_spell (record { text = indicator_of style ∷ line; by = k } ∷ own) [] (style_inner style line inner, fits_own, are_before own (spell ns last) [] fits_alone parts.0) refl in
         let rows_here : rows_of (column_by h.digit (collection_of indent) (texts own)) (texts own) ≡ Some rs = rw (← same) rows in
         let further_here : is_further_text (column_by h.digit (collection_of indent) (texts own)) (spell ns last) ≡ true = rw (← same) further in

@@ -1,5 +1,5 @@
 -- The first lines give the content column.
-use Rattle.proof_lexers.proofs.Common.{[], all_lines, along, and_parts, ap, append-nil, arith, at_least, collection_of, Column, column_by, deepest_start, digit_by, false, First, first_indent, FirstLinesGiveTheColumn, indent_from, is_break, is_in_line, is_spaces, leading_spaces, least_column, List, max, past, Position, Read, refl, split, suc, sym, true, unbroken, zero, ℕ, ◌++◌, ◌+◌, ◌==◌, ◌∙◌, ◌∷◌, ◌≡◌, ◌≤◌, nat_tests, past_break}
+use Rattle.proof_lexers.proofs.Common.{[], all_lines, along, and_parts, ap, append-nil, arith, collection_of, Column, column_by, deepest_start, digit_by, false, First, first_indent, FirstLinesGiveTheColumn, indent_from, is_break, is_in_line, is_spaces, leading_spaces, least_column, List, max, past, Position, Read, refl, split, suc, sym, true, unbroken, zero, ℕ, ◌++◌, ◌+◌, ◌==◌, ◌∷◌, ◌≡◌, ◌≤◌, nat_tests, past_break}
 use Rattle.model_scanner.specs.BlockScalar.{content}
 use Rattle.proof_lexers.proofs.Blocks.Margins.{after_break, after_line, AreLines, at, Break, col_along, first_inner, Fits, Line, Lined, lined, put, spell, split_spell, texts}
 use Rattle.proof_lexers.proofs.Blocks.Columns.{spaces_leading}
@@ -77,17 +77,14 @@ pub content_is : (indent increment : ℕ) (ls : List Line) (last : List ℕ) (p 
     → content indent increment (spell ls last) p ≡ indent_from (column_for indent increment ls last) (spell ls last) (at p [])
 unfolding content
 content_is indent zero ls last p col are inner =
-    let D = deepest_start (texts ls ++ last ∷ []) in
     let K = column_for indent 0 ls last in
     let least = least_is indent in
     let start : record { most = 0; spaces = 0; position = p; breaks = [] } ≡ looking 0 p [] = ap (λ k. record { most = 0; spaces = k; position = p; breaks = [] }) (sym col) in
     let found = first_column_is ls last 0 p [] col are inner in
-    let same : max (max 0 D) indent ≡ K = omega (arith, least) in
-    ap (λ s. at_least indent (first_indent (spell ls last) s)) start
-    ∙ ap (at_least indent) (first_is_indent K (spell ls last) (looking 0 p []) (omega (arith, found, same)))
-    ∙ ap (λ n. with_column (max n indent) (indent_from K (spell ls last) (at p []))) found
-    ∙ ap (λ n. with_column n (indent_from K (spell ls last) (at p []))) same
-content_is indent (suc n) ls last p col are inner = ap (λ k. indent_from (k + suc n) (spell ls last) (at p [])) (sym (grind (arith, nat_tests)))
+    let same : max (max 0 (deepest_start (texts ls ++ last ∷ []))) indent ≡ K = omega (arith, least) in
+    let passes = first_is_indent K (spell ls last) (looking 0 p []) (omega (arith, found, same)) in
+    grind (arith, start, found, same, passes)
+content_is indent (suc n) ls last p col are inner = grind (arith, nat_tests)
 
 pub first_lines : FirstLinesGiveTheColumn
 first_lines indent increment text p col = of_lines (lined text)

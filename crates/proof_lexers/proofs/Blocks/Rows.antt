@@ -1,8 +1,7 @@
 -- The lines of a block scalar are read row by row.
-use Rattle.proof_lexers.proofs.Common.{[], along, ap, append-nil, append_assoc, arith, at_marker, between, BlockState, Bool, cases_Bool, content_row, drop, empty_row, ends_line, eq-eqb, false, Fault, indent_from, inl, inr, is_blank, is_break, is_content_line, is_document_marker, is_empty_line, is_in_line, is_spaces, le-ltb, leading_spaces, leb-true, length, Lines, lines_from, List, lt-ltb, margin, nat_lt, nat_tests, None, not-true, Ok, Option, past, Position, put_row, Read, refl, Result, Row, row_of, rows_of, Some, suc, sym, true, zero, ℕ, ◌&&◌, ◌++◌, ◌+◌, ◌==◌, ◌∙◌, ◌∷◌, ◌≡◌, ◌≤◌, or-true}
+use Rattle.proof_lexers.proofs.Common.{[], along, ap, append-nil, append_assoc, arith, at_marker, between, BlockState, Bool, content_row, drop, empty_row, ends_line, eq-eqb, false, Fault, indent_from, is_blank, is_break, is_content_line, is_document_marker, is_empty_line, is_in_line, is_spaces, le-ltb, leading_spaces, leb-true, length, Lines, lines_from, List, margin, nat_lt, nat_tests, None, not-true, Ok, Option, past, Position, put_row, Read, refl, Result, Row, row_of, rows_of, Some, suc, sym, true, zero, ℕ, ◌&&◌, ◌++◌, ◌+◌, ◌==◌, ◌∙◌, ◌∷◌, ◌≡◌, ◌≤◌, or-true, are_marks, is_blank_or_end, and_false, same_marker}
 use Rattle.defs_text.specs.Classes as classes
 use Rattle.model_scanner.specs.BlockScalar.{line, begins, begun, with_char}
-use Rattle.proof_lexers.proofs.Bridges.{and_false, same_marker}
 pub use Rattle.proof_lexers.proofs.Blocks.Margins.{after_break, after_line, after_lines, AreLines, at, before, Break, col_along, empty_passes, first_inner, Fits, last_passes, Line, lined, lines_front, margin_passes, put, spell, split_spell, texts}
 
 -- ---- a document marker is seen alike in a line and in the text that begins with the line
@@ -11,12 +10,12 @@ break_is_none : (c : ℕ) → classes.is_break c ≡ true → ((c == 45) ≡ fal
 unfolding classes.is_break
 break_is_none c h = (grind (arith, nat_tests), grind (arith, nat_tests))
 
-break_is_gap : (c : ℕ) → classes.is_break c ≡ true → classes.is_blank_or_end c ≡ true
-unfolding classes.is_blank_or_end
+break_is_gap : (c : ℕ) → classes.is_break c ≡ true → is_blank_or_end c ≡ true
+unfolding is_blank_or_end
 break_is_gap c h = rw (h, or-true (classes.is_blank c)) refl
 
 pub line_marker : (w r : List ℕ) → ends_line r ≡ true → is_document_marker (w ++ r) ≡ is_document_marker w
-unfolding classes.are_marks
+unfolding are_marks
 line_marker a r h = grind (arith, break_is_none, and_false, break_is_gap)
 
 pub marker_in_line : (col : ℕ) (w r : List ℕ) → ends_line r ≡ true → at_marker col (w ++ r) ≡ ((col == 0) && is_document_marker w)
@@ -72,12 +71,7 @@ module _ (column : ℕ) where
       let q = first_inner c w inner in
       let deep : nat_lt p.col column ≡ false = le-ltb p.col column (omega (arith, col)) in
       record { char = c; rest = w; position = p; is = refl; in_column = omega (arith, col); inner = inner; ends = refl; found = λ a b. rw (deep, and_false (c == 32), q.0) refl }
-  starts (suc n) (c ∷ w) p col lead long inner = elim (cases_Bool (c == 32)) [
-    | inl e ↦
-        let more : suc n ≤ suc (leading_spaces w) = rw e at lead in
-        space_then c w p n e (lt-ltb p.col column (omega (arith, col))) (starts n w (past p) (omega (arith, col)) (omega (arith, more)) (omega (arith, long)) ((first_inner c w inner).1))
-    | inr e ↦ let no : suc n ≤ 0 = rw e at lead in absurd (omega (arith, no))
-  ]
+  starts (suc n) (c ∷ w) p col lead long inner = grind (arith, nat_tests, first_inner, space_then, starts n w (past p))
 
 module _ (literal : Bool) (column : ℕ) where
   abbrev pub scan : List ℕ → BlockState → Result (Read Lines) Fault
@@ -95,8 +89,7 @@ module _ (literal : Bool) (column : ℕ) where
   pub through : (a r : List ℕ) (p q : Position) (l : Lines) (b : List ℕ) → indent_from column a (at p l.breaks) ≡ indent_from column r (at q b) → scan a (front p l) ≡ scan r (front q (record l { breaks = b }))
   through a r p q l b e = grind (arith, nat_tests, margin_passes, before)
 
-  -- ---- empty lines
-
+  -- empty lines
   empty_goes : (l : Line) (a : List ℕ) (p : Position) (x : Lines) → is_spaces l.text ≡ true → p.col + length l.text ≤ column → Fits l.by a
       → scan (l.text ++ put l.by a) (front p x) ≡ scan a (front (after_line l p) (after_row literal empty_row x))
   empty_goes l a p x h le fits = through (l.text ++ put l.by a) a p (after_line l p) x (x.breaks ++ 10 ∷ []) (empty_passes column l a p x.breaks h le fits)
@@ -126,15 +119,11 @@ module _ (literal : Bool) (column : ℕ) where
       let deep : nat_lt z.position.col column ≡ false = le-ltb z.position.col column (omega (arith, in_column)) in
       let stops : indent_from column (z.char ∷ (z.rest ++ a)) (at z.position x.breaks) ≡ record { rest = z.char ∷ (z.rest ++ a); position = z.position; value = record { column = column; breaks = x.breaks } } = rw (deep, and_false (z.char == 32), q.0) refl in
       let first = begins_free column w a z.rest z.char z.position refl z.is z.in_column ends free in
-      through (w ++ a) (z.char ∷ (z.rest ++ a)) p z.position x x.breaks (z.found a x.breaks ∙ sym stops)
-      ∙ begin z.char (z.rest ++ a) z.position x deep q.0 first
-      ∙ chars z.rest a (past z.position) (with_char z.char (begun literal z.char x)) q.1
-      ∙ ap (λ t. scan a (inside (along z.rest (past z.position)) (record { text = t; breaks = []; broken = false; blank = is_blank z.char }))) (append_assoc (x.text ++ between literal x (is_blank z.char)) (z.char ∷ []) z.rest)
-      ∙ ap (λ q. scan a (inside q (written (content_row (z.char ∷ z.rest)) x))) z.ends
-      ∙ ap (λ m. scan a (inside (along w p) (written (content_row m) x))) (sym z.is)
-    where
-      begin : (c : ℕ) (r : List ℕ) (q : Position) (y : Lines) → nat_lt q.col column ≡ false → is_break c ≡ false → begins column q.col (c ∷ r) ≡ true → scan (c ∷ r) (front q y) ≡ scan r (inside (past q) (with_char c (begun literal c y)))
-      begin c r q y deep b e = rw (deep, and_false (c == 32), b, e) refl
+      let margin = through (w ++ a) (z.char ∷ (z.rest ++ a)) p z.position x x.breaks (z.found a x.breaks ∙ sym stops) in
+      let more = chars z.rest a (past z.position) (with_char z.char (begun literal z.char x)) q.1 in
+      let ends_there = z.ends in
+      let is = z.is in
+      margin ∙ rw (deep, and_false (z.char == 32), q.0, first) (more ∙ rw (append_assoc, ends_there, is) refl)
 
 -- ---- rows
 
@@ -163,23 +152,12 @@ module _ (literal : Bool) (column : ℕ) where
   row_goes : (l : Line) (a : List ℕ) (p : Position) (x : Lines) (r : Row) → p.col ≡ 0 → is_in_line l.text ≡ true → Fits l.by a → IsRow column l.text r
       → scan literal column (l.text ++ put l.by a) (front p x) ≡ scan literal column a (front (after_line l p) (after_row literal r x))
   row_goes l a p x empty_row col inner fits (no_content h le) = empty_goes literal column l a p x h (omega (arith, le, col)) fits
-  row_goes l a p x (content_row m) col inner fits (is_content lead long free) =
-      content_chars literal column l.text (put l.by a) p x col inner (break_ends l.by a) lead long free
-      ∙ line_ends literal column l.by a (along l.text p) (written literal column (content_row (drop column l.text)) x) fits
-      ∙ broken_again (drop column l.text)
-    where
-      -- content is never empty here
-      broken_again : (m : List ℕ) → scan literal column a (front (after_line l p) (record (written literal column (content_row m) x) { broken = true })) ≡ scan literal column a (front (after_line l p) (after_row literal (content_row m) x))
-      broken_again b = grind arith
+  row_goes l a p x (content_row m) col inner fits (is_content lead long free) = grind (arith, content_chars, break_ends, line_ends)
 
   pub rows_go : (ls : List Line) (a : List ℕ) (p : Position) (x : Lines) (rs : List Row) → p.col ≡ 0 → AreLines ls a → rows_of column (texts ls) ≡ Some rs
       → scan literal column (spell ls a) (front p x) ≡ scan literal column a (front (after_lines ls p) (after_rows literal rs x))
   rows_go [] a p x rs col are h = let none : [] ≡ rs = cc in ap (λ r. scan literal column a (front p (after_rows literal r x))) none
-  rows_go (l ∷ ls) a p x rs col are h = elim (first_of column l.text (texts ls) rs h) [
-    | first_row r more e is f ↦
-        row_goes l (spell ls a) p x r col are.0 are.1 is ∙ rows_go ls a (after_line l p) (after_row literal r x) more refl are.2 f
-        ∙ ap (λ y. scan literal column a (front (after_lines (l ∷ ls) p) (after_rows literal y x))) (sym e)
-  ]
+  rows_go (l ∷ ls) a p x rs col are h = grind (arith, first_of, row_goes, rows_go ls a (after_line l p))
 
   -- ---- a last line without a break
 

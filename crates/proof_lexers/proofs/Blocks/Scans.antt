@@ -1,10 +1,8 @@
 -- The whole scan of a block scalar whose lines are known.
-use Rattle.proof_lexers.proofs.Common.{[], after_header, along, and_then, ap, append-nil, arith, At, begins_with, Block, block, block_position, BlockRead, Bool, breaks, cases_Bool, chomping_of, collection_of, Column, column_by, content_row, digit_by, digit_or_zero, drop, empty_row, empty_text, Err, false, Fault, first_content, further_position, has_content, Header, header, header_of, indent_from, indicator_of, indicators_of, inl, inr, is_at_end, is_in_line, is_literal_style, is_open, is_spaces, is_tabbed, IsRead, le-ltb, length, Lines, lines_from, List, max, nat_le, nat_lt, nat_tests, None, Ok, past, past_spaces, Position, position_after, position_or, Read, read_header, reads, refl, refuses, Result, Row, rows_of, Some, suc, sym, tab, tail, true, value_before_end, value_before_text, with_content, without_spaces, ℕ, ◌&&◌, ◌++◌, ◌+◌, ◌∙◌, ◌∷◌, ◌≡◌, ◌≤◌, Option}
-use Rattle.yaml_tokens.specs.declared.problem.Problem.TheVariants as problem
+use Rattle.proof_lexers.proofs.Common.{[], after_header, along, and_then, ap, append-nil, arith, At, begins_with, Block, block, block_position, BlockRead, Bool, breaks, cases_Bool, chomping_of, collection_of, Column, column_by, content_row, digit_by, digit_or_zero, drop, empty_row, empty_text, Err, false, Fault, first_content, further_position, has_content, Header, header, header_of, indent_from, indicator_of, indicators_of, inl, inr, is_at_end, is_in_line, is_literal_style, is_open, is_spaces, is_tabbed, IsRead, le-ltb, length, Lines, lines_from, List, max, nat_le, nat_lt, nat_tests, None, Ok, past, past_spaces, Position, position_after, position_or, Read, read_header, reads, refl, refuses, Result, Row, rows_of, Some, suc, sym, tab, tail, true, value_before_end, value_before_text, with_content, without_spaces, ℕ, ◌&&◌, ◌++◌, ◌+◌, ◌∙◌, ◌∷◌, ◌≡◌, ◌≤◌, Option, BlockScalarTab, and_false, both}
 use Rattle.defs_text.specs.Classes as classes
 use Rattle.defs_text.specs.BlockScalar as defs
 use Rattle.model_scanner.specs.BlockScalar.{content}
-use Rattle.proof_lexers.proofs.Bridges.{and_false, both}
 use Rattle.proof_lexers.specs.BlockScan.{read, shallow, is_shallow}
 use Rattle.proof_lexers.proofs.Blocks.First.{content_is}
 use Rattle.proof_lexers.proofs.Blocks.Positions.{spell_more, after_chars, after_put, after_spell, first_header, header_alone, stopped_at, first_is}
@@ -35,7 +33,7 @@ module _ (h : defs.Header) (line : List ℕ) (k : Break) (indent : ℕ) (p : Pos
   unfolding block
   block_is ms e column same are last fits still = grind (arith, content, content_is, at, tab, linebreak_put, header_reads, break_ends, past)
 
-  pub tab_fails : (a : List ℕ) → Fits k a → begins_with tab a ≡ true → scanned a ≡ Err (At problem.BlockScalarTab p)
+  pub tab_fails : (a : List ℕ) → Fits k a → begins_with tab a ≡ true → scanned a ≡ Err (At BlockScalarTab p)
   unfolding block
   tab_fails a fits tab_here = grind (arith, tab, linebreak_put, content, header_tabs, break_ends)
 
@@ -205,10 +203,7 @@ module _ (h : defs.Header) (line : List ℕ) (k : Break) (indent : ℕ) (p : Pos
         let col : last_position.col + column ≡ column = (let e = at_front in omega (arith, e)) in
         let z = starts column column last last_position col lead long last_inner in
         let content_text : last_read.text ++ tail (chomping_of h.chomping) (is_open column [] (along last last_position).col) last_read ≡ value_before_end h column rs last last_row = let open_is : is_open column [] (along last last_position).col ≡ true = ap (λ n. nat_le column n && nat_lt 0 n) far ∙ opens (length last) long in
-        ap (λ b. last_read.text ++ tail (chomping_of h.chomping) b last_read) open_is
-        ∙ ap (λ m. (written (is_literal_style h.style) column (content_row m) rows_read).text ++ tail (chomping_of h.chomping) true (written (is_literal_style h.style) column (content_row m) rows_read)) z.is
-        ∙ last_value h rs z.char z.rest (are_full column (texts ls) rs rows)
-        ∙ ap (λ m. with_content h 0 (rs ++ content_row m ∷ [])) (sym z.is) in
+        rw (open_is, z.is) (last_value h rs z.char z.rest (are_full column (texts ls) rs rows)) in
         content_by last_row last_read (elim (cases_Bool (has_content rs)) [
           | inl e ↦ sees_before e
           | inr e ↦ record {

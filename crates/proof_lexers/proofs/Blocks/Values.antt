@@ -1,7 +1,6 @@
 -- What rows leave in the model's buffers is the text that the definitions give them; where content is found after rows, and what ends them.
-use Rattle.proof_lexers.proofs.Common.{[], ap, append-nil, append_assoc, arith, between, between_lines, BlockStyle, Bool, breaks, chomping_of, clip, content_row, empty_after, empty_row, empty_text, false, has_content, if◌then◌else◌, is_blank, is_literal_style, keep, length, Lines, List, nothing_before_end, nothing_before_text, refl, Row, starts_blank, strip, suc, sym, tail, text_after, text_of, true, with_content, zero, ℕ, ◌++◌, ◌+◌, ◌||◌, ◌∙◌, ◌∷◌, ◌≡◌, drop, indent_from, is_further_text, is_in_line, is_some, list_all, None, Option, Position, row_of, rows_of, Some, ◌≤◌, and_parts, nat_tests, cases_Bool, eqb-true, inl, inr, is_break, is_document_marker, is_outside, lt-ltb, nat_lt, ne_eqb, not, not-true, Ok, past, past_spaces, without_spaces, ◌&&◌, ◌==◌}
+use Rattle.proof_lexers.proofs.Common.{[], ap, append-nil, append_assoc, arith, between, between_lines, BlockStyle, Bool, breaks, chomping_of, clip, content_row, empty_after, empty_row, empty_text, false, has_content, if◌then◌else◌, is_blank, is_literal_style, keep, length, Lines, List, nothing_before_end, nothing_before_text, refl, Row, starts_blank, strip, suc, sym, tail, text_after, text_of, true, with_content, zero, ℕ, ◌++◌, ◌+◌, ◌||◌, ◌∙◌, ◌∷◌, ◌≡◌, drop, indent_from, is_further_text, is_in_line, is_some, list_all, None, Option, Position, row_of, rows_of, Some, ◌≤◌, and_parts, nat_tests, cases_Bool, eqb-true, inl, inr, is_break, is_document_marker, is_outside, lt-ltb, nat_lt, ne_eqb, not, not-true, Ok, past, past_spaces, without_spaces, ◌&&◌, ◌==◌, are_marks, is_nul, same_blank, same_break, same_marker, subst}
 use Rattle.defs_text.specs.BlockScalar as defs
-use Rattle.proof_lexers.proofs.Bridges.{same_blank, same_break, same_marker}
 use Rattle.proof_lexers.proofs.Fold.{more_breaks}
 use Rattle.proof_lexers.proofs.Blocks.Rows.{after_line, after_lines, after_row, after_rows, AreLines, at, Break, break_ends, empty_passes, first_of, first_row, front, is_content, IsRow, Line, no_content, put, scan, spell, starts, texts, through}
 use Rattle.std.proofs.lemmas.List.Folds.{list_all-append}
@@ -34,9 +33,6 @@ record Holds (x : Lines) (text : List ℕ) (n : ℕ) : Type 0 where
   breaks_are : x.breaks ≡ breaks n
   is_broken : x.broken ≡ true
 
-holds_on : (x y : Lines) (t u : List ℕ) (n : ℕ) → x ≡ y → t ≡ u → Holds y t n → Holds x u n
-holds_on x y t u n e f z = record { text_is = ap (λ (l : Lines). l.text) e ∙ z.text_is ∙ f; breaks_are = ap (λ (l : Lines). l.breaks) e ∙ z.breaks_are; is_broken = ap (λ (l : Lines). l.broken) e ∙ z.is_broken }
-
 module _ (s : BlockStyle) where
   abbrev rows_after : List Row → Lines → Lines
   rows_after rs l = after_rows (is_literal_style s) rs l
@@ -49,21 +45,17 @@ module _ (s : BlockStyle) where
   text_goes (content_row (c ∷ m) ∷ rs) t l n b full e =
       let gap = between_lines s n (starts_blank l || starts_blank (c ∷ m)) in
       let same : between (is_literal_style s) (after_content t n b) (is_blank c) ≡ gap = (grind arith) ∙ ap (λ k. between_lines s n (k || is_blank c)) e ∙ ap (λ k. between_lines s n (starts_blank l || k)) (sym (same_blank c)) in
-      holds_on _ (rows_after rs (after_content ((t ++ gap) ++ c ∷ m) 0 (is_blank c))) (((t ++ gap) ++ c ∷ m) ++ text_after s (c ∷ m) 0 rs) _ _
-      (ap (λ g. rows_after rs (after_content ((t ++ g) ++ c ∷ m) 0 (is_blank c))) same)
-      (ap (λ y. y ++ text_after s (c ∷ m) 0 rs) (append_assoc t gap (c ∷ m)) ∙ append_assoc t (gap ++ c ∷ m) (text_after s (c ∷ m) 0 rs))
-      (text_goes rs ((t ++ gap) ++ c ∷ m) (c ∷ m) 0 (is_blank c) full (sym (same_blank c)))
+      let here = λ (g : List ℕ). rows_after rs (after_content ((t ++ g) ++ c ∷ m) 0 (is_blank c)) in
+      subst (λ g. Holds (here g) (t ++ text_after s l n (content_row (c ∷ m) ∷ rs)) (empty_after 0 rs)) (sym same)
+      (subst (λ u. Holds (here gap) u (empty_after 0 rs)) (ap (λ y. y ++ text_after s (c ∷ m) 0 rs) (append_assoc t gap (c ∷ m)) ∙ append_assoc t (gap ++ c ∷ m) _)
+      (text_goes rs ((t ++ gap) ++ c ∷ m) (c ∷ m) 0 (is_blank c) full (sym (same_blank c))))
 
   first_goes : (rs : List Row) (n k : ℕ) → AreFull rs → has_content rs ≡ true → Holds (rows_after rs (after_empty n)) (breaks n ++ text_of s rs) (empty_after k rs)
   unfolding between
   first_goes [] n k full h = cc
   first_goes (empty_row ∷ rs) n k full h = grind (arith, more_breaks, break_before, first_goes rs (suc n) (suc k) full h)
   first_goes (content_row [] ∷ rs) n k full h = absurd full
-  first_goes (content_row (c ∷ m) ∷ rs) n k full h =
-      holds_on _ (rows_after rs (after_content (breaks n ++ c ∷ m) 0 (is_blank c))) ((breaks n ++ c ∷ m) ++ text_after s (c ∷ m) 0 rs) _ _
-      (ap (λ g. rows_after rs (after_content (g ++ c ∷ m) 0 (is_blank c))) (grind arith))
-      (append_assoc (breaks n) (c ∷ m) (text_after s (c ∷ m) 0 rs))
-      (text_goes rs (breaks n ++ c ∷ m) (c ∷ m) 0 (is_blank c) full (sym (same_blank c)))
+  first_goes (content_row (c ∷ m) ∷ rs) n k full h = grind (arith, same_blank, append_assoc, text_goes rs (breaks n ++ c ∷ m) (c ∷ m) 0 (is_blank c) full)
 
   pub none_goes : (rs : List Row) (n : ℕ) → has_content rs ≡ false → rows_after rs (after_empty n) ≡ after_empty (n + length rs)
   none_goes [] n h = let none : n ≡ n + 0 = omega arith in ap after_empty none
@@ -88,8 +80,7 @@ pub content_value : (h : defs.Header) (unbroken : Bool) (rs : List Row) → AreF
     → (after_rows (is_literal_style h.style) rs (after_empty 0)).text ++ tail (chomping_of h.chomping) unbroken (after_rows (is_literal_style h.style) rs (after_empty 0)) ≡ with_content h (added unbroken) rs
 content_value h unbroken rs full some =
     let z = first_goes h.style rs 0 0 full some in
-    ap (λ t. t ++ tail (chomping_of h.chomping) unbroken (after_rows (is_literal_style h.style) rs (after_empty 0))) z.text_is
-    ∙ ap (λ t. text_of h.style rs ++ t) (tail_is h.chomping unbroken _ (empty_after 0 rs) z.breaks_are z.is_broken)
+    rw (z.text_is) (ap (λ t. text_of h.style rs ++ t) (tail_is h.chomping unbroken _ (empty_after 0 rs) z.breaks_are z.is_broken))
 
 pub empty_value : (h : defs.Header) (rs : List Row) → has_content rs ≡ false
     → (after_rows (is_literal_style h.style) rs (after_empty 0)).text ++ tail (chomping_of h.chomping) false (after_rows (is_literal_style h.style) rs (after_empty 0)) ≡ nothing_before_text h.chomping (length rs)
@@ -128,8 +119,6 @@ last_value h rs c m full =
     let none : breaks (empty_after 0 all) ≡ [] = sym z.breaks_are ∙ ap (λ (l : Lines). l.breaks) more in
     ap (λ t. t ++ tail (chomping_of h.chomping) true (record x { broken = false })) text ∙ ap (λ t. text_of h.style all ++ t) (grind arith)
 
--- ---- where content is found after rows, and how far rows go in a text
-
 -- ---- content is never empty
 
 drop_some : (n : ℕ) (w : List ℕ) (rs : List Row) → suc n ≤ length w → AreFull rs → AreFull (content_row (drop n w) ∷ rs)
@@ -142,7 +131,7 @@ row_full column w a rs b full = grind (arith, nat_tests, drop_some)
 
 pub are_full : (column : ℕ) (ws : List (List ℕ)) (rs : List Row) → rows_of column ws ≡ Some rs → AreFull rs
 are_full column [] rs h = let none : [] ≡ rs = cc in rw (← none) tt
-are_full column (w ∷ ws) rs h = elim (first_of column w ws rs h) [ first_row r more e is f ↦ rw e (row_full column w r more is (are_full column ws more f)) ]
+are_full column (w ∷ ws) rs h = grind (arith, first_of, row_full, are_full column ws)
 
 -- a line and its break have no NUL, nor has the text after them
 pub of_line : (l : Line) (a : List ℕ) → list_all is_some (l.text ++ put l.by a) ≡ true → (list_all is_some l.text ≡ true) × (list_all is_some a ≡ true)
@@ -174,8 +163,7 @@ module _ (column : ℕ) where
         record { char = z.char; rest = λ a. z.rest ++ put l.by (spell ls a); position = z.position; breaks_before = b; in_column = z.in_column; found = λ a are. z.found (put l.by (spell ls a)) b }
   ]
 
-  -- ---- empty lines alone
-
+  -- empty lines alone
   pub all_empty : (ls : List Line) (a : List ℕ) (p : Position) (b : List ℕ) (rs : List Row) → p.col ≡ 0 → AreLines ls a → rows_of column (texts ls) ≡ Some rs → has_content rs ≡ false
       → indent_from column (spell ls a) (at p b) ≡ indent_from column a (at (after_lines ls p) (b ++ breaks (length rs)))
   all_empty [] a p b rs col are h none = grind (arith, append-nil)
@@ -206,8 +194,6 @@ module _ (column : ℕ) where
   walked [] e are inner some = last_walked e (row_of column e) refl inner some
   walked (l ∷ ms) e are inner some = line_walked l ms e (row_of column l.text) refl are.0 some (walked ms e are.2 inner (of_line l (spell ms e) some).1)
 
--- ---- further text ends a block scalar
-
 -- ---- text outside
 
 -- Where a scalar's lines end: after spaces, before a character that is none of its lines'.
@@ -236,12 +222,12 @@ outside (suc n) column [] p col h = cc
 outside (suc n) column (c ∷ r) p col h = elim (cases_Bool (c == 32)) [
   | inl e ↦ space_outside column c r p e (lt-ltb p.col column (omega (arith, col))) (outside n column r (past p) (omega (arith, col)) (rw e at h))
   | inr e ↦
-      let q = and_parts (not (classes.is_break c)) (not (classes.is_nul c)) (rw e at h) in
+      let q = and_parts (not (classes.is_break c)) (not (is_nul c)) (rw e at h) in
       here_outside column c r p e (sym (same_break c) ∙ not-true _ q.0) (omega (arith, col)) (grind (arith, ne_eqb))
 ]
 
 marked : (r : List ℕ) (p : Position) → p.col ≡ 0 → is_document_marker r ≡ true → Outside 0 r p
-unfolding begins classes.are_marks is_break
+unfolding begins are_marks is_break
 marked a p col h = grind (arith, same_marker, begins, here_outside)
 
 pub further_outside : (column : ℕ) (r : List ℕ) (p : Position) → p.col ≡ 0 → is_further_text column r ≡ true → Outside column r p
@@ -252,9 +238,4 @@ pub further_stops : (literal : Bool) (column : ℕ) (r : List ℕ) (p : Position
 further_stops literal column r p x z =
     let stops : indent_from column (z.char ∷ z.rest) (at z.position x.breaks) ≡ record { rest = z.char ∷ z.rest; position = z.position; value = record { column = column; breaks = x.breaks } } = rw (z.margin, z.solid) refl in
     through literal column r (z.char ∷ z.rest) p z.position x x.breaks (z.found x.breaks ∙ sym stops)
-    ∙ stop z.char z.rest z.position z.margin z.solid z.none
-    ∙ ap (λ a. Ok (record { rest = a; position = z.position; value = x })) (sym z.is)
-    ∙ ap (λ q. Ok (record { rest = without_spaces r; position = q; value = x })) (sym z.at_position)
-  where
-    stop : (c : ℕ) (a : List ℕ) (q : Position) → ((c == 32) && nat_lt q.col column) ≡ false → is_break c ≡ false → begins column q.col (c ∷ a) ≡ false → scan literal column (c ∷ a) (front q x) ≡ Ok (record { rest = c ∷ a; position = q; value = x })
-    stop c a q m b n = rw (m, b, n) refl
+    ∙ rw (z.margin, z.solid, z.none, z.is, z.at_position) refl

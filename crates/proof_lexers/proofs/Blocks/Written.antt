@@ -1,7 +1,6 @@
 -- Each text is lines, each with its break as written, and a last line without one.
-use Rattle.proof_lexers.proofs.Common.{[], and-false, and_parts, ap, cases_Bool, eqb-true, false, inl, inr, is_break, is_in_line, List, or_cases, refl, slice_index, Split, split, true, with_empty_line, ℕ, ◌&&◌, ◌++◌, ◌==◌, ◌∙◌, ◌∷◌, ◌≡◌, arith, nat_tests, not, not-true}
+use Rattle.proof_lexers.proofs.Common.{[], and-false, and_parts, ap, cases_Bool, eqb-true, false, inl, inr, is_break, is_in_line, List, or_cases, refl, slice_index, Split, split, true, with_empty_line, ℕ, ◌&&◌, ◌++◌, ◌==◌, ◌∙◌, ◌∷◌, ◌≡◌, arith, nat_tests, not, not-true, same_break}
 use Rattle.defs_text.specs.Classes as classes
-use Rattle.proof_lexers.proofs.Bridges.{same_break}
 
 -- the first character of a line, and the others
 pub first_inner : (c : ℕ) (w : List ℕ) → is_in_line (c ∷ w) ≡ true → (is_break c ≡ false) × (is_in_line w ≡ true)
@@ -55,7 +54,7 @@ pub record Lined (a : List ℕ) : Type 0 where
 
 module _ (c : ℕ) (a : List ℕ) (z : Lined a) where
   char_line : (ls : List Line) → a ≡ spell ls z.last → AreLines ls z.last → is_break c ≡ false → Lined (c ∷ a)
-  char_line [] is are h = record { lines = []; last = c ∷ z.last; is = ap (λ r. c ∷ r) is; are = tt; inner = rw (same_break c, h) z.inner }
+  char_line [] is are h = grind (arith, same_break)
   char_line (l ∷ ls) is are h = record { lines = record { text = c ∷ l.text; by = l.by } ∷ ls; last = z.last; is = ap (λ r. c ∷ r) is; are = (rw (same_break c, h) (are.0), are.1, are.2); inner = z.inner }
 
   lone_break : is_break c ≡ true → ((c == 13) && (slice_index a 0 == 10)) ≡ false → Lined (c ∷ a)
@@ -91,11 +90,8 @@ split_line : (w a : List ℕ) (ls : List (List ℕ)) (r : List ℕ) → is_in_li
 split_line [] a ls r h e = e
 split_line (c ∷ w) a ls r h e = grind (arith, first_inner, same_break, split_line w a ls r)
 
-split_break : (b : Break) (a : List ℕ) → Fits b a → split (put b a) ≡ with_empty_line (split a)
-unfolding classes.is_break
-split_break b a h = grind (arith)
-
 pub split_spell : (ls : List Line) (r : List ℕ) → AreLines ls r → is_in_line r ≡ true → split (spell ls r) ≡ of_lines (texts ls) r
+unfolding classes.is_break
 split_spell [] r are h = split_last r h
 split_spell (l ∷ ls) r are h =
-    split_line l.text (put l.by (spell ls r)) (texts ls) r are.0 (split_break l.by (spell ls r) are.1 ∙ ap with_empty_line (split_spell ls r are.2 h))
+    split_line l.text (put l.by (spell ls r)) (texts ls) r are.0 ((grind (arith)) ∙ ap with_empty_line (split_spell ls r are.2 h))

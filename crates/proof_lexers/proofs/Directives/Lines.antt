@@ -1,18 +1,15 @@
 -- Directives are read as their lines say, and no other text is.
-use Rattle.proof_lexers.proofs.Common.{[], after, after_declaration, after_major, after_value, after_version, and_then, ap, append-nil, append_assoc, arith, At, begins_prefix, begins_with, blanks, by_comment, by_declaration, by_name, by_octets, by_version, cases_Bool, codes, declaration_by, decoded, Directive, directive, directive_of, DirectivesAreRead, DirectivesEndAsTheirTextSays, eqb-true, Err, false, Fault, first_break, further, handle_and_rest, has_no_break, if◌then◌else◌, inl, inr, is_alpha, is_alphanumeric, is_at_gap, is_blank, is_flow, is_handle, is_rest_of_line, is_same, is_tag, is_uri, is_uri_mark, IsDirectiveRefusal, IsNoDeclaration, IsNoVersion, kind, leading, length, length-append, List, long_major, long_minor, name, next_line, no_major, no_minor, no_name, no_point, no_prefix, None, not-false, not-true, number, number_of, Ok, open_name, past, Position, prefix, prefix_after, Problem, problem_of, Read, reads, refl, refuses, reserved, Result, skip_while, slice_index, Some, suc, sym, tag, tag_declaration, tag_value, token_of, true, unknown, UriFault, value, version, version_of, version_value, with_minor, with_prefix, ℕ, ◌++◌, ◌+◌, ◌==◌, ◌||◌, ◌∙◌, ◌∷◌, ◌≡◌, nat_tests}
+use Rattle.proof_lexers.proofs.Common.{[], after, after_declaration, after_major, after_value, after_version, and_then, ap, append-nil, append_assoc, arith, At, begins_prefix, begins_with, blanks, by_comment, by_declaration, by_name, by_octets, by_version, cases_Bool, codes, declaration_by, decoded, Directive, directive, directive_of, DirectivesAreRead, DirectivesEndAsTheirTextSays, eqb-true, Err, false, Fault, first_break, further, handle_and_rest, has_no_break, if◌then◌else◌, inl, inr, is_alpha, is_alphanumeric, is_at_gap, is_blank, is_flow, is_handle, is_rest_of_line, is_same, is_tag, is_uri, is_uri_mark, IsDirectiveRefusal, IsNoDeclaration, IsNoVersion, kind, leading, length, length-append, List, long_major, long_minor, name, next_line, no_major, no_minor, no_name, no_point, no_prefix, None, not-false, not-true, number, number_of, Ok, open_name, past, Position, prefix, prefix_after, Problem, problem_of, Read, reads, refl, refuses, reserved, Result, skip_while, slice_index, Some, suc, sym, tag, tag_declaration, tag_value, token_of, true, unknown, UriFault, value, version, version_of, version_value, with_minor, with_prefix, ℕ, ◌++◌, ◌+◌, ◌==◌, ◌||◌, ◌∙◌, ◌∷◌, ◌≡◌, nat_tests, is_apart, CommentNotSeparated, DirectiveEnd, DirectiveName, DirectiveNameEnd, GlobalTagCharacter, TagDirectiveEnd, TagDirectiveHandle, TagStart, VersionDot, VersionNumber, VersionTooLong, is_blank_or_end, is_nul, is_decimal_digit, is_letter, same_blank, same_alpha, same_tag, same_place, before_end, skipped, span_cut}
 use Rattle.defs_token.specs.Token.{Tok}
-use Rattle.yaml_tokens.specs.declared.problem.Problem.TheVariants as problem
 use Rattle.defs_text.specs.Classes as classes
 use Rattle.defs_text.specs.Directives as defs
 use Rattle.model_scanner.specs.Directive.{after_name}
-use Rattle.proof_lexers.proofs.Bridges.{same_blank, same_alpha, same_tag}
 use Rattle.proof_lexers.specs.DirectiveEnds.{ends_line, after_line, no_mark, goes_on, whole_directive, no_directive}
 use Rattle.proof_lexers.proofs.Separation.Positions.{position_append, position_in_line}
 use Rattle.proof_lexers.proofs.Properties.Uris.{uris_are_read}
 use Rattle.proof_lexers.proofs.RestOfLine.{first_line, in_line, line_skipped}
 use Rattle.proof_lexers.proofs.Directives.Values.{none_at_end, no_break_after, ended, comment, text, line_ends, spells_name, kind_is, gap_is, missing, long, found, number_sees, not_at_end, handle_sees}
 use Rattle.proof_lexers.proofs.Directives.Values as values
-use Rattle.proof_lexers.proofs.Classes.{same_place, before_end, skipped, span_cut}
 
 pub same_text : (a b : List ℕ) → is_same a b ≡ true → a ≡ b
 same_text [] b h = grind arith
@@ -20,7 +17,7 @@ same_text (c ∷ a) [] h = cc
 same_text (c ∷ a) (d ∷ b) h = grind (arith, eqb-true, same_text a b)
 
 no_tag_at_end : (n : List ℕ) → ends_line n ≡ true → is_tag (slice_index n 0) ≡ false
-unfolding is_tag is_uri is_alphanumeric is_uri_mark is_flow classes.is_tag classes.is_uri classes.is_decimal_digit classes.is_letter classes.is_flow
+unfolding is_tag is_uri is_alphanumeric is_uri_mark is_flow classes.is_tag classes.is_uri is_decimal_digit is_letter classes.is_flow
 no_tag_at_end [] h = refl
 no_tag_at_end (c ∷ n) h = sym (same_tag c) ∙ none_at_end classes.is_tag refl refl (c ∷ n) h
 
@@ -30,19 +27,18 @@ data Told (start : Position) (l n : List ℕ) (x : Result (Read Tok) Fault) : Ty
   fails : (f : Fault) → directive_of (37 ∷ l) ≡ None → IsDirectiveRefusal start l f → x ≡ Err f → Told start l n x
 
 module _ (start : Position) (l n : List ℕ) (line : has_no_break l ≡ true) (ends : ends_line n ≡ true) where
-  -- ---- the line's end
-
+  -- the line's end
   finish : (before m : List ℕ) (d : Directive) (p : Position) → l ≡ before ++ m → p ≡ further (suc (length before)) start → directive_of (37 ∷ l) ≡ (if is_rest_of_line m then Some d else None)
-      → ((k : List ℕ) → m ≡ 35 ∷ k → IsDirectiveRefusal start l (At problem.CommentNotSeparated (further (suc (length before)) start)))
-      → (is_rest_of_line m ≡ false → begins_with 35 m ≡ false → IsDirectiveRefusal start l (At problem.DirectiveEnd start)) → Told start l n (after_value start (record { rest = m ++ n; position = p; value = token_of d }))
+      → ((k : List ℕ) → m ≡ 35 ∷ k → IsDirectiveRefusal start l (At CommentNotSeparated (further (suc (length before)) start)))
+      → (is_rest_of_line m ≡ false → begins_with 35 m ≡ false → IsDirectiveRefusal start l (At DirectiveEnd start)) → Told start l n (after_value start (record { rest = m ++ n; position = p; value = token_of d }))
   unfolding classes.is_break
   finish before m d p cut position says by_hash by_other = elim (line_ends start p m n (no_break_after before m (ap has_no_break (sym cut) ∙ line)) ends) [
     | ended is e ↦ rw e (is_directive d (says ∙ rw is refl) (ap (λ q. Ok (record { rest = next_line n; position = q; value = token_of d })) (grind (arith, nat_tests, length-append, further, first_break, same_place, position_in_line, position_append))))
     | comment begins none e ↦ rw (e, position) (fails _ (says ∙ rw none refl) (glued m refl begins) refl)
-    | text none begins e ↦ rw e (fails (At problem.DirectiveEnd start) (says ∙ rw none refl) (by_other none begins) refl)
+    | text none begins e ↦ rw e (fails (At DirectiveEnd start) (says ∙ rw none refl) (by_other none begins) refl)
   ]
     where
-      glued : (k : List ℕ) → m ≡ k → begins_with 35 k ≡ true → IsDirectiveRefusal start l (At problem.CommentNotSeparated (further (suc (length before)) start))
+      glued : (k : List ℕ) → m ≡ k → begins_with 35 k ≡ true → IsDirectiveRefusal start l (At CommentNotSeparated (further (suc (length before)) start))
       glued a e b = grind arith
 
   -- ---- words
@@ -71,7 +67,7 @@ module _ (start : Position) (l n : List ℕ) (line : has_no_break l ≡ true) (e
 
   module _ (word : leading classes.is_alpha l ≡ codes "YAML") (gap : is_at_gap after_word ≡ true) where
     abbrev major : List ℕ
-    major = leading classes.is_decimal_digit said
+    major = leading is_decimal_digit said
 
     says_version : directive_of (37 ∷ l) ≡ version_of said
     unfolding directive_of
@@ -81,21 +77,21 @@ module _ (start : Position) (l n : List ℕ) (line : has_no_break l ≡ true) (e
     version_refused why x none reason e = fails (At why start) (says_version ∙ none) (by_version why (record { is_name = word; is_whole = gap }) reason) e
 
     -- after the minor number
-    version_end : (s minor : List ℕ) (v w : ℕ) → after classes.is_decimal_digit said ≡ 46 ∷ s → leading classes.is_decimal_digit s ≡ minor → number_of major ≡ Some v → number_of minor ≡ Some w
-        → Told start l n (after_value start (record { rest = after classes.is_decimal_digit s ++ n; position = further (length minor) (past (further (length major) said_position)); value = Tok.version_directive v w }))
+    version_end : (s minor : List ℕ) (v w : ℕ) → after is_decimal_digit said ≡ 46 ∷ s → leading is_decimal_digit s ≡ minor → number_of major ≡ Some v → number_of minor ≡ Some w
+        → Told start l n (after_value start (record { rest = after is_decimal_digit s ++ n; position = further (length minor) (past (further (length major) said_position)); value = Tok.version_directive v w }))
     version_end s minor v w point lead is is_w =
         finish before rest (defs.version v w) _ cut position (says_version ∙ rw (point, lead, is, is_w) refl)
         (λ k e. by_comment before k (cut ∙ ap (λ r. before ++ r) e) (record { major = v; minor = w; point = s; is_version = record { is_name = word; is_whole = gap }; has_point = point; is_major = is; is_minor = ap number_of lead ∙ is_w; is_before = e }))
         (λ none begins. after_version rest (record { major = v; minor = w; point = s; is_version = record { is_name = word; is_whole = gap }; has_point = point; is_major = is; is_minor = ap number_of lead ∙ is_w; is_before = refl }) none begins)
       where
         rest : List ℕ
-        rest = after classes.is_decimal_digit s
+        rest = after is_decimal_digit s
 
         before : List ℕ
         before = leading classes.is_alpha l ++ (leading classes.is_blank after_word ++ (major ++ 46 ∷ minor))
 
         tail : said ≡ major ++ (46 ∷ (minor ++ rest))
-        tail = span_cut classes.is_decimal_digit said ∙ ap (λ r. major ++ r) (point ∙ ap (λ r. 46 ∷ r) (span_cut classes.is_decimal_digit s ∙ ap (λ r. r ++ rest) lead))
+        tail = span_cut is_decimal_digit said ∙ ap (λ r. major ++ r) (point ∙ ap (λ r. 46 ∷ r) (span_cut is_decimal_digit s ∙ ap (λ r. r ++ rest) lead))
 
         cut : l ≡ before ++ rest
         cut = grind (arith, from_word, tail, append_assoc)
@@ -103,33 +99,33 @@ module _ (start : Position) (l n : List ℕ) (line : has_no_break l ≡ true) (e
         position : further (length minor) (past (further (length major) said_position)) ≡ further (suc (length before)) start
         position = grind (arith, length-append, same_place)
 
-    minor_read : (s : List ℕ) (v : ℕ) → after classes.is_decimal_digit said ≡ 46 ∷ s → number_of major ≡ Some v
+    minor_read : (s : List ℕ) (v : ℕ) → after is_decimal_digit said ≡ 46 ∷ s → number_of major ≡ Some v
         → Told start l n (and_then (and_then (number start (s ++ n) (past (further (length major) said_position))) (λ k. Ok (with_minor v k))) (λ t. after_value start t))
     minor_read s v point is = elim (number_sees start (past (further (length major) said_position)) s n ends) [
-      | missing none without e ↦ rw e (version_refused problem.VersionNumber _ (no_version without) (no_minor v s is point none) refl)
-      | long much without e ↦ rw e (version_refused problem.VersionTooLong _ (no_version without) (long_minor v s is point much) refl)
-      | found w is_w e ↦ rw e (version_end s (leading classes.is_decimal_digit s) v w point refl is is_w)
+      | missing none without e ↦ rw e (version_refused VersionNumber _ (no_version without) (no_minor v s is point none) refl)
+      | long much without e ↦ rw e (version_refused VersionTooLong _ (no_version without) (long_minor v s is point much) refl)
+      | found w is_w e ↦ rw e (version_end s (leading is_decimal_digit s) v w point refl is is_w)
     ]
       where
-        no_version : number_of (leading classes.is_decimal_digit s) ≡ None → version_of said ≡ None
+        no_version : number_of (leading is_decimal_digit s) ≡ None → version_of said ≡ None
         no_version without = rw (point, is, without) (grind arith)
 
-    point_read : (r : List ℕ) (v : ℕ) → after classes.is_decimal_digit said ≡ r → number_of major ≡ Some v
+    point_read : (r : List ℕ) (v : ℕ) → after is_decimal_digit said ≡ r → number_of major ≡ Some v
         → Told start l n (and_then (after_major start (record { rest = r ++ n; position = further (length major) said_position; value = v })) (λ t. after_value start t))
     point_read [] v rest is =
         let none = not_at_end 46 refl refl refl n ends in
-        version_refused problem.VersionDot _ (rw rest refl) (no_point v is (rw rest refl)) (rw none refl)
+        version_refused VersionDot _ (rw rest refl) (no_point v is (rw rest refl)) (rw none refl)
     point_read (c ∷ s) v rest is = elim (cases_Bool (c == 46)) [
       | inl e ↦ let same : c ≡ 46 = eqb-true c 46 e in rw e (minor_read s v (rest ∙ ap (λ k. k ∷ s) same) is)
-      | inr e ↦ version_refused problem.VersionDot _ (rw (rest, e) refl) (no_point v is (rw (rest, e) refl)) (rw e refl)
+      | inr e ↦ version_refused VersionDot _ (rw (rest, e) refl) (no_point v is (rw (rest, e) refl)) (rw e refl)
     ]
 
     versions : Told start l n (and_then (value start version (after_word ++ n) word_position) (λ t. after_value start t))
     unfolding version_value
     versions = rw (blanks_skipped after_word word_position) (elim (number_sees start said_position said n ends) [
-      | missing none without e ↦ rw e (version_refused problem.VersionNumber _ (rw without (grind (arith, after))) (no_major none) refl)
-      | long much without e ↦ rw e (version_refused problem.VersionTooLong _ (rw without (grind (arith, after))) (long_major much) refl)
-      | found v is e ↦ rw e (point_read (after classes.is_decimal_digit said) v refl is)
+      | missing none without e ↦ rw e (version_refused VersionNumber _ (rw without (grind (arith, after))) (no_major none) refl)
+      | long much without e ↦ rw e (version_refused VersionTooLong _ (rw without (grind (arith, after))) (long_major much) refl)
+      | found v is e ↦ rw e (point_read (after is_decimal_digit said) v refl is)
     ])
 
   -- ---- declarations
@@ -165,7 +161,7 @@ module _ (start : Position) (l n : List ℕ) (line : has_no_break l ≡ true) (e
     declaration_refused why x none reason e = fails (At why start) ((rw (word, gap) refl) ∙ none) (by_declaration why (record { is_name = word; is_whole = gap }) reason) e
 
     gap_missing : (r : List ℕ) → is_at_gap r ≡ false → is_rest_of_line r ≡ false
-    unfolding classes.is_blank_or_end
+    unfolding is_blank_or_end
     gap_missing a h = grind arith
 
     module _ (is : is_handle handle_is ≡ true) (spelled : said ≡ handle_is ++ after_handle) where
@@ -174,7 +170,7 @@ module _ (start : Position) (l n : List ℕ) (line : has_no_break l ≡ true) (e
 
       declaration_end : (cs : List ℕ) → begins_prefix from_prefix ≡ true → decoded prefix_text ≡ Ok cs → is_at_gap after_prefix ≡ true
           → Told start l n (after_value start (record { rest = after_prefix ++ n; position = further (length prefix_text) prefix_position; value = Tok.tag_directive handle_is cs }))
-      unfolding directive_of classes.is_blank_or_end classes.is_blank classes.is_break classes.is_nul
+      unfolding directive_of is_blank_or_end classes.is_blank classes.is_break is_nul
       declaration_end cs begins means apart =
           finish before after_prefix (tag_declaration handle_is cs) _ cut position ((rw (word, gap) refl) ∙ declares cs begins means)
           (λ k e. absurd (cc (sym (ap is_at_gap e) ∙ apart)))
@@ -198,10 +194,10 @@ module _ (start : Position) (l n : List ℕ) (line : has_no_break l ≡ true) (e
       prefix_result (Err f) = Err (At (problem_of f) start)
 
       prefix_is : ((slice_index (from_prefix ++ n) 0 == 33) || is_tag (slice_index (from_prefix ++ n) 0)) ≡ true → prefix start (from_prefix ++ n) prefix_position ≡ prefix_result (decoded prefix_text)
-      unfolding prefix classes.is_uri classes.is_decimal_digit classes.is_letter
+      unfolding prefix classes.is_uri is_decimal_digit is_letter
       prefix_is e = grind (arith, nat_tests, before_end, none_at_end, uris_are_read, after)
 
-      prefix_fails : ((slice_index (from_prefix ++ n) 0 == 33) || is_tag (slice_index (from_prefix ++ n) 0)) ≡ false → prefix start (from_prefix ++ n) prefix_position ≡ Err (At problem.GlobalTagCharacter start)
+      prefix_fails : ((slice_index (from_prefix ++ n) 0 == 33) || is_tag (slice_index (from_prefix ++ n) 0)) ≡ false → prefix start (from_prefix ++ n) prefix_position ≡ Err (At GlobalTagCharacter start)
       unfolding prefix
       prefix_fails e = rw e refl
 
@@ -211,25 +207,24 @@ module _ (start : Position) (l n : List ℕ) (line : has_no_break l ≡ true) (e
       characters_read (Err f) begins means = declaration_refused (problem_of f) _ (rw (is, begins, means) refl) (by_octets f is begins means) refl
       characters_read (Ok cs) begins means = elim (cases_Bool (is_at_gap after_prefix)) [
         | inl e ↦ rw (gap_is after_prefix n ends, e) (declaration_end cs begins means e)
-        | inr e ↦ declaration_refused problem.TagDirectiveEnd _ (declares cs begins means ∙ rw (gap_missing after_prefix e) refl) (goes_on cs is begins means e) (rw (gap_is after_prefix n ends, e) refl)
+        | inr e ↦ declaration_refused TagDirectiveEnd _ (declares cs begins means ∙ rw (gap_missing after_prefix e) refl) (goes_on cs is begins means e) (rw (gap_is after_prefix n ends, e) refl)
       ]
 
       prefix_read : Told start l n (and_then (prefix_after start handle_is (blanks (after_handle ++ n) handle_position)) (λ t. after_value start t))
       prefix_read = rw (blanks_skipped after_handle handle_position) (elim (cases_Bool (begins_prefix from_prefix)) [
         | inl e ↦ rw (prefix_is (begins_with_prefix from_prefix ∙ e)) (characters_read (decoded prefix_text) e refl)
-        | inr e ↦ declaration_refused problem.GlobalTagCharacter _ (rw (is, e) refl) (no_prefix is e) (ap (λ x. and_then (and_then x (λ q. with_prefix start handle_is q)) (λ t. after_value start t)) (prefix_fails (begins_with_prefix from_prefix ∙ e)))
+        | inr e ↦ declaration_refused GlobalTagCharacter _ (rw (is, e) refl) (no_prefix is e) (ap (λ x. and_then (and_then x (λ q. with_prefix start handle_is q)) (λ t. after_value start t)) (prefix_fails (begins_with_prefix from_prefix ∙ e)))
       ])
 
     declarations : Told start l n (and_then (value start tag (after_word ++ n) word_position) (λ t. after_value start t))
     unfolding tag_value
     declarations = rw (blanks_skipped after_word word_position) (elim (handle_sees start said_position said n ends) [
-      | values.no_mark none without e ↦ rw e (declaration_refused problem.TagStart _ (rw without refl) (no_mark none) refl)
-      | values.open_name c name rest same lead none without e ↦ rw e (declaration_refused problem.TagDirectiveHandle _ (rw without refl) (open_name c name rest same lead none) refl)
+      | values.no_mark none without e ↦ rw e (declaration_refused TagStart _ (rw without refl) (no_mark none) refl)
+      | values.open_name c name rest same lead none without e ↦ rw e (declaration_refused TagDirectiveHandle _ (rw without refl) (open_name c name rest same lead none) refl)
       | values.found is spelled e ↦ rw e (prefix_read is spelled)
     ])
 
-  -- ---- other directives
-
+  -- other directives
   ignored : (c : ℕ) (w : List ℕ) → leading classes.is_alpha l ≡ c ∷ w → is_same (c ∷ w) (codes "YAML") ≡ false → is_same (c ∷ w) (codes "TAG") ≡ false → is_at_gap after_word ≡ true
       → Told start l n (and_then (value start unknown (after_word ++ n) word_position) (λ t. after_value start t))
   unfolding directive_of
@@ -252,13 +247,13 @@ module _ (start : Position) (l n : List ℕ) (line : has_no_break l ≡ true) (e
   ]
 
   by_word : (w : List ℕ) → leading classes.is_alpha l ≡ w → Told start l n (directive (37 ∷ (l ++ n)) start)
-  unfolding directive name directive_of classes.is_alpha classes.is_decimal_digit classes.is_letter
+  unfolding directive name directive_of classes.is_alpha is_decimal_digit is_letter
   by_word [] lead =
       let no_letter : is_alpha (slice_index (l ++ n) 0) ≡ false = not-true (is_alpha (slice_index (l ++ n) 0)) (spells_name [] l n refl ends ∙ rw lead refl) in
-      fails (At problem.DirectiveName (past start)) (rw lead refl) (no_name lead) (rw no_letter refl)
+      fails (At DirectiveName (past start)) (rw lead refl) (no_name lead) (rw no_letter refl)
   by_word (c ∷ w) lead = let word_skipped : skip_while is_alpha (l ++ n) (past start) ≡ record { rest = after_word ++ n; position = word_position; value = tt } = let q = before_end classes.is_alpha l n (none_at_end classes.is_alpha refl refl n ends) in skipped classes.is_alpha is_alpha same_alpha (l ++ n) (past start) ∙ rw (q.0, q.1) refl in rw (not-false (is_alpha (slice_index (l ++ n) 0)) (spells_name [] l n refl ends ∙ rw lead refl), word_skipped, gap_is after_word n ends) (elim (cases_Bool (is_at_gap after_word)) [
     | inl e ↦ rw e (by_kind c w lead e)
-    | inr e ↦ rw e (fails (At problem.DirectiveNameEnd (past start)) (rw (lead, e) refl) (by_name (rw lead refl) e) refl)
+    | inr e ↦ rw e (fails (At DirectiveNameEnd (past start)) (rw (lead, e) refl) (by_name (rw lead refl) e) refl)
   ])
 
 -- ---- the laws

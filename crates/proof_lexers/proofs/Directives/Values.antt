@@ -1,13 +1,10 @@
 -- Parts of a directive's line, as the model reads them: words, numbers, a handle, and what may stand after its value.
-use Rattle.proof_lexers.proofs.Common.{[], after, all_of, and_parts, ap, append_assoc, arith, At, begins_with_mark, both_ways, cases_Bool, decimal_value, eqb-true, Err, false, Fault, further, handle, handle_and_rest, handle_end, if◌then◌else◌, inl, inr, is_empty, is_handle, is_marked_name, is_same, leading, length, length-append, List, name_and_mark, nat_le, ne_eqb, None, number, number_of, Ok, past, Position, Read, refl, Result, slice_index, Some, sym, true, ℕ, ◌++◌, ◌==◌, ◌∙◌, ◌∷◌, ◌≡◌, nat_tests, and_assoc, and_then, begins_with, Bool, codes, Digits, directive_break, drop, first_break, has_no_break, is_alpha, is_alphanumeric, is_at_gap, is_blank, is_blank_or_breakz, is_break, is_rest_of_line, kind, line_end, next_line, not, or_cases, position_after, run, space, Stop, tag, unknown, version, Whitespace, Yes, ◌&&◌, ◌*◌, ◌+◌, ◌-◌, ◌≤◌}
-use Rattle.yaml_tokens.specs.declared.problem.Problem.TheVariants as problem
+use Rattle.proof_lexers.proofs.Common.{[], after, all_of, and_parts, ap, append_assoc, arith, At, begins_with_mark, both_ways, cases_Bool, decimal_value, eqb-true, Err, false, Fault, further, handle, handle_and_rest, handle_end, if◌then◌else◌, inl, inr, is_empty, is_handle, is_marked_name, is_same, leading, length, length-append, List, name_and_mark, nat_le, ne_eqb, None, number, number_of, Ok, past, Position, Read, refl, Result, slice_index, Some, sym, true, ℕ, ◌++◌, ◌==◌, ◌∙◌, ◌∷◌, ◌≡◌, nat_tests, and_assoc, and_then, begins_with, Bool, codes, Digits, directive_break, drop, first_break, has_no_break, is_alpha, is_alphanumeric, is_at_gap, is_blank, is_blank_or_breakz, is_break, is_rest_of_line, kind, line_end, next_line, not, or_cases, position_after, run, space, Stop, tag, unknown, version, Whitespace, Yes, ◌&&◌, ◌*◌, ◌+◌, ◌-◌, ◌≤◌, CommentNotSeparated, DirectiveEnd, TagDirectiveHandle, TagStart, VersionNumber, VersionTooLong, is_decimal_digit, is_letter, same_break, same_gap, same_alpha, same_place, all_leading, before_end, begins_in, span_cut, one_further}
 use Rattle.defs_text.specs.Classes as classes
 use Rattle.proof_lexers.specs.DirectiveEnds.{ends_line}
 use Rattle.proof_lexers.proofs.Properties.Tags.{word}
-use Rattle.proof_lexers.proofs.Classes.{same_place, all_leading, before_end, begins_in, span_cut, one_further}
 use Rattle.yaml_chars.specs.Class.{is_digit}
 use Rattle.model_scanner.specs.Directive.{digit_turn}
-use Rattle.proof_lexers.proofs.Bridges.{same_break, same_gap, same_alpha}
 use Rattle.proof_lexers.proofs.RestOfLine.{Rest, rest_of_line}
 use Rattle.proof_lexers.proofs.Plain.Turns.{same_feed, in_line_position, line_position}
 use Rattle.proof_lexers.proofs.Blocks.Positions.{feed_past}
@@ -32,8 +29,8 @@ no_break_after (c ∷ a) b h = no_break_after a b (and_parts (not (classes.is_br
 -- How the end of a directive's line is read: the rest of it is blanks and maybe a comment after one; a comment stands there without a blank; or other text.
 pub data LineEnds (start p : Position) (m n : List ℕ) (x : Result (Read (Unit {0})) Fault) : Type 0 where
   ended : is_rest_of_line m ≡ true → x ≡ Ok (record { rest = next_line n; position = position_after (further (length m) p) (first_break n) (next_line n); value = tt }) → LineEnds start p m n x
-  comment : begins_with 35 m ≡ true → is_rest_of_line m ≡ false → x ≡ Err (At problem.CommentNotSeparated p) → LineEnds start p m n x
-  text : is_rest_of_line m ≡ false → begins_with 35 m ≡ false → x ≡ Err (At problem.DirectiveEnd start) → LineEnds start p m n x
+  comment : begins_with 35 m ≡ true → is_rest_of_line m ≡ false → x ≡ Err (At CommentNotSeparated p) → LineEnds start p m n x
+  text : is_rest_of_line m ≡ false → begins_with 35 m ≡ false → x ≡ Err (At DirectiveEnd start) → LineEnds start p m n x
 
 -- how the end of a directive's line is read
 pub line_ends : (start p : Position) (m n : List ℕ) → has_no_break m ≡ true → ends_line n ≡ true → LineEnds start p m n (line_end start (m ++ n) p)
@@ -51,26 +48,22 @@ line_ends start p m n h k = told (space Yes (m ++ n) p) (rest_of_line m n p h k)
 -- what a version's number leaves, by its digits and how many were read before them
 abbrev digits_read : (start p : Position) (v k : ℕ) → (a : List ℕ) → Result (Stop Digits) Fault
 digits_read start p v k a =
-    (if nat_le (k + length (leading classes.is_decimal_digit a)) 9
-    then Ok (record { rest = after classes.is_decimal_digit a; state = record { position = further (length (leading classes.is_decimal_digit a)) p; value = decimal_value v (leading classes.is_decimal_digit a); length = k + length (leading classes.is_decimal_digit a) } })
-    else Err (At problem.VersionTooLong start))
+    (if nat_le (k + length (leading is_decimal_digit a)) 9
+    then Ok (record { rest = after is_decimal_digit a; state = record { position = further (length (leading is_decimal_digit a)) p; value = decimal_value v (leading is_decimal_digit a); length = k + length (leading is_decimal_digit a) } })
+    else Err (At VersionTooLong start))
 
 digits_run : (start : Position) (a : List ℕ) (p : Position) (v k : ℕ) → k ≤ 9 → run (digit_turn start) a (record { position = p; value = v; length = k }) ≡ digits_read start p v k a
-unfolding classes.is_decimal_digit is_digit
+unfolding is_decimal_digit is_digit
 digits_run start [] p v k few = grind arith
 digits_run start (c ∷ a) p v k few = grind (arith, nat_tests, one_further, digits_run start a (past p) (v * 10 + (c - 48)) (k + 1))
 
 -- what the scan of a version's number leaves
 abbrev pub number_read : (start p : Position) → (a : List ℕ) → Result (Read ℕ) Fault
 number_read start p a =
-    (if is_empty (leading classes.is_decimal_digit a) then Err (At problem.VersionNumber start) else
-    (if nat_le (length (leading classes.is_decimal_digit a)) 9
-    then Ok (record { rest = after classes.is_decimal_digit a; position = further (length (leading classes.is_decimal_digit a)) p; value = decimal_value 0 (leading classes.is_decimal_digit a) })
-    else Err (At problem.VersionTooLong start)))
-
-pub number_is_read : (start : Position) (a : List ℕ) (p : Position) → number start a p ≡ number_read start p a
-unfolding number
-number_is_read start a p = grind (arith, digits_run, after, further)
+    (if is_empty (leading is_decimal_digit a) then Err (At VersionNumber start) else
+    (if nat_le (length (leading is_decimal_digit a)) 9
+    then Ok (record { rest = after is_decimal_digit a; position = further (length (leading is_decimal_digit a)) p; value = decimal_value 0 (leading is_decimal_digit a) })
+    else Err (At VersionTooLong start)))
 
 -- ---- names
 
@@ -80,7 +73,7 @@ spells [] a = not (is_alpha (slice_index a 0))
 spells (c ∷ w) a = (slice_index a 0 == c) && spells w (drop 1 a)
 
 first_at_end : (n : List ℕ) → ends_line n ≡ true → is_alpha (slice_index n 0) ≡ false
-unfolding is_alpha is_alphanumeric classes.is_alpha classes.is_decimal_digit classes.is_letter
+unfolding is_alpha is_alphanumeric classes.is_alpha is_decimal_digit is_letter
 first_at_end [] h = refl
 first_at_end (c ∷ n) h = sym (same_alpha c) ∙ no_class_at classes.is_alpha refl refl c h
 
@@ -90,7 +83,7 @@ distinct x d h k = ne_eqb x d (λ same. both_ways (is_alpha x) h (ap is_alpha sa
 pub spells_name : (w l n : List ℕ) → all_of classes.is_alpha w ≡ true → ends_line n ≡ true → spells w (l ++ n) ≡ is_same (leading classes.is_alpha l) w
 spells_name [] [] n h k = rw (first_at_end n k) refl
 spells_name [] (c ∷ l) n h k = grind (arith, same_alpha)
-spells_name (d ∷ w) [] n h k = let q = and_parts (classes.is_alpha d) (all_of classes.is_alpha w) h in rw (distinct (slice_index n 0) d (first_at_end n k) q.0) refl
+spells_name (d ∷ w) [] n h k = grind (arith, distinct, first_at_end)
 spells_name (d ∷ w) (c ∷ l) n h k = grind (arith, same_alpha, distinct, spells_name w l n)
 
 version_spelled : (a : List ℕ) → ((slice_index a 0 == 89) && (slice_index a 1 == 65) && (slice_index a 2 == 77) && (slice_index a 3 == 76) && not (is_alpha (slice_index a 4))) ≡ spells (codes "YAML") a
@@ -102,7 +95,7 @@ declaration_spelled b = grind (arith, and_assoc)
 -- the kind of a directive by its name
 pub kind_is : (l n : List ℕ) → ends_line n ≡ true
     → kind (l ++ n) ≡ (if is_same (leading classes.is_alpha l) (codes "YAML") then version else (if is_same (leading classes.is_alpha l) (codes "TAG") then tag else unknown))
-unfolding kind classes.is_alpha classes.is_decimal_digit classes.is_letter
+unfolding kind classes.is_alpha is_decimal_digit is_letter
 kind_is l n h =
     let first = version_spelled (l ++ n) ∙ spells_name (codes "YAML") l n refl h in
     let second = declaration_spelled (l ++ n) ∙ spells_name (codes "TAG") l n refl h in
@@ -113,19 +106,17 @@ pub gap_is : (m n : List ℕ) → ends_line n ≡ true → is_blank_or_breakz (s
 unfolding is_blank is_break classes.is_break
 gap_is a n h = grind (arith, eqb-true, same_gap)
 
--- ---- the numbers of a version, and the handle and the prefix of a declaration
-
 -- ---- a version's number
 
 -- What the scan of a number sees in a line: no digit; more than nine; or the number that it is.
 pub data NumberSees (start p : Position) (b n : List ℕ) (x : Result (Read ℕ) Fault) : Type 0 where
-  missing : leading classes.is_decimal_digit b ≡ [] → number_of (leading classes.is_decimal_digit b) ≡ None → x ≡ Err (At problem.VersionNumber start) → NumberSees start p b n x
-  long : nat_le (length (leading classes.is_decimal_digit b)) 9 ≡ false → number_of (leading classes.is_decimal_digit b) ≡ None → x ≡ Err (At problem.VersionTooLong start) → NumberSees start p b n x
-  found : (value : ℕ) → number_of (leading classes.is_decimal_digit b) ≡ Some value
-      → x ≡ Ok (record { rest = after classes.is_decimal_digit b ++ n; position = further (length (leading classes.is_decimal_digit b)) p; value = value }) → NumberSees start p b n x
+  missing : leading is_decimal_digit b ≡ [] → number_of (leading is_decimal_digit b) ≡ None → x ≡ Err (At VersionNumber start) → NumberSees start p b n x
+  long : nat_le (length (leading is_decimal_digit b)) 9 ≡ false → number_of (leading is_decimal_digit b) ≡ None → x ≡ Err (At VersionTooLong start) → NumberSees start p b n x
+  found : (value : ℕ) → number_of (leading is_decimal_digit b) ≡ Some value
+      → x ≡ Ok (record { rest = after is_decimal_digit b ++ n; position = further (length (leading is_decimal_digit b)) p; value = value }) → NumberSees start p b n x
 
-digit_by : (start p : Position) (b n w r : List ℕ) → leading classes.is_decimal_digit b ≡ w
-    → NumberSees start p b n (if is_empty w then Err (At problem.VersionNumber start) else (if nat_le (length w) 9 then Ok (record { rest = after classes.is_decimal_digit b ++ n; position = further (length w) p; value = decimal_value 0 w }) else Err (At problem.VersionTooLong start)))
+digit_by : (start p : Position) (b n w r : List ℕ) → leading is_decimal_digit b ≡ w
+    → NumberSees start p b n (if is_empty w then Err (At VersionNumber start) else (if nat_le (length w) 9 then Ok (record { rest = after is_decimal_digit b ++ n; position = further (length w) p; value = decimal_value 0 w }) else Err (At VersionTooLong start)))
 digit_by start p b n [] r e = missing e (rw e refl) refl
 digit_by start p b n (c ∷ w) r e = elim (cases_Bool (nat_le (length (c ∷ w)) 9)) [
   | inl f ↦ rw f (found (decimal_value 0 (c ∷ w)) (rw (e, f) refl) (rw e refl))
@@ -133,25 +124,26 @@ digit_by start p b n (c ∷ w) r e = elim (cases_Bool (nat_le (length (c ∷ w))
 ]
 
 pub number_sees : (start p : Position) (b n : List ℕ) → ends_line n ≡ true → NumberSees start p b n (number start (b ++ n) p)
-unfolding classes.is_decimal_digit
+unfolding is_decimal_digit number
 number_sees start p b n h =
-    let none : begins_in classes.is_decimal_digit n ≡ false = none_at_end classes.is_decimal_digit refl refl n h in
-    let q = before_end classes.is_decimal_digit b n none in
-    rw (number_is_read start (b ++ n) p, q.0, q.1) (digit_by start p b n (leading classes.is_decimal_digit b) [] refl)
+    let number_is_read : number start (b ++ n) p ≡ number_read start p (b ++ n) = grind (arith, digits_run, after, further) in
+    let none : begins_in is_decimal_digit n ≡ false = none_at_end is_decimal_digit refl refl n h in
+    let q = before_end is_decimal_digit b n none in
+    rw (number_is_read, q.0, q.1) (digit_by start p b n (leading is_decimal_digit b) [] refl)
 
 -- ---- a handle
 
 -- What the scan of a handle sees in a line: no mark; a name without a second mark; or the handle that stands there.
 pub data HandleSees (start p : Position) (t n : List ℕ) (x : Result (Read (List ℕ)) Fault) : Type 0 where
-  no_mark : begins_with_mark t ≡ false → is_handle (handle_and_rest t).0 ≡ false → x ≡ Err (At problem.TagStart start) → HandleSees start p t n x
+  no_mark : begins_with_mark t ≡ false → is_handle (handle_and_rest t).0 ≡ false → x ≡ Err (At TagStart start) → HandleSees start p t n x
   open_name : (c : ℕ) (name rest : List ℕ) → t ≡ 33 ∷ rest → leading classes.is_alpha rest ≡ c ∷ name → begins_with_mark (after classes.is_alpha rest) ≡ false → is_handle (handle_and_rest t).0 ≡ false
-      → x ≡ Err (At problem.TagDirectiveHandle start) → HandleSees start p t n x
+      → x ≡ Err (At TagDirectiveHandle start) → HandleSees start p t n x
   found : is_handle (handle_and_rest t).0 ≡ true → t ≡ (handle_and_rest t).0 ++ (handle_and_rest t).1
       → x ≡ Ok (record { rest = (handle_and_rest t).1 ++ n; position = further (length (handle_and_rest t).0) p; value = (handle_and_rest t).0 }) → HandleSees start p t n x
 
 -- a name alone is no handle, and one with a mark after it is
 marked : (c : ℕ) (w : List ℕ) → all_of classes.is_alpha (c ∷ w) ≡ true → (is_marked_name (c ∷ w) ≡ false) × (is_marked_name ((c ∷ w) ++ 33 ∷ []) ≡ true)
-unfolding classes.is_alpha classes.is_decimal_digit classes.is_letter
+unfolding classes.is_alpha is_decimal_digit is_letter
 marked c [] h = let q = and_parts (classes.is_alpha c) true h in ((ne_eqb c 33 (λ same. both_ways (classes.is_alpha 33) refl (ap classes.is_alpha (sym same) ∙ q.0))), rw q.0 refl)
 marked c (d ∷ w) h = grind (arith, and_parts, marked d w)
 
@@ -174,7 +166,7 @@ no_handle c w r lead none = rw (lead, no_second_mark (c ∷ w) (after classes.is
 module _ (start p : Position) (r n : List ℕ) (ends : ends_line n ≡ true) where
   -- none stands there
   without_mark : (w s : List ℕ) → leading classes.is_alpha r ≡ w → after classes.is_alpha r ≡ s → r ≡ w ++ s → all_of classes.is_alpha w ≡ true → begins_with_mark s ≡ false
-      → HandleSees start p (33 ∷ r) n (if is_same w [] then Ok (record { rest = s ++ n; position = further (length w) (past p); value = 33 ∷ w }) else Err (At problem.TagDirectiveHandle start))
+      → HandleSees start p (33 ∷ r) n (if is_same w [] then Ok (record { rest = s ++ n; position = further (length w) (past p); value = 33 ∷ w }) else Err (At TagDirectiveHandle start))
   without_mark [] s lead rest cut all none = grind arith
   without_mark (c ∷ w) s lead rest cut all none =
       let unmarked : begins_with_mark (after classes.is_alpha r) ≡ false = ap begins_with_mark rest ∙ none in
@@ -189,7 +181,7 @@ module _ (start p : Position) (r n : List ℕ) (ends : ends_line n ≡ true) whe
   ]
 
   marked_handle : HandleSees start p (33 ∷ r) n (handle start (33 ∷ (r ++ n)) p)
-  unfolding handle classes.is_alpha classes.is_decimal_digit classes.is_letter
+  unfolding handle classes.is_alpha is_decimal_digit is_letter
   marked_handle =
       let q = before_end classes.is_alpha r n (none_at_end classes.is_alpha refl refl n ends) in
       rw (spells_name [] r n refl ends, word (r ++ n) (past p) (33 ∷ []), q.0, q.1)

@@ -1,6 +1,5 @@
 -- What a plain scalar's scan finds from a position in it on, and what one character before that adds.
-use Rattle.proof_lexers.proofs.Common.{[], and_parts, ap, append_assoc, arith, At, begins_flow, begins_token, begins_white, Bool, collection_of, Context, ends_plain, ends_with_content, Err, false, Fault, Folded, goes_on, has_break, if◌then◌else◌, is_apart, is_before_line_feed, is_blanks, is_gap, is_white, joined, List, nat_lt, not, Ok, on_line, Option, or-false, or-true, Plain, Position, position_after, position_past, Read, refl, Result, Stand, stand_after, stops, subst, sym, true, with_blank, with_break, with_char, ℕ, ◌++◌, ◌||◌, ◌∙◌, ◌∷◌, ◌≡◌}
-use Rattle.yaml_tokens.specs.declared.problem.Problem.TheVariants as problem
+use Rattle.proof_lexers.proofs.Common.{[], and_parts, ap, append_assoc, arith, At, begins_flow, begins_token, begins_white, Bool, collection_of, Context, ends_plain, ends_with_content, Err, false, Fault, Folded, goes_on, has_break, if◌then◌else◌, is_apart, is_before_line_feed, is_blanks, is_gap, is_white, joined, List, nat_lt, not, Ok, on_line, Option, or-false, or-true, Plain, Position, position_after, position_past, Read, refl, Result, Stand, stand_after, stops, subst, sym, true, with_blank, with_break, with_char, ℕ, ◌++◌, ◌||◌, ◌∙◌, ◌∷◌, ◌≡◌, PlainDashInFlow, PlainTab}
 use Rattle.defs_text.specs.Classes.{is_blank, is_break, is_flow}
 use Rattle.defs_token.specs.Plain.{inside, past}
 
@@ -68,9 +67,9 @@ module _ (ctx : Context) (start : Position) where
 
   -- Why the text after a position in a scalar is refused: such a TAB; or, without one, a dash before a flow indicator.
   pub data Fails (tabs : Bool) (s : Stand) (p : Position) (a : List ℕ) : Fault → Type 0 where
-    tabbed : Tabbed tabs s a → Fails tabs s p a (At problem.PlainTab start)
+    tabbed : Tabbed tabs s a → Fails tabs s p a (At PlainTab start)
     dash : (before rest : List ℕ) → (Tabbed tabs s a → ⊥) → ctx.flow ≡ true → a ≡ before ++ 45 ∷ rest → begins_flow rest ≡ true → goes_on ctx.flow (collection_of ctx.indent) s before (45 ∷ rest) ≡ true → is_apart (stand_after s before) ≡ true
-        → Fails tabs s p a (At problem.PlainDashInFlow (position_after p before (45 ∷ rest)))
+        → Fails tabs s p a (At PlainDashInFlow (position_after p before (45 ∷ rest)))
 
   abbrev pub left : Position → Folded → (more gap rest : List ℕ) → Read Plain
   left p t more gap rest = record { rest = rest; position = position_after p (more ++ gap) rest; value = record { text = (after_text more t).text; leading = leads more t gap } }
@@ -114,7 +113,7 @@ module _ (ctx : Context) (start : Position) where
   further c a tabs u s next p f e on after moves (dash before rest free flow cut begins goes apart) =
       let here : (is_white c || not (ends_plain ctx.flow (collection_of ctx.indent) s (c ∷ (before ++ 45 ∷ rest)))) ≡ true = rw cut at on in
       let place : position_after (position_past p c a) before (45 ∷ rest) ≡ position_after p (c ∷ before) (45 ∷ rest) = ap (λ b. position_after (position_past p c b) before (45 ∷ rest)) cut in
-      subst (λ q. Fails tabs s p (c ∷ a) (At problem.PlainDashInFlow q)) (sym place)
+      subst (λ q. Fails tabs s p (c ∷ a) (At PlainDashInFlow q)) (sym place)
       (dash (c ∷ before) rest (λ t. free (later_tab c a tabs u s next e moves t)) flow (ap (λ r. c ∷ r) cut) begins (rw (here, e) goes) (rw e apart))
   further c a tabs u s next p f e on after moves (tabbed (tab before blanks rest column cut goes line less blank solid)) =
       let here : (is_white c || not (ends_plain ctx.flow (collection_of ctx.indent) s (c ∷ (before ++ 9 ∷ (blanks ++ rest))))) ≡ true = rw cut at on in

@@ -1,6 +1,5 @@
 -- Plain scalars as texts: what the laws say of some.
-use Rattle.proof_lexers.proofs.Common.{[], are_marks, At, begins_with_marker, by_dash, by_tab, codes, Context, EndsAs, false, is_blank_or_end, is_nul, IsPlainRefusal, List, plain, plain_element, plain_value, Position, refl, true, ℕ, ◌++◌, ◌∷◌, ◌≡◌, ap, arith, ◌∙◌, has, both_ways}
-use Rattle.yaml_tokens.specs.declared.problem.Problem.TheVariants as problem
+use Rattle.proof_lexers.proofs.Common.{[], are_marks, At, begins_with_marker, by_dash, by_tab, codes, Context, EndsAs, false, is_blank_or_end, is_nul, IsPlainRefusal, List, plain, plain_element, plain_value, Position, refl, true, ℕ, ◌++◌, ◌∷◌, ◌≡◌, ap, arith, ◌∙◌, has, both_ways, PlainDashInFlow, PlainTab}
 use Rattle.defs_text.specs.Classes.{is_blank, is_break, is_flow}
 use Rattle.proof_lexers.specs.PlainEnds.{IsScalarRead}
 use Rattle.proof_lexers.proofs.Plain.Scalars.{scalars_read}
@@ -26,7 +25,7 @@ unfolding is_blank is_break is_nul is_blank_or_end is_flow are_marks plain_eleme
 before_comma = scalars_read flow (codes "a:b") (codes ":,") (codes "a:b") here refl refl refl refl refl
 
 -- a dash before a comma, after a blank
-dashed : IsPlainRefusal flow here (codes "a -,") (At problem.PlainDashInFlow (record { index = 5; line = 1; col = 5 }))
+dashed : IsPlainRefusal flow here (codes "a -,") (At PlainDashInFlow (record { index = 5; line = 1; col = 5 }))
 unfolding is_blank is_break is_nul is_blank_or_end is_flow
 dashed =
     by_dash (codes "a ") (codes ",") refl (λ t. both_ways false refl (ap (has 9) t.is_text ∙ has_tab t.before (t.blanks ++ t.rest))) refl refl refl refl refl
@@ -36,6 +35,6 @@ dashed =
     has_tab (c ∷ before) more = grind (arith, has_tab before more)
 
 -- a TAB at the start of a line of it
-tabbed : IsPlainRefusal block here (codes "a\n\tb") (At problem.PlainTab here)
+tabbed : IsPlainRefusal block here (codes "a\n\tb") (At PlainTab here)
 unfolding is_blank is_break is_nul is_blank_or_end is_flow are_marks
 tabbed = by_tab refl (record { before = codes "a\n"; blanks = []; rest = codes "b"; column = 0; is_text = refl; is_over = refl; is_at = refl; is_left = refl; are_blanks = refl; is_token = refl })

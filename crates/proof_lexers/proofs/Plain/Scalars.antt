@@ -1,6 +1,5 @@
 -- Plain scalars are read as their values, and no other text is.
-use Rattle.proof_lexers.proofs.Common.{[], and_parts, ap, arith, At, at_dash, begins_left, begins_solid, Bool, by_column, by_dash, by_tab, cases_Bool, collection_of, Context, EndsAs, false, Fault, Folded, goes_on, goes_over, has_document_marker, has_no_nul, HasTab, inl, inr, is_indented, is_shallow, is_white, IsPlainRead, IsPlainRefusal, joined, List, nat_lt, nat_tests, not-true, nothing, or_parts, Plain, plain, plain_from, plain_value, PlainScalarsAreRead, PlainScansEndAsTheirTextSays, Position, position_after, Read, reads, refl, refuses, Result, Some, stand_after, stops, suc, sym, true, whole_plain, with_char, ℕ, ◌&&◌, ◌++◌, ◌+◌, ◌∙◌, ◌∷◌, ◌≡◌, after_blank, append-nil, at_marker, can_be_plain, ends_at_colon, ends_plain, eqb-true, is_apart, is_blank, is_break, not, Ok, on_line, slice_index, Stand, tabs, ◌==◌, ◌||◌}
-use Rattle.yaml_tokens.specs.declared.problem.Problem.TheVariants as problem
+use Rattle.proof_lexers.proofs.Common.{[], and_parts, ap, arith, At, at_dash, begins_left, begins_solid, Bool, by_column, by_dash, by_tab, cases_Bool, collection_of, Context, EndsAs, false, Fault, Folded, goes_on, goes_over, has_document_marker, has_no_nul, HasTab, inl, inr, is_indented, is_shallow, is_white, IsPlainRead, IsPlainRefusal, joined, List, nat_lt, nat_tests, not-true, nothing, or_parts, Plain, plain, plain_from, plain_value, PlainScalarsAreRead, PlainScansEndAsTheirTextSays, Position, position_after, Read, reads, refl, refuses, Result, Some, stand_after, stops, suc, sym, true, whole_plain, with_char, ℕ, ◌&&◌, ◌++◌, ◌+◌, ◌∙◌, ◌∷◌, ◌≡◌, after_blank, append-nil, at_marker, can_be_plain, ends_at_colon, ends_plain, eqb-true, is_apart, is_blank, is_break, not, Ok, on_line, slice_index, Stand, tabs, ◌==◌, ◌||◌, is_left, FlowIndentation, PlainDashInFlow, PlainTab, is_nul, same_break, same_blank}
 use Rattle.defs_token.specs.Plain as defs
 use Rattle.model_scanner.specs.Machine as machine
 use Rattle.model_scanner.specs.Plain.{inside, first, starts, between}
@@ -10,7 +9,6 @@ use Rattle.proof_row.proofs.Plains.{plains}
 use Rattle.proof_lexers.proofs.Plain.Turns.{after_blanks, after_more, after_tab, after_text, as_deep, at_feed, at_line, at_tabs, blank_step, break_step, can_be, content_char, content_step, dash, dash_parts, dash_untabbed, dashed, ends_comment, ends_over, Fails, fails, flow_untabbed, Found, found, found_here, in_line, in_line_position, in_text, line_is, no_lead, no_line, off_margin, Outcome, outcome, past_content, same_left, scan, Scans, solid_first, stopped, tab, Tabbed, tabbed, went}
 use Rattle.proof_lexers.proofs.Plain.Values.{no_markers, value_is}
 use Rattle.defs_text.specs.Classes as classes
-use Rattle.proof_lexers.proofs.Bridges.{same_break, same_blank}
 use Rattle.proof_lexers.proofs.Separation.Separations.{no_hash}
 
 -- a blank and no break, a break, or content
@@ -38,7 +36,7 @@ module _ (ctx : Context) (start : Position) where
       → Found ctx start false s p t (c ∷ a) (scan ctx start (c ∷ a) between p t)
   by_outcome c a s p t white apart ih (stopped ends is) = stop_here false c a s p t _ white ends is
   by_outcome c a s p t white apart ih (went on deep is) = content_step ctx start c a between s p t _ white on deep ih is
-  by_outcome c a s p t white apart ih (dashed flow is_dash begins is) = fails (At problem.PlainDashInFlow p) (dash [] a (dash_untabbed ctx start c a s flow is_dash begins) flow (ap (λ k. k ∷ a) is_dash) begins refl apart) is
+  by_outcome c a s p t white apart ih (dashed flow is_dash begins is) = fails (At PlainDashInFlow p) (dash [] a (dash_untabbed ctx start c a s flow is_dash begins) flow (ap (λ k. k ∷ a) is_dash) begins refl apart) is
 
   blanks_by : (c : ℕ) (a : List ℕ) (p : Position) (t : Folded) → (c == 0) ≡ false → t.leading ≡ false → (p.col == 0) ≡ false → is_shallow ctx p.col ≡ false → Scans ctx start a → Kind c
       → Found ctx start false after_blank p t (c ∷ a) (scan ctx start (c ∷ a) between p t)
@@ -72,8 +70,7 @@ module _ (ctx : Context) (start : Position) where
   line_by c column a p t nul is lead ih (is_solid white plain) =
       by_outcome c a (on_line column) p t white refl ih (outcome ctx start c a (on_line column) p t white nul refl (line_is ctx c column a ∙ ap (λ k. at_marker k (c ∷ a) || is_shallow ctx k) is))
 
-  -- ---- after a TAB at a line's start
-
+  -- after a TAB at a line's start
   tabs_by : (c column : ℕ) (a : List ℕ) (p : Position) (t : Folded) → t.leading ≡ true → Scans ctx start a → Kind c → Found ctx start true (on_line column) p t (c ∷ a) (scan ctx start (c ∷ a) tabs p t)
   tabs_by c column a p t lead ih (is_breaks e) = break_step ctx start c a true tabs (on_line column) p t _ e ih (rw e refl)
   tabs_by c column a p t lead ih (is_blanks e f) =
@@ -86,11 +83,10 @@ module _ (ctx : Context) (start : Position) where
       let blank : is_blank c ≡ false = sym (same_blank c) ∙ (or_parts (classes.is_blank c) (classes.is_break c) white).0 in
       elim (cases_Bool (c == 35)) [
         | inl h ↦ stop_here true c a (on_line column) p t _ white (ends_comment ctx start c a (on_line column) h) (rw (break, h) refl)
-        | inr h ↦ fails (At problem.PlainTab start) (tabbed (after_tab [] (c ∷ a) refl refl refl (rw (white, h) refl))) (rw (break, h, blank) refl)
+        | inr h ↦ fails (At PlainTab start) (tabbed (after_tab [] (c ∷ a) refl refl refl (rw (white, h) refl))) (rw (break, h, blank) refl)
       ]
 
-  -- ---- within a line
-
+  -- within a line
   inside_by : (c : ℕ) (a : List ℕ) (p : Position) (text : List ℕ) → (c == 0) ≡ false → (p.col == 0) ≡ false → is_shallow ctx p.col ≡ false → Scans ctx start a → Kind c
       → Found ctx start false defs.inside p (in_text text) (c ∷ a) (scan ctx start (c ∷ a) inside p (in_text text))
   inside_by c a p text nul off deep ih (is_breaks e) = break_step ctx start c a false inside defs.inside p (in_text text) _ e ih (rw e refl)
@@ -118,19 +114,15 @@ module _ (ctx : Context) (start : Position) where
       break_step ctx start c a false between (on_line column) p t _ (feed_breaks c feed) ih (rw (feed_breaks c feed) refl)
 
   none : Scans ctx start []
-  none m s p t (in_line text is off deep) = found_here ctx start false defs.inside p t [] _ refl refl refl
-  none m s p t (after_blanks lead off deep) = found_here ctx start false after_blank p t [] _ refl refl refl
-  none m s p t (at_line column is lead) = found_here ctx start false (on_line column) p t [] _ refl refl refl
-  none m s p t (at_tabs column lead) = found_here ctx start true (on_line column) p t [] _ refl refl refl
   none m s p t (at_feed column b cut) = cc
+  none m s p t _ = found_here ctx start _ _ p t [] _ refl refl refl
 
   pub scans : (a : List ℕ) → has_no_nul a ≡ true → Scans ctx start a
-  unfolding classes.is_nul
+  unfolding is_nul
   scans [] h = none
-  scans (c ∷ a) h = let q = and_parts (not (classes.is_nul c)) (has_no_nul a) h in step c a (not-true (classes.is_nul c) q.0) (scans a q.1)
+  scans (c ∷ a) h = let q = and_parts (not (is_nul c)) (has_no_nul a) h in step c a (not-true (is_nul c) q.0) (scans a q.1)
 
--- ---- plain scalars are read as their values
-
+-- a scalar that is indented is so after its first character too
 deep : (ctx : Context) (p : Position) → is_indented ctx p ≡ true → is_shallow ctx (p.col + 1) ≡ false
 unfolding is_shallow
 deep ctx p h = grind (arith, nat_tests)
@@ -189,10 +181,10 @@ module _ (ctx : Context) (start : Position) (c : ℕ) (a : List ℕ) (white : is
 
   started : (column at : Bool) → (ctx.flow && nat_lt start.col ctx.indent) ≡ column → at_dash ctx.flow (c ∷ a) ≡ at → has_no_nul a ≡ true → is_indented ctx start ≡ true → EndsAs (IsPlainRead ctx start (c ∷ a)) (IsPlainRefusal ctx start (c ∷ a)) (plain ctx (c ∷ a) start)
   unfolding plain starts
-  started true at e f full indented = let q = and_parts ctx.flow (nat_lt start.col ctx.indent) e in refuses (At problem.FlowIndentation start) (by_column q.0 q.1) (rw e refl)
+  started true at e f full indented = let q = and_parts ctx.flow (nat_lt start.col ctx.indent) e in refuses (At FlowIndentation start) (by_column q.0 q.1) (rw e refl)
   started false true e f full indented =
       let q = dash_parts ctx start ctx.flow c a f in
-      refuses (At problem.PlainDashInFlow start) (by_dash [] a e (λ t. flow_untabbed ctx start a defs.inside q.0 q.2 (tab_later t)) q.0 (ap (λ d. d ∷ a) q.1) q.2 refl refl) (rw (e, f) refl)
+      refuses (At PlainDashInFlow start) (by_dash [] a e (λ t. flow_untabbed ctx start a defs.inside q.0 q.2 (tab_later t)) q.0 (ap (λ d. d ∷ a) q.1) q.2 refl refl) (rw (e, f) refl)
   started false false e f full indented = rw (e, f) (begun e full indented)
 
 pub scans_end : PlainScansEndAsTheirTextSays

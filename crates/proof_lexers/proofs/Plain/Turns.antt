@@ -1,10 +1,8 @@
 -- What the model does at each character of a plain scalar, in the definitions' words.
-use Rattle.proof_lexers.proofs.Common.{[], after_blank, and_parts, ap, arith, At, at_break, at_dash, at_marker, at_plain, begins_flow, begins_token, begins_white, Bool, can_be_plain, cases_Bool, collection_of, Context, ends_at_colon, ends_at_comment, ends_at_line, ends_plain, eqb-true, Err, false, Fault, Folded, inl, inr, is_before_line_feed, is_blank, is_blank_or_breakz, is_blanks, is_break, is_cr_lf, is_deeper, is_flow, is_shallow, is_white, joined, List, nat_lt, nat_tests, not, Ok, on_line, or-true, or_parts, past, past_break, Plain, plain_from, Position, position_past, Read, refl, Result, slice_index, Stand, stops, suc, sym, tabs, true, with_blank, with_break, with_char, ℕ, ◌&&◌, ◌++◌, ◌+◌, ◌==◌, ◌||◌, ◌∙◌, ◌∷◌, ◌≡◌}
-use Rattle.yaml_tokens.specs.declared.problem.Problem.TheVariants as problem
+use Rattle.proof_lexers.proofs.Common.{[], after_blank, and_parts, ap, arith, At, at_break, at_dash, at_marker, at_plain, begins_flow, begins_token, begins_white, Bool, can_be_plain, cases_Bool, collection_of, Context, ends_at_colon, ends_at_comment, ends_at_line, ends_plain, eqb-true, Err, false, Fault, Folded, inl, inr, is_before_line_feed, is_blank, is_blank_or_breakz, is_blanks, is_break, is_cr_lf, is_deeper, is_flow, is_shallow, is_white, joined, List, nat_lt, nat_tests, not, Ok, on_line, or-true, or_parts, past, past_break, Plain, plain_from, Position, position_past, Read, refl, Result, slice_index, Stand, stops, suc, sym, tabs, true, with_blank, with_break, with_char, ℕ, ◌&&◌, ◌++◌, ◌+◌, ◌==◌, ◌||◌, ◌∙◌, ◌∷◌, ◌≡◌, PlainDashInFlow, is_blank_or_end, is_nul, both, same_break, same_blank, same_gap, same_flow, same_marker, and_false}
 use Rattle.defs_text.specs.Classes as classes
 use Rattle.defs_token.specs.Plain as defs
 use Rattle.model_scanner.specs.Plain.{Mode, inside, between, goes_on}
-use Rattle.proof_lexers.proofs.Bridges.{both, same_break, same_blank, same_gap, same_flow, same_marker, and_false}
 pub use Rattle.proof_lexers.proofs.Bridges.{or_false}
 pub use Rattle.proof_lexers.proofs.Plain.Found.{after_char, after_content, after_gap, after_more, after_tab, after_text, content_char, dash, dash_untabbed, Fails, fails, flow_untabbed, Found, found, further, Moves, no_lead, past_content, same_left, solid_first, tab, tab_blank, Tabbed, tabbed}
 
@@ -21,12 +19,11 @@ pub can_be : (flow : Bool) (c : ℕ) (a : List ℕ) → can_be_plain flow c (sli
 unfolding can_be_plain classes.is_flow
 can_be flow c a = grind (arith, eqb-true, or_false, end_is_a_gap, same_gap, same_flow)
 
-shallow_by : (indent column : ℕ) → not (is_deeper (collection_of indent) column) ≡ nat_lt column indent
-shallow_by a column = grind (arith, nat_tests, both)
-
 pub line_is : (ctx : Context) (c column : ℕ) (a : List ℕ) → ends_at_line ctx.flow (collection_of ctx.indent) (on_line column) (c ∷ a) ≡ (at_marker column (c ∷ a) || is_shallow ctx column)
 unfolding is_shallow
-line_is ctx c column a = rw (same_marker column (c ∷ a), shallow_by ctx.indent column) refl
+line_is ctx c column a =
+    let shallow_by : not (is_deeper (collection_of ctx.indent) column) ≡ nat_lt column ctx.indent = grind (arith, nat_tests, both) in
+    rw (same_marker column (c ∷ a), shallow_by) refl
 
 pub no_line : (ctx : Context) (c : ℕ) (a : List ℕ) (p : Position) → (p.col == 0) ≡ false → is_shallow ctx p.col ≡ false → false ≡ (at_marker p.col (c ∷ a) || is_shallow ctx p.col)
 no_line ctx c a p e f = rw (same_marker p.col (c ∷ a), e, f) refl
@@ -116,8 +113,7 @@ module _ (ctx : Context) (start : Position) where
       moves : Moves ctx start c a u false s
       moves = record { begins = λ k i l h. absurd (grind (arith, breaks, (ap classes.is_blank i ∙ tab_blank))); goes_further = λ i b. absurd (grind (arith, breaks, b)); is_no_token = λ i. rw white refl }
 
-  -- ---- blanks
-
+  -- blanks
   pub blank_step : (c : ℕ) (a : List ℕ) (u : Bool) (m n : Mode) (s next : Stand) (p : Position) (t : Folded) (x : Result (Read Plain) Fault) → is_break c ≡ false → is_blank c ≡ true → defs.past_blank s ≡ next
       → ((blanks rest : List ℕ) → is_tabs n ≡ true → a ≡ blanks ++ rest → is_blanks blanks ≡ true → begins_token rest ≡ true → Tabbed ctx start u s (c ∷ a))
       → ((column : ℕ) → c ≡ 9 → s ≡ on_line column → nat_lt column ctx.indent ≡ true → is_tabs n ≡ true) → (u ≡ true → is_tabs n ≡ true)
@@ -144,7 +140,7 @@ module _ (ctx : Context) (start : Position) where
   pub data Outcome (c : ℕ) (a : List ℕ) (s : Stand) (p : Position) (t : Folded) (x : Result (Read Plain) Fault) : Type 0 where
     stopped : ends_plain ctx.flow (collection_of ctx.indent) s (c ∷ a) ≡ true → x ≡ Ok (record { rest = c ∷ a; position = p; value = record { text = t.text; leading = t.leading } }) → Outcome c a s p t x
     went : ends_plain ctx.flow (collection_of ctx.indent) s (c ∷ a) ≡ false → is_shallow ctx p.col ≡ false → x ≡ scan a inside (past p) (with_char c (joined t)) → Outcome c a s p t x
-    dashed : ctx.flow ≡ true → c ≡ 45 → begins_flow a ≡ true → x ≡ Err (At problem.PlainDashInFlow p) → Outcome c a s p t x
+    dashed : ctx.flow ≡ true → c ≡ 45 → begins_flow a ≡ true → x ≡ Err (At PlainDashInFlow p) → Outcome c a s p t x
 
   ends_line : (c : ℕ) (a : List ℕ) (s : Stand) → ends_at_line ctx.flow (collection_of ctx.indent) s (c ∷ a) ≡ true → ends_plain ctx.flow (collection_of ctx.indent) s (c ∷ a) ≡ true
   ends_line c a s h = rw (h, or-true) refl
@@ -154,7 +150,7 @@ module _ (ctx : Context) (start : Position) where
 
   pub ends_over : (c : ℕ) (a : List ℕ) (s : Stand) (b : Bool) → (c == 0) ≡ false → ends_at_comment s (c ∷ a) ≡ false → ends_at_line ctx.flow (collection_of ctx.indent) s (c ∷ a) ≡ false
       → (ends_at_colon ctx.flow (c ∷ a) || (ctx.flow && classes.is_flow c)) ≡ b → ends_plain ctx.flow (collection_of ctx.indent) s (c ∷ a) ≡ b
-  unfolding classes.is_nul
+  unfolding is_nul
   ends_over c a s b nul f g h = rw (nul, f, g) (grind arith)
 
   pub dash_parts : (flow : Bool) (c : ℕ) (a : List ℕ) → at_dash flow (c ∷ a) ≡ true → (flow ≡ true) × (c ≡ 45) × (begins_flow a ≡ true)
@@ -163,7 +159,7 @@ module _ (ctx : Context) (start : Position) where
 
   pub outcome : (c : ℕ) (a : List ℕ) (s : Stand) (p : Position) (t : Folded) → is_white c ≡ false → (c == 0) ≡ false → ends_at_comment s (c ∷ a) ≡ (c == 35)
       → ends_at_line ctx.flow (collection_of ctx.indent) s (c ∷ a) ≡ (at_marker p.col (c ∷ a) || is_shallow ctx p.col) → Outcome c a s p t (scan (c ∷ a) between p t)
-  unfolding goes_on at_plain classes.is_blank_or_end classes.is_nul
+  unfolding goes_on at_plain is_blank_or_end is_nul
   outcome c a s p t white nul comment line = by _ _ _ _ _ refl refl refl refl refl
     where
       q : (classes.is_blank c ≡ false) × (classes.is_break c ≡ false)

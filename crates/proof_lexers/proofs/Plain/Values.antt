@@ -39,8 +39,7 @@ elements_of (suc n) [] = record { all = []; are = refl; same = λ t. refl }
 elements_of (suc n) (c ∷ a) = let z = elements_of n a in record { all = z.all; are = z.are; same = z.same }
 elements_of zero (c ∷ a) = first_element c a (λ k. elements_of k a)
 
--- ---- after content
-
+-- after content
 joined_solid : (c : ℕ) (r : List ℕ) (t : Folded) → ends_with_content c r ≡ true → (joined (after_text (c ∷ r) t)).text ≡ (after_text (c ∷ r) t).text
 joined_solid c [] t h = grind (arith, append-nil)
 joined_solid c (d ∷ r) t h = joined_solid d r (after_char c (d ∷ r) t) h
@@ -50,19 +49,15 @@ joined_solid c (d ∷ r) t h = joined_solid d r (after_char c (d ∷ r) t) h
 -- over a line that begins with a marker no scalar goes on
 no_marker_on : (flow : Bool) (collection : Option ℕ) (a next : List ℕ) → begins_with_marker a ≡ true → goes_on flow collection (on_line 0) a next ≡ true → ⊥
 unfolding begins_with_marker is_blank_or_end are_marks is_blank is_break
-no_marker_on flow collection [] next h e = cc
-no_marker_on flow collection (a ∷ []) next h e = cc
-no_marker_on flow collection (a ∷ b ∷ []) next h e = cc
-no_marker_on flow collection (a ∷ b ∷ c ∷ []) next h e = cc
-no_marker_on flow collection (a ∷ b ∷ c ∷ d ∷ r) next h e = grind (arith, nat_tests, and_parts, nat_tests, on_line, or-true)
+no_marker_on flow collection (a ∷ b ∷ c ∷ d ∷ r) next h e = grind (arith, nat_tests, and_parts, on_line, or-true)
+no_marker_on flow collection _ next h e = cc
 
 pub no_markers : (flow : Bool) (collection : Option ℕ) (s : Stand) (more next : List ℕ) → goes_on flow collection s more next ≡ true → has_document_marker more ≡ false
 no_markers flow collection s [] next h = refl
 no_markers flow collection s (c ∷ r) next h =
     grind (arith, nat_tests, goes_on, no_marker_on, no_markers flow collection (past s c) r next)
 
--- ---- the value
-
+-- the value
 pub value_is : (c : ℕ) (r : List ℕ) → has_document_marker (c ∷ r) ≡ false → ends_with_content c r ≡ true → plain_value (c ∷ r) ≡ Some ((after_text (c ∷ r) nothing).text)
 unfolding plain_value
 value_is c r e f =

@@ -1,10 +1,8 @@
 -- The names of anchors and aliases are read as they stand.
-use Rattle.proof_lexers.proofs.Common.{[], after, all_of, ap, arith, EndsAs, false, further, is_anchor, is_anchor_name, IsNameRead, IsNameRefusal, leading, length, List, nameless, NamesAreRead, NamesEndAsTheirTextSays, past, Position, reads, refl, refuses, true, ℕ, ◌++◌, ◌∙◌, ◌∷◌, ◌≡◌}
+use Rattle.proof_lexers.proofs.Common.{[], after, all_of, ap, arith, EndsAs, false, further, is_anchor, is_anchor_name, IsNameRead, IsNameRefusal, leading, length, List, nameless, NamesAreRead, NamesEndAsTheirTextSays, past, Position, reads, refl, refuses, true, ℕ, ◌++◌, ◌∙◌, ◌∷◌, ◌≡◌, same_flow, same_gap, same_place, span_cut, all_leading, ends_after, leading_none, leading_all, taken}
 use Rattle.model_scanner.specs.Anchor.{some_name, anchor_name}
 use Rattle.defs_token.specs.Piece.{goes_on_with_name}
-use Rattle.proof_lexers.proofs.Bridges.{same_flow, same_gap}
 use Rattle.proof_lexers.specs.NameEnds.{named}
-use Rattle.proof_lexers.proofs.Classes.{same_place, span_cut, all_leading, ends_after, leading_none, leading_all, taken}
 
 same_name : (c : ℕ) → is_anchor_name c ≡ is_anchor c
 unfolding is_anchor_name is_anchor

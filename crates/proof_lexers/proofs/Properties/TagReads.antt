@@ -1,5 +1,5 @@
 -- Each tag is read as it is written.
-use Rattle.proof_lexers.proofs.Common.{[], after, after_class, after_name, after_tag, all_of, and_parts, and_then, ap, append_assoc, Bool, cases_Bool, codes, decoded, eqb-true, Err, false, further, inl, inr, is_empty, is_same, is_tag, leading, length, length-append, List, may_follow, named, None, Ok, or_cases, past, Position, read_tag, refl, Result, shorthand, slice_index, Some, sym, tag_end, tag_of_class, TagsAreRead, true, uri, uri_character, UriFault, verbatim, ℕ, ◌&&◌, ◌++◌, ◌==◌, ◌∙◌, ◌∷◌, ◌≡◌, arith}
+use Rattle.proof_lexers.proofs.Common.{[], after, after_class, after_name, after_tag, all_of, and_parts, and_then, ap, append_assoc, Bool, cases_Bool, codes, decoded, eqb-true, Err, false, further, inl, inr, is_empty, is_same, is_tag, leading, length, length-append, List, may_follow, named, None, Ok, or_cases, past, Position, read_tag, refl, Result, shorthand, slice_index, Some, sym, tag_end, tag_of_class, TagsAreRead, true, uri, uri_character, UriFault, verbatim, ℕ, ◌&&◌, ◌++◌, ◌==◌, ◌∙◌, ◌∷◌, ◌≡◌, arith, is_blank_or_end, is_decimal_digit, is_letter, all_leading, before_end, begins_in, leading_all, span_cut}
 use Rattle.defs_text.specs.Classes as classes
 use Rattle.defs_text.specs.Tags as defs
 use Rattle.model_scanner.specs.Tag.{tag}
@@ -7,13 +7,12 @@ use Rattle.proof_row.proofs.Texts.{gaps, flows}
 use Rattle.proof_lexers.proofs.Properties.Uris.{uris_are_read}
 use Rattle.proof_lexers.proofs.Directives.Lines.{same_text}
 use Rattle.proof_lexers.proofs.Properties.Tags.{word, same_end, close_is_no_uri, closed_position, local_position, named_position, alpha_starts, decoded_some, same_empty, decoded_word}
-use Rattle.proof_lexers.proofs.Classes.{all_leading, before_end, begins_in, leading_all, span_cut}
 
 -- what follows a tag is of no class that has none of these ten characters
 follower : (class : ℕ → Bool) (flow : Bool) (rest : List ℕ) → may_follow flow rest ≡ true → class 32 ≡ false → class 9 ≡ false → class 10 ≡ false → class 13 ≡ false → class 0 ≡ false
     → class 44 ≡ false → class 91 ≡ false → class 93 ≡ false → class 123 ≡ false → class 125 ≡ false → begins_in class rest ≡ false
 follower class flow [] h space tab feed carriage nul comma bracket bracketed brace braced = refl
-follower class flow (c ∷ r) h space tab feed carriage nul comma bracket bracketed brace braced = elim (or_cases (classes.is_blank_or_end c) (flow && classes.is_flow c) h) [
+follower class flow (c ∷ r) h space tab feed carriage nul comma bracket bracketed brace braced = elim (or_cases (is_blank_or_end c) (flow && classes.is_flow c) h) [
   | inl e ↦ gaps (λ d. class d ≡ false) c e space tab feed carriage nul
   | inr e ↦ flows (λ d. class d ≡ false) c (and_parts flow (classes.is_flow c) e).1 comma bracket bracketed brace braced
 ]
@@ -44,14 +43,13 @@ module _ (flow : Bool) (rest : List ℕ) (g : defs.Tag) (p : Position) (follows 
       at_end r h = grind arith
 
   suffix_of : (q : Position) (l before cs : List ℕ) → all_of classes.is_tag l ≡ true → decoded l ≡ Ok cs → uri is_tag p (l ++ rest) q before ≡ Ok (record { rest = rest; position = further (length l) q; value = before ++ cs })
-  unfolding classes.is_tag classes.is_uri classes.is_decimal_digit classes.is_letter classes.is_flow
+  unfolding classes.is_tag classes.is_uri is_decimal_digit is_letter classes.is_flow
   suffix_of q l before cs all means = let z = leading_all classes.is_tag l rest all (follower classes.is_tag flow rest follows refl refl refl refl refl refl refl refl refl refl) in (uris_are_read p (l ++ rest) q before).1 ∙ ap (after_class classes.is_tag p q (l ++ rest) before) (ap decoded z.0 ∙ means) ∙ rw (z.0, z.1) refl
 
   abbrev Reads : List ℕ → Type 0
   Reads piece = tag flow (33 ∷ (piece ++ rest)) p ≡ Ok (after_tag p (33 ∷ piece) rest g.handle g.suffix)
 
-  -- ---- verbatim tags
-
+  -- verbatim tags
   verbatim_read : (b : List ℕ) → defs.verbatim b ≡ Some g → Reads (60 ∷ b)
   unfolding tag verbatim
   verbatim_read b h = elim (cases_Bool (is_same (after classes.is_uri b) (codes ">"))) [
@@ -71,13 +69,12 @@ module _ (flow : Bool) (rest : List ℕ) (g : defs.Tag) (p : Position) (follows 
   -- after a name and a second mark
   named_read : (name m : List ℕ) → defs.begins_with_mark m ≡ true → defs.named name m ≡ Some g → ReadsOn name m
   unfolding named
-  named_read name [] mark h = cc
-  named_read name (x ∷ []) mark h = cc
   named_read name (x ∷ c ∷ t) mark h =
       let k = of_class classes.is_tag (codes "!" ++ name ++ codes "!") (c ∷ t) g h in
       let some : is_empty g.suffix ≡ false = decoded_some c t g.suffix k.1 in
       let second : x ≡ 33 = eqb-true x 33 mark in
       rw (second, suffix_of (past (further (length name) (past p))) (c ∷ t) [] g.suffix k.0 k.1, some, same_end flow rest, follows, k.2, named_position p (length name) (length (c ∷ t)) (length (name ++ 33 ∷ c ∷ t)) (length-append name (33 ∷ c ∷ t))) refl
+  named_read name _ mark h = cc
 
   -- after a name and no mark
   local_read : (name m : List ℕ) → all_of classes.is_alpha name ≡ true → defs.begins_with_mark m ≡ false → is_empty (name ++ m) ≡ false → tag_of_class classes.is_tag (codes "!") (name ++ m) ≡ Some g → ReadsOn name m
@@ -92,7 +89,7 @@ module _ (flow : Bool) (rest : List ℕ) (g : defs.Tag) (p : Position) (follows 
   -- a text that begins no verbatim tag
   shorthand_here : (a : List ℕ) → begins_in (λ c. c == 60) a ≡ false → tag flow (33 ∷ (a ++ rest)) p
       ≡ and_then (after_name p (leading classes.is_alpha a) (after classes.is_alpha a ++ rest) (further (length (leading classes.is_alpha a)) (past p))) (λ r. tag_end flow p r)
-  unfolding tag shorthand classes.is_alpha classes.is_decimal_digit classes.is_letter
+  unfolding tag shorthand classes.is_alpha is_decimal_digit is_letter
   shorthand_here a e = let z = before_end classes.is_alpha a rest (follower classes.is_alpha flow rest follows refl refl refl refl refl refl refl refl refl refl) in rw (none_after a 60 e (follower (λ c. c == 60) flow rest follows refl refl refl refl refl refl refl refl refl refl) refl, word (a ++ rest) (past p) [], z.0, z.1) refl
 
   shorthand_read : (a : List ℕ) → begins_in (λ c. c == 60) a ≡ false → defs.shorthand a ≡ Some g → Reads a

@@ -1,13 +1,10 @@
 -- Tags are read as what is written, and no other text is.
-use Rattle.proof_lexers.proofs.Common.{[], after, after_class, after_name, all_of, and_parts, and_then, ap, append_assoc, arith, at_start, begins_with, Bool, cases_Bool, codes, decoded, ends_tag, EndsAs, eqb-true, Err, false, Fault, further, if◌then◌else◌, inl, inr, is_alpha, is_empty, IsTagFault, IsTagRead, IsTagRefusal, leading, length, length-append, List, local, local_goes_on, local_octets, may_follow, named, nat_tests, no_suffix, Ok, past, Position, Read, read_tag, reads, refl, refuses, Result, shorthand, slice_index, Some, some_suffix, suc, suffix_goes_on, suffix_octets, sym, tag_end, tag_of_class, TagsEndAsTheirTextSays, take_while, true, uri_character, UriFault, verbatim, verbatim_end, verbatim_goes_on, verbatim_octets, whole_tag, written_tag, ℕ, ◌++◌, ◌+◌, ◌==◌, ◌∙◌, ◌∷◌, ◌≡◌}
-use Rattle.yaml_tokens.specs.declared.problem.Problem.TheVariants as problem
+use Rattle.proof_lexers.proofs.Common.{[], after, after_class, after_name, all_of, and_parts, and_then, ap, append_assoc, arith, at_start, begins_with, Bool, cases_Bool, codes, decoded, ends_tag, EndsAs, eqb-true, Err, false, Fault, further, if◌then◌else◌, inl, inr, is_alpha, is_empty, IsTagFault, IsTagRead, IsTagRefusal, leading, length, length-append, List, local, local_goes_on, local_octets, may_follow, named, nat_tests, no_suffix, Ok, past, Position, Read, read_tag, reads, refl, refuses, Result, shorthand, slice_index, Some, some_suffix, suc, suffix_goes_on, suffix_octets, sym, tag_end, tag_of_class, TagsEndAsTheirTextSays, take_while, true, uri_character, UriFault, verbatim, verbatim_end, verbatim_goes_on, verbatim_octets, whole_tag, written_tag, ℕ, ◌++◌, ◌+◌, ◌==◌, ◌∙◌, ◌∷◌, ◌≡◌, TagEnd, is_decimal_digit, is_letter, same_gap, same_flow, same_alpha, same_place, begins_in, ends_after, taken}
 use Rattle.defs_text.specs.Classes as classes
 use Rattle.defs_text.specs.Tags as defs
 use Rattle.model_scanner.specs.Tag.{Tag, tag}
-use Rattle.proof_lexers.proofs.Bridges.{same_gap, same_flow, same_alpha}
 use Rattle.proof_lexers.specs.TagEnds.{unclosed}
 pub use Rattle.proof_lexers.proofs.Classes.{span_cut, all_leading, leading_all}
-use Rattle.proof_lexers.proofs.Classes.{same_place, begins_in, ends_after, taken}
 use Rattle.proof_lexers.proofs.Properties.Uris.{uris_are_read}
 use Rattle.proof_lexers.proofs.Plain.Turns.{end_is_a_gap}
 
@@ -27,7 +24,7 @@ same_end flow a = grind (arith, end_is_a_gap, same_gap, same_flow)
 module _ (flow : Bool) (start : Position) (text : List ℕ) where
   -- a tag that stands there
   ended : (piece rest handle suffix : List ℕ) (p : Position) → text ≡ piece ++ rest → written_tag (33 ∷ piece) ≡ Some (record { handle = handle; suffix = suffix }) → p ≡ further (length (33 ∷ piece)) start
-      → (may_follow flow rest ≡ false → IsTagRefusal flow text problem.TagEnd) → Ends flow start text (tag_end flow start (read_tag rest p handle suffix))
+      → (may_follow flow rest ≡ false → IsTagRefusal flow text TagEnd) → Ends flow start text (tag_end flow start (read_tag rest p handle suffix))
   ended piece rest handle suffix p cut is position goes = elim (cases_Bool (may_follow flow rest)) [
     | inl e ↦ reads _ (whole_tag piece rest handle suffix cut is e) (rw (same_end flow rest, e, position) refl)
     | inr e ↦ refuses _ (at_start _ (goes e)) (rw (same_end flow rest, e) refl)
@@ -36,7 +33,7 @@ module _ (flow : Bool) (start : Position) (text : List ℕ) where
 -- ---- a verbatim tag
 
 pub close_is_no_uri : classes.is_uri 62 ≡ false
-unfolding classes.is_uri classes.is_decimal_digit classes.is_letter
+unfolding classes.is_uri is_decimal_digit is_letter
 close_is_no_uri = refl
 
 pub closed_position : (p : Position) (n m : ℕ) → m ≡ n + 1 → past (further n (past (past p))) ≡ further (suc (suc m)) p
@@ -73,11 +70,11 @@ pub decoded_some : (c : ℕ) (r cs : List ℕ) → decoded (c ∷ r) ≡ Ok cs �
 decoded_some c r cs h = grind arith
 
 pub alpha_starts : (c : ℕ) → classes.is_alpha c ≡ true → ((c == 60) ≡ false) × ((c == 37) ≡ false) × (classes.is_tag c ≡ true)
-unfolding classes.is_alpha classes.is_decimal_digit classes.is_letter classes.is_tag classes.is_uri classes.is_flow
+unfolding classes.is_alpha is_decimal_digit is_letter classes.is_tag classes.is_uri classes.is_flow
 alpha_starts c h = (grind (arith, nat_tests), grind (arith, nat_tests), grind (arith, nat_tests))
 
 tag_starts : (c : ℕ) → classes.is_tag c ≡ true → ((c == 60) ≡ false) × ((c == 33) ≡ false)
-unfolding classes.is_decimal_digit classes.is_letter classes.is_tag classes.is_uri classes.is_flow
+unfolding is_decimal_digit is_letter classes.is_tag classes.is_uri classes.is_flow
 tag_starts c h = (grind (arith, nat_tests), grind (arith, nat_tests))
 
 -- a text that begins with a word or a mark is no verbatim tag
@@ -129,7 +126,7 @@ module _ (flow : Bool) (start : Position) (text name : List ℕ) (all : all_of c
   -- after a name and a second mark
   suffix_by : (s l rest : List ℕ) (d : Result (List ℕ) UriFault) → text ≡ name ++ 33 ∷ (l ++ rest) → leading classes.is_tag s ≡ l → s ≡ l ++ rest → after classes.is_tag s ≡ rest → decoded l ≡ d
       → Ends flow start text (and_then (and_then (after_class classes.is_tag start (past (further (length name) (past start))) s [] d) (λ r. some_suffix start name r)) (λ t. tag_end flow start t))
-  unfolding classes.is_alpha classes.is_decimal_digit classes.is_letter
+  unfolding classes.is_alpha is_decimal_digit is_letter
   suffix_by s l rest (Err f) cut lead same b e = refuses _ (at_start _ (suffix_octets name s f (cut ∙ ap (λ r. name ++ 33 ∷ r) (sym same)) all (ap decoded lead ∙ e))) refl
   suffix_by s [] rest (Ok cs) cut lead same b e =
       let none : [] ≡ cs = cc in
@@ -147,7 +144,7 @@ module _ (flow : Bool) (start : Position) (text name : List ℕ) (all : all_of c
   local_by m l rest (Err f) cut ends not_verbatim unmarked begins lead b e = refuses _ (at_start _ (local_octets f not_verbatim (ap defs.begins_with_mark ends ∙ unmarked) (ap (λ r. decoded (leading classes.is_tag r)) ends ∙ (ap decoded lead ∙ e)))) refl
   local_by m l rest (Ok cs) cut ends not_verbatim unmarked begins lead b e = by (is_empty (name ++ l)) refl
     where
-      goes : may_follow flow rest ≡ false → IsTagRefusal flow text problem.TagEnd
+      goes : may_follow flow rest ≡ false → IsTagRefusal flow text TagEnd
       goes g = grind (arith, nat_tests, local_goes_on)
 
       by : (none : Bool) → is_empty (name ++ l) ≡ none → Ends flow start text (tag_end flow start (local (record { rest = after classes.is_tag m; position = further (length (leading classes.is_tag m)) (further (length name) (past start)); value = name ++ cs })))

@@ -1,18 +1,15 @@
 -- A URI's characters are read as what they mean.
 use Rattle.std.specs.Char.{is_digit}
-use Rattle.proof_lexers.proofs.Common.{[], after_class, and_then, ap, append-nil, append_assoc, arith, At, at_octet, at_trail, Bool, cases_Bool, code_followed, decoded, decoded_after, digit_value, drop, eqb-true, Err, escaped_character, false, Fault, further, high, if◌then◌else◌, inl, inr, is_alphanumeric, is_between, is_character_code, is_flow, is_hex, is_tag, is_trail, is_uri, is_uri_mark, Lead, lead, lead_of, leading, led_by, List, nat_le, nat_lt, nat_tests, no_character, None, Octet, octet_at, octet_from, Ok, Option, past, Position, put_code, Read, refl, Result, Some, subst, suc, sym, trail, trail_by, trails, trails_from, true, uri_character, uri_from, UriFault, UrisAreRead, UriState, zero, ℕ, ◌&&◌, ◌*◌, ◌++◌, ◌+◌, ◌==◌, ◌∙◌, ◌∷◌, ◌≡◌}
-use Rattle.yaml_tokens.specs.declared.problem.Problem.TheVariants as problem
+use Rattle.proof_lexers.proofs.Common.{[], after_class, and_then, ap, append-nil, append_assoc, arith, At, at_octet, at_trail, Bool, cases_Bool, code_followed, decoded, decoded_after, digit_value, drop, eqb-true, Err, escaped_character, false, Fault, further, high, if◌then◌else◌, inl, inr, is_alphanumeric, is_between, is_character_code, is_flow, is_hex, is_tag, is_trail, is_uri, is_uri_mark, Lead, lead, lead_of, leading, led_by, List, nat_le, nat_lt, nat_tests, no_character, None, Octet, octet_at, octet_from, Ok, Option, past, Position, put_code, Read, refl, Result, Some, subst, suc, sym, trail, trail_by, trails, trails_from, true, uri_character, uri_from, UriFault, UrisAreRead, UriState, zero, ℕ, ◌&&◌, ◌*◌, ◌++◌, ◌+◌, ◌==◌, ◌∙◌, ◌∷◌, ◌≡◌, TagLeadingOctet, TagOctet, same_digit, same_code, same_uri, same_tag, both, none_further}
 use Rattle.defs_text.specs.Classes as classes
 use Rattle.model_scanner.specs.Uri.{plain}
 use Rattle.model_scanner.proofs.UriLemmas.{low_turn}
-use Rattle.proof_lexers.proofs.Bridges.{same_digit, same_code, same_uri, same_tag, both}
-use Rattle.proof_lexers.proofs.Classes.{none_further}
 
 -- ---- octets
 
 -- where a first octet leads
 abbrev lead_to : Position → Position → List ℕ → Option Lead → Result UriState Fault
-lead_to start p t None = Err (At problem.TagLeadingOctet start)
+lead_to start p t None = Err (At TagLeadingOctet start)
 lead_to start p t (Some l) = at_trail start l.further l.bits l.least p t
 
 same_between : (least most n : ℕ) → (nat_le least n && nat_lt n (suc most)) ≡ is_between least most n
@@ -58,7 +55,7 @@ module _ (test class : ℕ → Bool) (start : Position) (same : (c : ℕ) → cl
   data Octets (o : Octet) (a : List ℕ) (p : Position) (t : List ℕ) : Type 0 where
     octet : (x y n : ℕ) (b : List ℕ) → a ≡ x ∷ y ∷ b → class x ≡ true → class y ≡ true → octet_at (37 ∷ leading class a) ≡ Some n
         → uri_from test start a (record { mode = high o; position = p; text = t }) ≡ octet_from test start o n b (past (past p)) t → Octets o a p t
-    no_octets : octet_at (37 ∷ leading class a) ≡ None → uri_from test start a (record { mode = high o; position = p; text = t }) ≡ Err (At problem.TagOctet start) → Octets o a p t
+    no_octets : octet_at (37 ∷ leading class a) ≡ None → uri_from test start a (record { mode = high o; position = p; text = t }) ≡ Err (At TagOctet start) → Octets o a p t
 
   of_class : (c : ℕ) → is_digit c 16 ≡ true → class c ≡ true
   of_class c h = same c ∙ digits c h
@@ -162,11 +159,7 @@ module _ (test class : ℕ → Bool) (start : Position) (same : (c : ℕ) → cl
   first_by c a plains true true e f p t =
       let is_percent : c ≡ 37 = eqb-true c 37 f in
       rw (is_percent, leads) (at_percent a p t plains (octets_at lead a (past p) t))
-  first_by c a plains true false e f p t =
-      let tested : test c ≡ true = sym (same c) ∙ e in
-      let one : decoded (leading class (c ∷ a)) ≡ put_code c (decoded (leading class a)) = rw (e, f) refl in
-      let on : scan (c ∷ a) p t ≡ scan a (past p) (t ++ c ∷ []) = rw (tested, f) refl in
-      on ∙ plains 0 (past p) (t ++ c ∷ []) ∙ with_code c a (past p) t (decoded (leading class a)) ∙ more c a p t (put_code c (decoded (leading class a))) e ∙ ap (answer (c ∷ a) p t) (sym one)
+  first_by c a plains true false e f p t = grind (arith, plains 0 (past p) (t ++ c ∷ []), with_code, more)
   first_by c a plains false is_escape e f p t =
       let tested : test c ≡ false = sym (same c) ∙ e in
       rw (tested, e, e) (nothing_read (c ∷ a) p t)

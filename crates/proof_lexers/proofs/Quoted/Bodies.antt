@@ -1,7 +1,5 @@
 -- The model over the elements of a body, up to its closing quote.
-use Rattle.proof_lexers.proofs.Common.{[], after_element, after_elements, after_gap, after_quote, ap, append-nil, At, at_marker, Bool, by_line, cases_Bool, closed_end, Context, double_quoted_element, drop, Element, element_of, elements, ends_before, Err, false, Fault, first, Folded, followed, gap, has_marker, inl, inr, inside, is_blank, is_break, is_document_marker, IsShallow, joined, List, Mode, nat_lt, None, nothing, Ok, Option, past, Position, put_before, quote_of, Read, read, refl, refused, Result, shallow, slice_index, Some, Spelled, suc, sym, true, zero, ℕ, ◌&&◌, ◌++◌, ◌+◌, ◌==◌, ◌||◌, ◌∙◌, ◌∷◌, ◌≡◌, arith}
-use Rattle.yaml_tokens.specs.declared.problem.Problem.TheVariants as problem
-use Rattle.defs_text.specs.Classes as classes
+use Rattle.proof_lexers.proofs.Common.{[], after_element, after_elements, after_gap, after_quote, ap, append-nil, At, at_marker, Bool, by_line, cases_Bool, closed_end, Context, double_quoted_element, drop, Element, element_of, elements, ends_before, Err, false, Fault, first, Folded, followed, gap, has_marker, inl, inr, inside, is_blank, is_break, is_document_marker, IsShallow, joined, List, Mode, nat_lt, None, nothing, Ok, Option, past, Position, put_before, quote_of, Read, read, refl, refused, Result, shallow, slice_index, Some, Spelled, suc, sym, true, zero, ℕ, ◌&&◌, ◌++◌, ◌+◌, ◌==◌, ◌||◌, ◌∙◌, ◌∷◌, ◌≡◌, arith, QuotedDocumentMarker, QuotedIndentation}
 use Rattle.proof_lexers.specs.QuotedScan.{IsRead}
 use Rattle.proof_lexers.proofs.Quoted.Turns.{no_marker, off_margin, Ready, in_gap, after_escaped, scan, Begun, begun, marked, begins, Step, steps, is_marked, is_shallow, StepOf, may_stand}
 use Rattle.proof_lexers.proofs.Quoted.Turns as turns
@@ -14,7 +12,7 @@ marked_from col a r = ((col == 0) && is_document_marker (a ++ r)) || has_marker 
 -- After a body's elements: before the text after it, or refused on the way.
 pub data Passed (single : Bool) (ctx : Context) (start : Position) (x : Result (Read (List ℕ)) Fault) (a r : List ℕ) (col : ℕ) (t : Folded) : Type 0 where
   passed : (m : Mode) (q : Position) → Ready single t m → marked_from col a r ≡ false → x ≡ scan single ctx start r m q t → Passed single ctx start x a r col t
-  met_marker : marked_from col a r ≡ true → x ≡ Err (At problem.QuotedDocumentMarker start) → Passed single ctx start x a r col t
+  met_marker : marked_from col a r ≡ true → x ≡ Err (At QuotedDocumentMarker start) → Passed single ctx start x a r col t
   was_shallow : IsShallow ctx start x → Passed single ctx start x a r col t
 
 passed_on : (single : Bool) (ctx : Context) (start : Position) (x : Result (Read (List ℕ)) Fault) (a b r : List ℕ) (col n : ℕ) (t : Folded) → marked_from col a r ≡ marked_from n b r → Passed single ctx start x b r n t → Passed single ctx start x a r col t
@@ -29,16 +27,12 @@ quote_still single r = grind (arith, no_marker)
 pub quote_feed : (single : Bool) (r : List ℕ) → (slice_index (quote_of single ∷ r) 0 == 10) ≡ false
 quote_feed single r = grind arith
 
--- in double quotes no element begins with the quote
-no_quote : (c : ℕ) (b : List ℕ) (s : Spelled) → double_quoted_element c b ≡ Some s → (c == 34) ≡ false
-unfolding double_quoted_element
-no_quote c b s h = grind arith
-
 module _ (single : Bool) (ctx : Context) (start : Position) where
   -- an element may begin after an escaped break as in a gap
   pub from_gap : (c : ℕ) (b a : List ℕ) (s : Spelled) (m : Mode) (p : Position) (t : Folded) → element_of single c b ≡ Some s → Ready single t m → scan single ctx start (c ∷ a) m p t ≡ scan single ctx start (c ∷ a) gap p t
+  unfolding double_quoted_element
   from_gap c b a s m p t h in_gap = refl
-  from_gap c b a s m p t h (after_escaped double e f) = after_gap single ctx start c (c ∷ a) p t refl (rw double (let g : double_quoted_element c b ≡ Some s = rw double at h in no_quote c b s g))
+  from_gap c b a s m p t h (after_escaped double e f) = grind (arith, after_gap)
 
   abbrev Passes : ℕ → List ℕ → List ℕ → Type 0
   Passes n a r = (es : List Element) (m : Mode) (p : Position) (t : Folded) → elements (element_of single) n a ≡ Some es → Ready single t m
@@ -77,9 +71,9 @@ module _ (single : Bool) (ctx : Context) (start : Position) where
 
   pub first_is_gap : (a : List ℕ) (p : Position) → (p.col == 0) ≡ false → nat_lt (p.col + 1) ctx.indent ≡ false → scan single ctx start a first p nothing ≡ scan single ctx start a gap p nothing
   first_is_gap [] p e f = refl
-  first_is_gap (c ∷ a) p e f = elim (cases_Bool (is_break c || is_blank c)) [ inl g ↦ rw (may_stand single ctx start (c ∷ a) p e f, g) refl | inr g ↦ rw g refl ]
+  first_is_gap (c ∷ a) p e f = grind (arith, may_stand)
 
-  pub first_fails : (c : ℕ) (a : List ℕ) (p : Position) → (p.col == 0) ≡ false → nat_lt (p.col + 1) ctx.indent ≡ true → scan single ctx start (c ∷ a) first p nothing ≡ Err (At problem.QuotedIndentation start)
+  pub first_fails : (c : ℕ) (a : List ℕ) (p : Position) → (p.col == 0) ≡ false → nat_lt (p.col + 1) ctx.indent ≡ true → scan single ctx start (c ∷ a) first p nothing ≡ Err (At QuotedIndentation start)
   unfolding refused at_marker
   first_fails c a p e f = rw (e, f) refl
 
@@ -94,7 +88,7 @@ module _ (single : Bool) (ctx : Context) (start : Position) where
 
   -- What holds of each way in which a text of elements and more ends, holds of its scan from the opening quote on.
   pub through : (P : Result (Read (List ℕ)) Fault → Type 0) (body rest : List ℕ) (es : List Element) → elements (element_of single) 0 body ≡ Some es → (slice_index rest 0 == 10) ≡ false → is_document_marker rest ≡ false
-      → ((x : Result (Read (List ℕ)) Fault) → IsShallow ctx start x → P x) → (has_marker body rest ≡ true → P (Err (At problem.QuotedDocumentMarker start)))
+      → ((x : Result (Read (List ℕ)) Fault) → IsShallow ctx start x → P x) → (has_marker body rest ≡ true → P (Err (At QuotedDocumentMarker start)))
       → ((m : Mode) (q : Position) → Ready single (after_elements es nothing) m → has_marker body rest ≡ false → P (scan single ctx start rest m q (after_elements es nothing))) → P (scan single ctx start (body ++ rest) first (past start) nothing)
   through P body rest es are no_feed still is_low by_mark goes = elim (opens (body ++ rest) (past start) off) [
     | not_opened s ↦ is_low _ s

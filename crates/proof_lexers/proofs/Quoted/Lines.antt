@@ -53,8 +53,7 @@ module _ (single : Bool) (ctx : Context) (start : Position) where
   pub char_goes : (c : ℕ) → (is_break c || is_blank c) ≡ false → ((c == 92) && not single) ≡ false → (c == quote_of single) ≡ false → IsWritten (c ∷ []) c
   char_goes c e f g a text blanks p h = went (c ∷ []) a text blanks p c h (joins c a p text blanks e h ∙ rw (e, f, g) refl)
 
--- ---- two single quotes are one
-
+-- two single quotes are one
 pub quote_goes : (ctx : Context) (start : Position) → IsWritten true ctx start (39 ∷ 39 ∷ []) 39
 unfolding is_break is_blank
 quote_goes ctx start a text blanks p h = went true ctx start (39 ∷ 39 ∷ []) a text blanks p 39 h (joins true ctx start 39 (39 ∷ a) p text blanks refl h)

@@ -13,8 +13,6 @@ abbrev pub LocalOf : (List ℕ → Option Spelled) → List ℕ → Option Spell
 LocalOf at b None = Unit {0}
 LocalOf at b (Some s) = Local at b s
 
--- ---- a character that means itself
-
 -- ---- double quotes
 
 escape_broken : (d : ℕ) (b : List ℕ) → classes.is_break d ≡ true → Local escape (d ∷ b) (spelled escaped_break (suc (break_further d b)))

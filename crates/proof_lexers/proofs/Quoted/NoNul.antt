@@ -1,8 +1,6 @@
 -- A body that has elements has no NUL, and a line of it begins with a marker before the closing quote just where it does in the body.
-use Rattle.proof_lexers.proofs.Common.{[], and_parts, arith, begins_with_marker, Bool, Context, drop, Element, element_of, elements, false, followed, has_document_marker, has_marker, is_document_marker, le-ltb, List, list_all, nat_lt, nothing, Option, Position, quote_of, refl, Some, Spelled, suc, true, zero, ℕ, ◌++◌, ◌∷◌, ◌≡◌}
+use Rattle.proof_lexers.proofs.Common.{[], arith, begins_with_marker, Bool, Context, drop, Element, element_of, elements, false, followed, has_document_marker, has_marker, is_document_marker, le-ltb, List, list_all, nat_lt, nothing, Option, Position, quote_of, refl, Some, Spelled, suc, true, zero, ℕ, ◌++◌, ◌∷◌, ◌≡◌, is_some, are_marks, is_blank_or_end, is_nul, and_false, or_false}
 use Rattle.defs_text.specs.Classes as classes
-use Rattle.proof_lexers.proofs.Bridges.{and_false, or_false}
-use Rattle.proof_lexers.specs.QuotedScan.{is_some}
 use Rattle.proof_lexers.proofs.Quoted.Turns.{no_marker, StepOf}
 use Rattle.proof_lexers.proofs.Quoted.Elements.{step}
 
@@ -34,9 +32,9 @@ module _ (single : Bool) where
 
 -- with the closing quote after it a body begins with a marker just where it does alone
 marker_here : (single : Bool) (a r : List ℕ) → list_all is_some a ≡ true → is_document_marker (a ++ quote_of single ∷ r) ≡ begins_with_marker a
-unfolding begins_with_marker classes.are_marks classes.is_blank_or_end classes.is_blank classes.is_break classes.is_nul
+unfolding begins_with_marker are_marks is_blank_or_end classes.is_blank classes.is_break is_nul
 marker_here b d r h = grind (arith, no_marker, and_false, or_false)
 
 pub same_marks : (single : Bool) (a r : List ℕ) → list_all is_some a ≡ true → has_marker a (quote_of single ∷ r) ≡ has_document_marker a
 same_marks single [] r h = refl
-same_marks single (c ∷ a) r h = let q = and_parts (is_some c) (list_all is_some a) h in rw (marker_here single a r q.1, same_marks single a r q.1) refl
+same_marks single (c ∷ a) r h = grind (arith, marker_here, same_marks single a r)

@@ -1,11 +1,10 @@
 -- Each scan of a quoted scalar ends as its text says.
-use Rattle.proof_lexers.proofs.Common.{[], after_elements, after_gap, ap, append-nil, At, Bool, by_end, by_escape, by_line, by_marker, Context, ends_before, EndsAs, escape, false, Fault, first, Folded, gap, has_marker, HasElements, is_blank, is_break, is_document_marker, IsQuotedRead, IsQuotedRefusal, IsShallow, joined, List, Mode, None, nothing, past, Position, quote_of, quoted, QuotedScansEndAsTheirTextSays, Read, read, reads, refl, refuses, Result, shallow, slice_index, Some, sym, true, ℕ, ◌++◌, ◌==◌, ◌∙◌, ◌∷◌, ◌≡◌, subst}
-use Rattle.yaml_tokens.specs.declared.problem.Problem.TheVariants as problem
+use Rattle.proof_lexers.proofs.Common.{[], after_elements, after_gap, ap, append-nil, At, Bool, by_end, by_escape, by_line, by_marker, Context, ends_before, EndsAs, escape, false, Fault, first, Folded, gap, has_marker, HasElements, is_blank, is_break, is_document_marker, IsQuotedRead, IsQuotedRefusal, IsShallow, joined, List, Mode, None, nothing, past, Position, quote_of, quoted, QuotedScansEndAsTheirTextSays, Read, read, reads, refl, refuses, Result, shallow, slice_index, Some, sym, true, ℕ, ◌++◌, ◌==◌, ◌∙◌, ◌∷◌, ◌≡◌, subst, QuotedDocumentMarker, QuotedEnd, QuotedIndentation, TabAsIndentation}
 use Rattle.proof_lexers.specs.QuotedScan.{IsRead}
 use Rattle.proof_lexers.specs.QuotedScan as scans
 use Rattle.proof_lexers.specs.QuotedEnds.{by_column, by_tab}
 use Rattle.proof_lexers.proofs.Fold.{buffers_join}
-use Rattle.proof_lexers.proofs.Quoted.Turns.{no_marker, off_margin, Ready, in_gap, after_escaped, scan, Begun, begun, begins}
+use Rattle.proof_lexers.proofs.Quoted.Turns.{no_marker, Ready, in_gap, after_escaped, scan, Begun, begun, begins}
 use Rattle.proof_lexers.proofs.Quoted.Turns as turns
 use Rattle.proof_lexers.proofs.Quoted.NoNul.{has_none, same_marks}
 use Rattle.proof_lexers.proofs.Quoted.Bodies.{through, quote_still, quote_feed, close, no_mark}
@@ -18,18 +17,17 @@ module _ (single : Bool) (ctx : Context) (start : Position) (text : List ℕ) wh
   Ends x = EndsAs (IsQuotedRead single text) (IsQuotedRefusal single ctx start text) x
 
   is_shallow : (x : Result (Read (List ℕ)) Fault) → IsShallow ctx start x → Ends x
-  is_shallow x (by_line p h e) = refuses (At problem.QuotedIndentation start) (by_column p h) e
-  is_shallow x (scans.by_tab p h e) = refuses (At problem.TabAsIndentation p) (by_tab p h) e
+  is_shallow x (by_line p h e) = refuses (At QuotedIndentation start) (by_column p h) e
+  is_shallow x (scans.by_tab p h e) = refuses (At TabAsIndentation p) (by_tab p h) e
 
   from_body : (body rest : List ℕ) (has : HasElements single body) → text ≡ body ++ rest → (slice_index rest 0 == 10) ≡ false → is_document_marker rest ≡ false
       → ((m : Mode) (q : Position) → Ready single (after_elements has.0 nothing) m → has_marker body rest ≡ false → Ends (scan single ctx start rest m q (after_elements has.0 nothing)))
       → Ends (scan single ctx start text first (past start) nothing)
   from_body body rest has cut no_feed still goes =
       subst (λ a. Ends (scan single ctx start a first (past start) nothing)) (sym cut)
-      (through single ctx start Ends body rest has.0 has.1 no_feed still is_shallow (λ meets. refuses (At problem.QuotedDocumentMarker start) (by_marker body rest cut has meets) refl) goes)
+      (through single ctx start Ends body rest has.0 has.1 no_feed still is_shallow (λ meets. refuses (At QuotedDocumentMarker start) (by_marker body rest cut has meets) refl) goes)
 
-  -- ---- a closing quote
-
+  -- a closing quote
   closes : (body rest : List ℕ) (has : HasElements single body) → text ≡ body ++ quote_of single ∷ rest → ends_before single rest ≡ true → has_marker body (quote_of single ∷ rest) ≡ false
       → (x : Result (Read (List ℕ)) Fault) → IsRead ctx start ((joined (after_elements has.0 nothing)).text) rest x → Ends x
   closes body rest has cut ends none x (shallow s) = is_shallow x s
@@ -37,11 +35,10 @@ module _ (single : Bool) (ctx : Context) (start : Position) (text : List ℕ) wh
       let unmarked = sym (same_marks single body rest (has_none single 0 body has.0 has.1)) ∙ none in
       reads _ (record { body = body; is_text = cut; is_value = value_is single body has.0 has.1 unmarked ∙ ap Some (sym (buffers_join has.0)); may_end = ends }) e
 
-  -- ---- no closing quote
-
+  -- no closing quote
   at_end : (m : Mode) (q : Position) (t : Folded) → Ready single t m → HasElements single text → Ends (scan single ctx start [] m q t)
-  at_end m q t in_gap has = refuses (At problem.QuotedEnd start) (by_end has) refl
-  at_end m q t (after_escaped double e f) has = refuses (At problem.QuotedEnd start) (by_end has) refl
+  at_end m q t in_gap has = refuses (At QuotedEnd start) (by_end has) refl
+  at_end m q t (after_escaped double e f) has = refuses (At QuotedEnd start) (by_end has) refl
 
 -- ---- an escape that is none
 
@@ -49,7 +46,7 @@ module _ (ctx : Context) (start : Position) (text body rest : List ℕ) (cut : t
   in_line : (p : Position) (t : Folded) → Begun false ctx start (92 ∷ rest) p t → Ends false ctx start text (scan false ctx start (92 ∷ rest) gap p t)
   in_line p t (begun none deep e) = let z = escape_fails ctx start rest p (joined t) bad in refuses (At z.why start) (by_escape body rest z.why refl cut has z.bad) (e ∙ z.is)
   in_line p t (turns.marked e f) = absurd (no_mark (p.col == 0) (is_document_marker (92 ∷ rest)) (no_marker 92 rest refl refl) e)
-  in_line p t (turns.shallow h e) = refuses (At problem.QuotedIndentation start) (by_column p h) e
+  in_line p t (turns.shallow h e) = refuses (At QuotedIndentation start) (by_column p h) e
 
   at_escape : (m : Mode) (p : Position) (t : Folded) → Ready false t m → Ends false ctx start text (scan false ctx start (92 ∷ rest) m p t)
   unfolding is_break is_blank

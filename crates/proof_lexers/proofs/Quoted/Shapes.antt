@@ -1,7 +1,5 @@
 -- Each text after an opening quote is a body and its closing quote, or has none, or an escape in it is none.
-use Rattle.proof_lexers.proofs.Common.{[], and_parts, ap, append_assoc, Bool, double_quoted_element, drop, element_of, elements, ends_before, eqb-true, escape, false, HasElements, List, list_all, None, not-true, Option, plain_element, quote_of, refl, single_quoted_element, Some, Spelled, suc, sym, take, take-append-drop, true, zero, ℕ, ◌++◌, ◌==◌, ◌∙◌, ◌∷◌, ◌≡◌, arith}
-use Rattle.defs_text.specs.Classes as classes
-use Rattle.proof_lexers.specs.QuotedScan.{is_some}
+use Rattle.proof_lexers.proofs.Common.{[], and_parts, ap, append_assoc, Bool, double_quoted_element, drop, element_of, elements, ends_before, eqb-true, escape, false, HasElements, List, list_all, None, not-true, Option, plain_element, quote_of, refl, single_quoted_element, Some, Spelled, suc, sym, take, take-append-drop, true, zero, ℕ, ◌++◌, ◌==◌, ◌∙◌, ◌∷◌, ◌≡◌, arith, is_some, is_nul}
 use Rattle.proof_lexers.proofs.Quoted.Local.{Local, LocalOf, local, after_some, after_own}
 
 -- a text after an opening quote
@@ -38,7 +36,7 @@ pub data NoElement (single : Bool) (c : ℕ) (b : List ℕ) : Type 0 where
   slash : single ≡ false → c ≡ 92 → escape b ≡ None → NoElement single c b
 
 pub no_element : (single : Bool) (c : ℕ) (b : List ℕ) → (c == 0) ≡ false → element_of single c b ≡ None → NoElement single c b
-unfolding single_quoted_element double_quoted_element classes.is_nul plain_element
+unfolding single_quoted_element double_quoted_element is_nul plain_element
 no_element single c b nul h = grind (arith, closing, slash, eqb-true)
 
 none_shape : (single : Bool) (c : ℕ) (b : List ℕ) → NoElement single c b → Shape single (c ∷ b)

@@ -1,18 +1,16 @@
 -- What the model does at an element of a body.
-use Rattle.proof_lexers.proofs.Common.{[], after_element, along, and_parts, append-nil, arith, At, at_marker, blank, Bool, break_further, by_line, cases_Bool, content, Context, drop, Element, eqb-true, Err, false, Fault, Folded, gap, has_marker, inl, inr, inside, is_blank, is_break, is_document_marker, IsShallow, joined, line_break, List, list_all, Mode, nat_lt, nat_tests, None, not, Ok, Option, past, past_break, plain_element, Position, quote_of, quoted_from, Read, refl, refused, Result, slice_index, Some, Spelled, take, true, with_char, ℕ, ◌&&◌, ◌++◌, ◌+◌, ◌==◌, ◌||◌, ◌∙◌, ◌∷◌, ◌≡◌, ◌≤◌}
-use Rattle.yaml_tokens.specs.declared.problem.Problem.TheVariants as problem
+use Rattle.proof_lexers.proofs.Common.{[], after_element, along, and_parts, append-nil, arith, At, at_marker, blank, Bool, break_further, by_line, cases_Bool, content, Context, drop, Element, eqb-true, Err, false, Fault, Folded, gap, has_marker, inl, inr, inside, is_blank, is_break, is_document_marker, IsShallow, joined, line_break, List, list_all, Mode, nat_lt, nat_tests, None, Ok, Option, past, past_break, Position, quoted_from, Read, refl, refused, Result, slice_index, Some, Spelled, take, true, with_char, ℕ, ◌&&◌, ◌++◌, ◌+◌, ◌==◌, ◌||◌, ◌∙◌, ◌∷◌, ◌≡◌, ◌≤◌, QuotedDocumentMarker, QuotedIndentation, is_some, are_marks, same_break, same_marker, and_false}
 use Rattle.defs_text.specs.Classes as classes
 use Rattle.model_scanner.specs.Quoted.{after}
-use Rattle.proof_lexers.specs.QuotedScan.{is_some, by_tab}
+use Rattle.proof_lexers.specs.QuotedScan.{by_tab}
 use Rattle.proof_lexers.proofs.Along.{along_more}
-use Rattle.proof_lexers.proofs.Bridges.{same_break, same_blank, same_marker, and_false}
 
 -- after so many characters of a line
 pub off_margin : (n k : ℕ) → (n + (k + 1) == 0) ≡ false
 off_margin n k = grind (arith, nat_tests)
 
 pub no_marker : (c : ℕ) (a : List ℕ) → (c == 45) ≡ false → (c == 46) ≡ false → is_document_marker (c ∷ a) ≡ false
-unfolding classes.are_marks
+unfolding are_marks
 no_marker c b e f = grind arith
 
 pub feed_is_no_marker : (a : List ℕ) → is_document_marker (10 ∷ a) ≡ false
@@ -38,15 +36,15 @@ module _ (single : Bool) (ctx : Context) (start : Position) where
   -- A character that is neither blank nor break begins a line or goes on in one, or is refused.
   pub data Begun (a : List ℕ) (p : Position) (t : Folded) : Type 0 where
     begun : ((p.col == 0) && is_document_marker a) ≡ false → nat_lt (p.col + 1) ctx.indent ≡ false → scan a gap p t ≡ scan a inside p (joined t) → Begun a p t
-    marked : ((p.col == 0) && is_document_marker a) ≡ true → scan a gap p t ≡ Err (At problem.QuotedDocumentMarker start) → Begun a p t
-    shallow : nat_lt (p.col + 1) ctx.indent ≡ true → scan a gap p t ≡ Err (At problem.QuotedIndentation start) → Begun a p t
+    marked : ((p.col == 0) && is_document_marker a) ≡ true → scan a gap p t ≡ Err (At QuotedDocumentMarker start) → Begun a p t
+    shallow : nat_lt (p.col + 1) ctx.indent ≡ true → scan a gap p t ≡ Err (At QuotedIndentation start) → Begun a p t
 
   pub begins : (c : ℕ) (a : List ℕ) (p : Position) (t : Folded) → (is_break c || is_blank c) ≡ false → Begun (c ∷ a) p t
   unfolding refused
   begins c a p t g = grind (arith, marked, same_marker, shallow, begun)
 
   -- where a document marker stands it is refused for that
-  pub begins_marked : (c : ℕ) (a : List ℕ) (p : Position) (t : Folded) → (is_break c || is_blank c) ≡ false → ((p.col == 0) && is_document_marker (c ∷ a)) ≡ true → scan (c ∷ a) gap p t ≡ Err (At problem.QuotedDocumentMarker start)
+  pub begins_marked : (c : ℕ) (a : List ℕ) (p : Position) (t : Folded) → (is_break c || is_blank c) ≡ false → ((p.col == 0) && is_document_marker (c ∷ a)) ≡ true → scan (c ∷ a) gap p t ≡ Err (At QuotedDocumentMarker start)
   unfolding refused
   begins_marked c a p t g h = let e : at_marker p.col (c ∷ a) ≡ true = same_marker p.col (c ∷ a) ∙ h in rw (g, e) refl
 
@@ -73,7 +71,7 @@ module _ (single : Bool) (ctx : Context) (start : Position) where
     steps : (m : Mode) (q : Position) → EndsAt s.element p (c ∷ take s.further b) q → Ready single (after_element s.element t) m → list_all is_some (c ∷ b) ≡ list_all is_some (drop s.further b) → ((p.col == 0) && is_document_marker (c ∷ (b ++ r))) ≡ false
         → has_marker (c ∷ b) r ≡ (((q.col == 0) && is_document_marker (drop s.further b ++ r)) || has_marker (drop s.further b) r)
         → scan (c ∷ (b ++ r)) gap p t ≡ scan (drop s.further b ++ r) m q (after_element s.element t) → Step c b r p t s
-    is_marked : ((p.col == 0) && is_document_marker (c ∷ (b ++ r))) ≡ true → scan (c ∷ (b ++ r)) gap p t ≡ Err (At problem.QuotedDocumentMarker start) → Step c b r p t s
+    is_marked : ((p.col == 0) && is_document_marker (c ∷ (b ++ r))) ≡ true → scan (c ∷ (b ++ r)) gap p t ≡ Err (At QuotedDocumentMarker start) → Step c b r p t s
     is_shallow : nat_lt (p.col + 1) ctx.indent ≡ true → IsShallow ctx start (scan (c ∷ (b ++ r)) gap p t) → Step c b r p t s
 
   abbrev pub StepOf : ℕ → List ℕ → List ℕ → Position → Folded → Option Spelled → Type 0
@@ -100,7 +98,7 @@ module _ (single : Bool) (ctx : Context) (start : Position) where
   unfolding is_break is_blank
   white_stands c a col g = rw (no_marker c a (grind (arith, nat_tests)) (grind (arith, nat_tests))) (and_false (col == 0))
 
-  blank_by : (c : ℕ) (b r : List ℕ) (p : Position) (t : Folded) → is_break c ≡ false → is_blank c ≡ true → (c == 0) ≡ false → Step c b r p t (spelled (blank c) 0)
+  pub blank_by : (c : ℕ) (b r : List ℕ) (p : Position) (t : Folded) → is_break c ≡ false → is_blank c ≡ true → (c == 0) ≡ false → Step c b r p t (spelled (blank c) 0)
   blank_by c b r p t f g nul = elim (cases_Bool (t.leading && (c == 9) && nat_lt (p.col + 1) ctx.indent)) [
     | inl e ↦ let low = (and_parts (t.leading && (c == 9)) (nat_lt (p.col + 1) ctx.indent) e).1 in is_shallow low (by_tab p low (rw (f, g, e) refl))
     | inr e ↦ steps gap (past p) tt in_gap (rw nul refl) (white_stands c (b ++ r) p.col (rw (f, g) refl)) (rw (same_break c, f, off_margin p.col 0) refl) (rw (f, g, e) refl)
@@ -114,24 +112,11 @@ module _ (single : Bool) (ctx : Context) (start : Position) where
   unfolding is_break is_blank classes.is_break
   two_breaks b r p t = steps gap (past_break (past p)) tt in_gap refl (white_stands 13 (10 ∷ (b ++ r)) p.col refl) (rw (feed_is_no_marker (b ++ r)) refl) refl
 
-  break_step : (c : ℕ) (b r : List ℕ) (p : Position) (t : Folded) → (slice_index r 0 == 10) ≡ false → is_break c ≡ true → (c == 0) ≡ false → Step c b r p t (spelled line_break (break_further c b))
+  pub break_step : (c : ℕ) (b r : List ℕ) (p : Position) (t : Folded) → (slice_index r 0 == 10) ≡ false → is_break c ≡ true → (c == 0) ≡ false → Step c b r p t (spelled line_break (break_further c b))
   break_step c [] r p t no_feed e nul = lone_break c [] r p t e nul (rw no_feed (and_false (c == 13)))
   break_step c (d ∷ b) r p t no_feed e nul = elim (cases_Bool ((c == 13) && (d == 10))) [
     | inl f ↦
         let both = and_parts (c == 13) (d == 10) f in
         rw (eqb-true c 13 both.0, eqb-true d 10 both.1) (two_breaks b r p t)
     | inr f ↦ rw f (lone_break c (d ∷ b) r p t e nul f)
-  ]
-
-  -- a character that means itself
-  pub itself_step : (c : ℕ) (b r : List ℕ) (p : Position) (t : Folded) → (slice_index r 0 == 10) ≡ false → ((c == 92) && not single) ≡ false → (c == quote_of single) ≡ false → (c == 0) ≡ false → StepOf c b r p t (plain_element c b)
-  unfolding plain_element
-  itself_step c b r p t no_feed slash quote nul = elim (cases_Bool (is_break c)) [
-    | inl e ↦ rw (same_break c, e) (break_step c b r p t no_feed e nul)
-    | inr e ↦ elim (cases_Bool (is_blank c)) [
-      | inl f ↦ rw (same_break c, same_blank c, e, f) (blank_by c b r p t e f nul)
-      | inr f ↦
-          let g : (is_break c || is_blank c) ≡ false = rw (e, f) refl in
-          rw (same_break c, same_blank c, e, f) (content_step c b r 0 c p t g (rw (g, slash, quote) refl) (rw (same_break c, e) refl) (rw nul refl))
-    ]
   ]

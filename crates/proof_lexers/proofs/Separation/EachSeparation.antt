@@ -1,5 +1,5 @@
 -- Each separation is passed whole.
-use Rattle.proof_lexers.proofs.Common.{after_separation, ap, begins_separation, EachSeparationIsPassed, false, has_no_nul, HasPassed, is_blank_or_end, IsAfter, List, ScannerState, sym, true, ℕ, ◌++◌, ◌∙◌, ◌≡◌, arith}
+use Rattle.proof_lexers.proofs.Common.{begins_separation, EachSeparationIsPassed, false, has_no_nul, HasPassed, is_blank_or_end, IsAfter, List, ScannerState, true, ℕ, ◌++◌, ◌≡◌, arith}
 use Rattle.proof_lexers.proofs.Ends.{ends_also}
 use Rattle.proof_lexers.proofs.Separation.Separations.{separations_are_passed}
 use Rattle.proof_row.specs.Ends.{ends_separation}
@@ -14,7 +14,4 @@ pub each_separation_is_passed : EachSeparationIsPassed
 each_separation_is_passed s separation rest nul is ends = ends_also passed (λ f why. why) (separations_are_passed s (separation ++ rest))
   where
     passed : (u : ScannerState) → HasPassed begins_separation s (separation ++ rest) u → IsAfter s separation rest u
-    passed u p =
-        let here = ends_here u.rest (no_nul_after p.separation u.rest (ap has_no_nul (sym p.cut) ∙ nul)) p.solid in
-        let same = separations p.separation separation u.rest rest (p.is_filled, here) (is, ends_here rest (no_nul_after separation rest nul) ends) (sym p.cut) in
-        (p.is_leading, p.is_state ∙ ap (λ k. after_separation s p.is_leading p.separation k) same.1 ∙ ap (λ k. after_separation s p.is_leading k rest) same.0)
+    passed u p = grind (arith, ends_here, no_nul_after, separations)

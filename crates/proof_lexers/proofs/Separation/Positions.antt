@@ -1,7 +1,6 @@
 -- The position after two texts, and after a text of one line.
-use Rattle.proof_lexers.proofs.Common.{[], append_assoc, further, has_no_break, length, List, past, Position, position_after, position_past, refl, true, ℕ, ◌++◌, ◌∷◌, ◌≡◌, arith}
+use Rattle.proof_lexers.proofs.Common.{[], append_assoc, further, has_no_break, length, List, past, Position, position_after, position_past, refl, true, ℕ, ◌++◌, ◌∷◌, ◌≡◌, arith, none_further, one_further}
 use Rattle.proof_lexers.proofs.Plain.Turns.{in_line_position}
-use Rattle.proof_lexers.proofs.Classes.{none_further, one_further}
 
 -- the position after two texts
 pub position_append : (p : Position) (a b next : List ℕ) → position_after p (a ++ b) next ≡ position_after (position_after p a (b ++ next)) b next

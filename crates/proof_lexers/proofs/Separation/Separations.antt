@@ -1,9 +1,7 @@
 -- What the model passes between tokens is a separation.
-use Rattle.proof_lexers.proofs.Common.{[], after_separation, and-false, and_parts, ap, append_assoc, arith, At, begins_separation, begins_token, Bool, cases_Bool, eqb-true, Err, false, Fault, Gap, has_break, Held, in_flow, inl, inr, is_before_indent, is_before_line_feed, is_blank, is_blanks, is_break, is_left, is_separation, is_white, List, nat_tests, not, Ok, or-true, or_parts, past, past_break, Position, position_after, position_past, reads, refl, refuses, Result, ScannerState, SeparationsArePassed, skip, sym, tab_left, tab_line, true, ℕ, ◌&&◌, ◌++◌, ◌==◌, ◌||◌, ◌∙◌, ◌∷◌, ◌≡◌, subst}
-use Rattle.yaml_tokens.specs.declared.problem.Problem.TheVariants as problem
+use Rattle.proof_lexers.proofs.Common.{[], after_separation, and-false, and_parts, ap, append_assoc, arith, At, begins_separation, begins_token, Bool, cases_Bool, eqb-true, Err, false, Fault, Gap, has_break, Held, in_flow, inl, inr, is_before_indent, is_before_line_feed, is_blank, is_blanks, is_break, is_left, is_separation, is_white, List, nat_tests, not, Ok, or-true, or_parts, past, past_break, Position, position_after, position_past, reads, refl, refuses, Result, ScannerState, SeparationsArePassed, skip, sym, tab_left, tab_line, true, ℕ, ◌&&◌, ◌++◌, ◌==◌, ◌||◌, ◌∙◌, ◌∷◌, ◌≡◌, subst, TabInBlockIndentation, same_break, same_blank}
 use Rattle.defs_text.specs.Classes as classes
 use Rattle.model_scanner.specs.Space.{between, comment, at_break}
-use Rattle.proof_lexers.proofs.Bridges.{same_break, same_blank}
 use Rattle.proof_lexers.proofs.Plain.Found.{begins_break, feed_breaks}
 use Rattle.proof_lexers.proofs.Plain.Turns.{same_feed, in_line_position, line_position, or_true}
 
@@ -116,8 +114,8 @@ module _ {M : Type 0} (in_comment : M → Bool) (begins : List ℕ → Bool) (no
 -- A TAB left of the innermost level has more blanks after it, and then a token; or such a TAB stood before, and these stand here.
 data Left (m : Gap) (s : Held) (a : List ℕ) : Fault → Type 0 where
   later : (before blanks rest : List ℕ) → a ≡ before ++ 9 ∷ (blanks ++ rest) → is_separation (is_comment m) before (9 ∷ (blanks ++ rest)) ≡ true → is_left s (position_after s.position before (9 ∷ (blanks ++ rest))) ≡ true
-      → is_blanks blanks ≡ true → begins_token rest ≡ true → Left m s a (At problem.TabInBlockIndentation (position_after s.position (before ++ 9 ∷ blanks) rest))
-  here : (blanks rest : List ℕ) → is_tab_line m ≡ true → a ≡ blanks ++ rest → is_blanks blanks ≡ true → begins_token rest ≡ true → Left m s a (At problem.TabInBlockIndentation (position_after s.position blanks rest))
+      → is_blanks blanks ≡ true → begins_token rest ≡ true → Left m s a (At TabInBlockIndentation (position_after s.position (before ++ 9 ∷ blanks) rest))
+  here : (blanks rest : List ℕ) → is_tab_line m ≡ true → a ≡ blanks ++ rest → is_blanks blanks ≡ true → begins_token rest ≡ true → Left m s a (At TabInBlockIndentation (position_after s.position blanks rest))
 
 abbrev Skips : Gap → Held → List ℕ → Result ScannerState Fault → Type 0
 Skips m s a x = Walks is_comment begins_separation no_break_at skip Left m s a x
@@ -126,16 +124,16 @@ abbrev Passed : List ℕ → Type 0
 Passed a = WalksOn is_comment begins_separation no_break_at skip Left a
 
 still_left : (m n : Gap) (s : Held) (c : ℕ) (a : List ℕ) (b k : Bool) → Fills is_comment begins_separation no_break_at skip Left m n c
-    → ((blanks rest : List ℕ) → is_tab_line n ≡ true → a ≡ blanks ++ rest → is_blanks blanks ≡ true → begins_token rest ≡ true → Left m s (c ∷ a) (At problem.TabInBlockIndentation (position_after (position_past s.position c a) blanks rest)))
+    → ((blanks rest : List ℕ) → is_tab_line n ≡ true → a ≡ blanks ++ rest → is_blanks blanks ≡ true → begins_token rest ≡ true → Left m s (c ∷ a) (At TabInBlockIndentation (position_after (position_past s.position c a) blanks rest)))
     → Keeps is_comment begins_separation no_break_at skip Left m n s c a b k
 still_left m n s c a b k fills lines f (here blanks rest line cut are token) = lines blanks rest line cut are token
 still_left m n s c a b k fills lines f (later before blanks rest cut is left are token) =
     let there : is_left s (position_after (position_past s.position c (before ++ 9 ∷ (blanks ++ rest))) before (9 ∷ (blanks ++ rest))) ≡ true = rw cut at left in
-    subst (λ r. Left m s (c ∷ a) (At problem.TabInBlockIndentation (position_after (position_past s.position c r) (before ++ 9 ∷ blanks) rest))) (append_assoc before (9 ∷ blanks) rest ∙ sym cut)
+    subst (λ r. Left m s (c ∷ a) (At TabInBlockIndentation (position_after (position_past s.position c r) (before ++ 9 ∷ blanks) rest))) (append_assoc before (9 ∷ blanks) rest ∙ sym cut)
     (later (c ∷ before) blanks rest (ap (λ r. c ∷ r) cut) (fills before (9 ∷ (blanks ++ rest)) is) there are token)
 
 step : (m n : Gap) (s : Held) (c : ℕ) (a : List ℕ) (b : Bool) → is_break c ≡ false → Fills is_comment begins_separation no_break_at skip Left m n c
-    → ((blanks rest : List ℕ) → is_tab_line n ≡ true → a ≡ blanks ++ rest → is_blanks blanks ≡ true → begins_token rest ≡ true → Left m s (c ∷ a) (At problem.TabInBlockIndentation (position_after (position_past s.position c a) blanks rest)))
+    → ((blanks rest : List ℕ) → is_tab_line n ≡ true → a ≡ blanks ++ rest → is_blanks blanks ≡ true → begins_token rest ≡ true → Left m s (c ∷ a) (At TabInBlockIndentation (position_after (position_past s.position c a) blanks rest)))
     → Passed a → Skips m s (c ∷ a) (skip n a (at s (past s.position) b s.key_allowed))
 step m n s c a b e fills lines ih = on_line is_comment begins_separation no_break_at skip Left m n s c a b e fills (still_left m n s c a b s.key_allowed fills lines) ih
 
@@ -149,11 +147,11 @@ kind : (c : ℕ) → Kind c
 kind c = grind (arith, blank, hash, token)
 
 no_separation : (c : ℕ) → is_break c ≡ false → is_blank c ≡ false → (c == 35) ≡ false → (is_white c || (c == 35)) ≡ false
-no_separation c e f g = rw (same_blank c, same_break c, e, f, g) refl
+no_separation c e f g = grind (arith, same_blank, same_break)
 
 -- after a TAB left of the innermost level
 tab_fails : (s : Held) (c : ℕ) (a blanks rest : List ℕ) → (c == 9) ≡ true → is_before_indent s ≡ true → a ≡ blanks ++ rest → is_blanks blanks ≡ true → begins_token rest ≡ true
-    → Left between s (c ∷ a) (At problem.TabInBlockIndentation (position_after (position_past s.position c a) blanks rest))
+    → Left between s (c ∷ a) (At TabInBlockIndentation (position_after (position_past s.position c a) blanks rest))
 unfolding is_before_indent
 tab_fails s c a blanks rest tab left cut are ends = rw (eqb-true c 9 tab, cut) (later [] blanks rest refl refl (grind arith) are ends)
 

@@ -1,13 +1,10 @@
 -- The blanks and the comment that the model passes in a line are a separation.
-use Rattle.proof_lexers.proofs.Common.{[], after, ap, are_spaces, arith, begins_with, cases_Bool, ends_spaces, EndsAs, eqb-true, false, further, has_break, has_no_break, inl, inr, is_separation, leading, length, length-append, List, not, Ok, Position, reads, refl, refuses, space, spaces, SpacesArePassed, sym, true, Whitespace, ℕ, ◌++◌, ◌==◌, ◌||◌, ◌∙◌, ◌∷◌, ◌≡◌, nat_tests, has, skip_while, Err, At}
-use Rattle.yaml_tokens.specs.declared.problem.Problem.TheVariants as problem
+use Rattle.proof_lexers.proofs.Common.{[], after, ap, are_spaces, arith, begins_with, cases_Bool, ends_spaces, EndsAs, eqb-true, false, further, has_break, has_no_break, inl, inr, is_separation, leading, length, length-append, List, not, Ok, Position, reads, refl, refuses, space, spaces, SpacesArePassed, sym, true, Whitespace, ℕ, ◌++◌, ◌==◌, ◌||◌, ◌∙◌, ◌∷◌, ◌≡◌, nat_tests, has, skip_while, Err, At, CommentNotSeparated, same_break, none_further, same_place, span_cut}
 use Rattle.defs_text.specs.Classes as classes
 use Rattle.model_scanner.specs.Blanks.{after_spaces, is_line}
 use Rattle.model_scanner.specs.declared.context.SkipTabs.{SkipTabs}
 use Rattle.proof_lexers.specs.DirectiveEnds.{ends_line}
 use Rattle.proof_lexers.specs.Separations.{IsGlued, HasSpaces, glued}
-use Rattle.proof_lexers.proofs.Bridges.{same_break}
-use Rattle.proof_lexers.proofs.Classes.{none_further, same_place, span_cut}
 use Rattle.proof_lexers.proofs.RestOfLine.{break_is_none, first_line, found_in, in_line, is_space, line_skipped, spaces_passed}
 use Rattle.proof_lexers.proofs.Separation.Positions.{position_in_line}
 
@@ -69,9 +66,7 @@ spaces_are_passed tabs text p = rw (spaces_passed tabs text p nothing) (by (afte
       | inl f ↦ elim (cases_Bool (has 9 before || has 32 before)) [
         | inr g ↦
             let none = (leading_spaces tabs text).2 g in
-            rw (f, g) (refuses _ (glued (rw (cut (c ∷ a) e, none) f))
-            (ap (λ b. Err (At problem.CommentNotSeparated (further (length b) p))) none
-            ∙ ap (λ q. Err (At problem.CommentNotSeparated q)) (none_further p)))
+            rw (f, g) (refuses _ (glued (rw (cut (c ∷ a) e, none) f)) (rw (none, none_further p) refl))
         | inl g ↦
             let z = first_line a in
             let y = commented tabs (leading in_line a) (after in_line a) z.0 z.1 in

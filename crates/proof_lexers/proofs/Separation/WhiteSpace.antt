@@ -1,8 +1,6 @@
 -- What the model passes after a `?` is a separation.
-use Rattle.proof_lexers.proofs.Common.{[], after_separation, ap, At, begins_white_space, begins_with, Bool, cases_Bool, false, Fault, has_break, Held, inl, inr, is_blank, is_break, is_separation, List, misses, moved, not, not-true, position_after, position_past, reads, refl, refuses, Result, ScannerState, sym, true, white, white_end, WhiteSpaceIsPassed, ℕ, ◌++◌, ◌==◌, ◌||◌, ◌∙◌, ◌∷◌, ◌≡◌, subst, arith}
-use Rattle.yaml_tokens.specs.declared.problem.Problem.TheVariants as problem
+use Rattle.proof_lexers.proofs.Common.{[], after_separation, ap, At, begins_white_space, begins_with, Bool, cases_Bool, false, Fault, has_break, Held, inl, inr, is_blank, is_break, is_separation, List, misses, moved, not, not-true, position_after, position_past, reads, refl, refuses, Result, ScannerState, sym, true, white, white_end, WhiteSpaceIsPassed, ℕ, ◌++◌, ◌==◌, ◌||◌, ◌∙◌, ◌∷◌, ◌≡◌, subst, arith, WhitespaceExpected, same_break}
 use Rattle.defs_text.specs.Classes as classes
-use Rattle.proof_lexers.proofs.Bridges.{same_break}
 use Rattle.proof_lexers.proofs.Plain.Found.{begins_break}
 use Rattle.proof_lexers.proofs.Plain.Turns.{or_true}
 use Rattle.proof_lexers.proofs.Separation.Separations.{stayed, Walks, gone, failed, WalksOn, Fills, Keeps, on_line, broken, fills_break, fills_comment, fills_hash, fills_blank}
@@ -13,7 +11,7 @@ no_break_at r h = grind arith
 -- Neither a space nor a break stands there, nor after a comment. A mode says whether it is in a comment, and whether it is after a space or a break.
 data Misses (m : Bool × Bool) (s : Held) (a : List ℕ) : Fault → Type 0 where
   missed : (separation rest : List ℕ) → m.1 ≡ false → a ≡ separation ++ rest → is_separation m.0 separation rest ≡ true → (m.0 || not (begins_with 32 a)) ≡ true → has_break separation ≡ false → begins_white_space rest ≡ false
-      → Misses m s a (At problem.WhitespaceExpected (position_after s.position separation rest))
+      → Misses m s a (At WhitespaceExpected (position_after s.position separation rest))
 
 abbrev in_comment : Bool × Bool → Bool
 in_comment m = m.0
@@ -32,7 +30,7 @@ still_missed : (m n : Bool × Bool) (s : Held) (c : ℕ) (a : List ℕ) (b k : B
     → Keeps in_comment begins_white_space no_break_at go Misses m n s c a b k
 still_missed m n s c a b k fills founds f (missed separation rest none cut is here breaks ends) =
     let z = founds none in
-    subst (λ r. Misses m s (c ∷ a) (At problem.WhitespaceExpected (position_after (position_past s.position c r) separation rest))) (sym cut) (missed (c ∷ separation) rest z.0 (ap (λ r. c ∷ r) cut) (fills separation rest is) z.2 (rw z.1 breaks) ends)
+    subst (λ r. Misses m s (c ∷ a) (At WhitespaceExpected (position_after (position_past s.position c r) separation rest))) (sym cut) (missed (c ∷ separation) rest z.0 (ap (λ r. c ∷ r) cut) (fills separation rest is) z.2 (rw z.1 breaks) ends)
 
 step : (m n : Bool × Bool) (s : Held) (c : ℕ) (a : List ℕ) → is_break c ≡ false → Fills in_comment begins_white_space no_break_at go Misses m n c → (n.1 ≡ false → (m.1 ≡ false) × ((m.0 || not (c == 32)) ≡ true)) → Passed a
     → Goes m s (c ∷ a) (white n.0 n.1 a (moved s))
