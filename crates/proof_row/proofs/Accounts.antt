@@ -1,5 +1,5 @@
 -- Like accounts stay like over a step with the same text; and where they are equal after it, they were, and so were the steps.
-use Rattle.proof_row.proofs.Common.{[], account_past, act_of, begins_free_line, begun_by, Bool, Entry, have_no_key, is_in_flow, is_renewed, Line, List, may_end, may_stand, on_one_line, Option, past_inside, past_piece, past_site, refl, Site, site_at, Some, Step, subst, Tok, true, ℕ, ◌∷◌, ◌≡◌, arith}
+use Rattle.proof_row.proofs.Common.{[], account_past, act_of, begins_free_line, begun_by, Bool, Entry, have_no_key, is_in_flow, is_renewed, Line, List, may_end, may_stand, on_one_line, Option, past_inside, past_piece, refl, Site, site_at, Some, Step, Tok, true, ℕ, ◌∷◌, ◌≡◌, arith}
 use Rattle.defs_token.specs.RowAccount.{Account}
 use Rattle.proof_row.proofs.Like.{LikeLine, LikeEntries, IsLike, Stepped, weaker, where_both, both, same_entry}
 use Rattle.proof_row.proofs.RowLines.{separation_step}
@@ -26,9 +26,6 @@ on_one_line_step p d e y h = grind arith
 
 -- ---- a step
 
-abbrev With : Step → (key : Bool) → Step
-With w key = record { separation = w.separation; piece = w.piece; shown = w.shown; key = key }
-
 pub same_flow : (ds es : List Entry) → LikeEntries ds es → is_in_flow ds ≡ is_in_flow es
 same_flow a b j = grind arith
 
@@ -37,20 +34,11 @@ pub account_step : (a b : Account) (w v : Step) (x y : List ℕ) → IsLike a b 
     Stepped IsLike ((a ≡ b) × (w ≡ v)) (account_past a w x) (account_past b v y)
 account_step a b w v x y i f p t n =
     let Were : Type 0 = (a.line ≡ b.line) × (a.entries ≡ b.entries) × (w.key ≡ v.key) in
-    let moved : w ≡ With v w.key = (grind arith) in
-    let first : Option Account = account_past a w x in
-    let T : Bool → Site → Step → List ℕ → Type 0 = λ fl s u z. Stepped IsLike Were first
-    (past_site fl s (site_at fl s u.separation u.piece u.shown z) (With u v.key) z b.line b.entries) in
-    let own : T (is_in_flow a.entries) a.site w x = let at : Site = site_at (is_in_flow a.entries) a.site w.separation w.piece w.shown x in
-    where_both IsLike ((a.line ≡ b.line) × (a.entries ≡ b.entries) × (w.key ≡ v.key)) (may_stand (is_in_flow a.entries) a.site at w.separation w.piece w.shown x) _ _
-    (on_one_line_step w.piece ((a.line ≡ b.line) × (a.entries ≡ b.entries) × (w.key ≡ v.key)) _ _
-    (piece_step at w.piece w.shown x (is_renewed a.site.before w.separation) w.key v.key (a.line ≡ b.line) _ _ a.entries b.entries i.2 (separation_step (is_in_flow a.entries) (begins_free_line a.site.before w.separation) a.line b.line i.1))) in
-    let flows : T (is_in_flow b.entries) a.site w x = subst (λ z. T z a.site w x) (same_flow a.entries b.entries i.2) own in
-    let sites : T (is_in_flow b.entries) b.site w x = subst (λ z. T (is_in_flow b.entries) z w x) i.0 flows in
-    let steps : T (is_in_flow b.entries) b.site (With v w.key) x = subst (λ z. T (is_in_flow b.entries) b.site z x) moved sites in
-    let texts : T (is_in_flow b.entries) b.site (With v w.key) y = subst (λ z. T (is_in_flow b.entries) b.site (With v w.key) z) n steps in
-    weaker IsLike Were ((a ≡ b) × (w ≡ v)) (account_past a w x) (account_past b v y)
-    (λ h. ((grind arith), grind arith)) texts
+    let at : Site = site_at (is_in_flow a.entries) a.site w.separation w.piece w.shown x in
+    weaker IsLike Were ((a ≡ b) × (w ≡ v)) (account_past a w x) (account_past b v y) (λ h. (grind arith, grind arith))
+    (rw (← f, ← p, ← t, ← n, ← i.0, ← same_flow a.entries b.entries i.2) (where_both IsLike Were (may_stand (is_in_flow a.entries) a.site at w.separation w.piece w.shown x) _ _
+    (on_one_line_step w.piece Were _ _
+    (piece_step at w.piece w.shown x (is_renewed a.site.before w.separation) w.key v.key (a.line ≡ b.line) _ _ a.entries b.entries i.2 (separation_step (is_in_flow a.entries) (begins_free_line a.site.before w.separation) a.line b.line i.1)))))
 
 -- ---- the text's end
 

@@ -1,5 +1,5 @@
 -- A block scalar has one end.
-use Rattle.proof_row.proofs.Common.{[], ap, append-nil, append_assoc, begins_with, block_read, BlockRead, BlockScalarsHaveOneEnd, body, Bool, column_by, content_column, Ending, false, further_text, has_no_nul, Header, header_of, inl, inr, is_at_end, is_break, is_further_text, List, None, Option, read_body, read_lines, read_split, refl, row_of, Some, Split, split, subst, sym, true, value_at_text, value_by, ℕ, ◌++◌, ◌==◌, ◌||◌, ◌∙◌, ◌∷◌, ◌≡◌, ◌⊎◌, arith, both, untrue, no_nul_after}
+use Rattle.proof_row.proofs.Common.{[], ap, append-nil, append_assoc, begins_with, block_read, BlockRead, BlockScalarsHaveOneEnd, body, Bool, column_by, content_column, Ending, false, further_text, has_no_nul, Header, header_of, inl, inr, is_at_end, is_break, is_further_text, List, None, Option, read_body, read_lines, read_split, refl, Some, Split, split, subst, sym, true, value_by, ℕ, ◌++◌, ◌==◌, ◌||◌, ◌∙◌, ◌∷◌, ◌≡◌, ◌⊎◌, arith, both, untrue, no_nul_after}
 use Rattle.defs_text.specs.BlockScalar.{unbroken}
 use Rattle.proof_row.proofs.Splits.{More, splits}
 use Rattle.proof_row.proofs.Lines.{of_lines, lines_after, split_append, up_to_break, first_line, line_of, line_is, line_more, no_lines}
@@ -74,10 +74,7 @@ longer_lines collection head ls h z y (l ∷ zs) [] s i j k n c false e f =
     let lines : (split z).complete ≡ [] → ⊥ = λ g. absurd (cc (sym (ap (λ x. x.complete) j) ∙ g)) in
     let first : up_to_break (z ++ y) ≡ l = line_more z lines y ∙ (sym (line_is z) ∙ ap (λ x. first_line (x.complete) (x.last)) j) in
     let b : IsBefore (column_by h.digit collection ls) l = subst (λ l. IsBefore (column_by h.digit collection ls) l) first (further _ _ k) in
-    let no_text : value_by h (content_column h collection (ls ++ (l ∷ zs)) further_text) (ls ++ (l ∷ zs)) further_text ≡ None = let column : column_by h.digit collection (ls ++ (l ∷ zs)) ≡ column_by h.digit collection ls = column_same h.digit collection ls l zs b.written b.start in
-    let row : row_of (column_by h.digit collection (ls ++ (l ∷ zs))) l ≡ None = ap (λ n. row_of n l) column ∙ b.none in
-    ap (λ o. value_at_text h o) (no_rows (column_by h.digit collection (ls ++ (l ∷ zs))) ls l zs row) in
-    unread h collection (ls ++ (l ∷ zs)) further_text y s no_text (ap (λ o. read_body o collection (body (ls ++ (l ∷ zs)) further_text) y) (sym i) ∙ f)
+    unread h collection (ls ++ (l ∷ zs)) further_text y s (grind (arith, no_rows, column_same)) (ap (λ o. read_body o collection (body (ls ++ (l ∷ zs)) further_text) y) (sym i) ∙ f)
 
 -- A block scalar does not go on over further text.
 over : (collection : Option ℕ) (p z y : List ℕ) (r s : BlockRead) → block_read collection p (z ++ y) ≡ Some r → block_read collection (p ++ z) y ≡ Some s → (z ≡ [] → ⊥) → has_no_nul (z ++ y) ≡ true → ⊥
@@ -96,8 +93,7 @@ blocks collection p q x y h k e = by (splits p q x y e)
     longer : (p q x y : List ℕ) (r s : BlockRead) → block_read collection p x ≡ Some r → block_read collection q y ≡ Some s → has_no_nul (p ++ x) ≡ true → (more : List ℕ) → q ≡ p ++ more → x ≡ more ++ y → (p ≡ q) × (x ≡ y)
     longer p q x y r s h k c [] f g = (sym (f ∙ append-nil p), g)
     longer p q x y r s h k c (d ∷ z) f g =
-        absurd (over collection p (d ∷ z) y r s (ap (λ t. block_read collection p t) (sym g) ∙ h) (ap (λ t. block_read collection t y) (sym f) ∙ k) (λ i. cc i)
-        (subst (λ t. has_no_nul t ≡ true) g (no_nul_after p x c)))
+        absurd (over collection p (d ∷ z) y r s (cc) (cc) (λ i. cc i) (subst (λ t. has_no_nul t ≡ true) g (no_nul_after p x c)))
 
     by : More p q x y ⊎ More q p y x → (p ≡ q) × (x ≡ y)
     by (inl m) = longer p q x y h.0 k.0 h.1 k.1 h.2 m.more m.longer m.rest

@@ -1,5 +1,5 @@
 -- The content column of a block scalar is fixed by its lines up to the first content line; and further text is no line of it.
-use Rattle.proof_row.proofs.Common.{[], are_marks, arith, begins_with, column_by, deepest_start, eqb-true, false, is_at_gap, is_break, is_content_line, is_document_marker, is_empty_line, is_further_text, is_outside, is_spaces, leading_spaces, List, lt-leb, max, None, Option, refl, row_of, rows_of, suc, true, zero, ℕ, ◌++◌, ◌<◌, ◌∷◌, ◌≡◌, ◌≤◌, both}
+use Rattle.proof_row.proofs.Common.{[], are_marks, arith, begins_with, column_by, deepest_start, eqb-true, false, is_break, is_content_line, is_document_marker, is_empty_line, is_further_text, is_outside, is_spaces, leading_spaces, List, lt-leb, max, None, Option, refl, row_of, rows_of, suc, true, zero, ℕ, ◌++◌, ◌<◌, ◌∷◌, ◌≡◌, ◌≤◌, both}
 use Rattle.proof_row.proofs.Lines.{up_to_break}
 
 -- ---- the column
@@ -43,28 +43,20 @@ unfolding row_of is_empty_line
 no_row column l h k = rw (h, k) refl
 
 -- a document marker in column 0 is no content
-unmarked : (l : List ℕ) → is_document_marker l ≡ true → is_content_line 0 l ≡ false
+unmarked : (l : List ℕ) → is_document_marker l ≡ true → is_spaces l ≡ false → leading_spaces l ≤ 0 → IsBefore 0 l
 unfolding is_content_line
-unmarked l h = grind arith
+unmarked l h w s = record { written = w; start = s; none = no_row 0 l w (grind arith) }
 
 -- what holds of the two document markers
 marks : (P : ℕ → ℕ → ℕ → Type 0) (a b c : ℕ) → are_marks a b c ≡ true → P 45 45 45 → P 46 46 46 → P a b c
 unfolding are_marks
 marks P a b c h p45 p46 = grind arith
 
-abbrev Marked : ℕ → ℕ → ℕ → List ℕ → Type 0
-Marked a b c r = IsBefore 0 (up_to_break (a ∷ b ∷ c ∷ r))
-
-dashes : (r : List ℕ) → is_at_gap r ≡ true → Marked 45 45 45 r
-unfolding is_break are_marks
-dashes r h = record { written = refl; start = omega arith; none = no_row 0 (45 ∷ 45 ∷ 45 ∷ up_to_break r) refl (unmarked (45 ∷ 45 ∷ 45 ∷ up_to_break r) (grind arith)) }
-
-dots : (r : List ℕ) → is_at_gap r ≡ true → Marked 46 46 46 r
-unfolding is_break are_marks
-dots r h = record { written = refl; start = omega arith; none = no_row 0 (46 ∷ 46 ∷ 46 ∷ up_to_break r) refl (unmarked (46 ∷ 46 ∷ 46 ∷ up_to_break r) (grind arith)) }
-
 marker : (t : List ℕ) → is_document_marker t ≡ true → IsBefore 0 (up_to_break t)
-marker (a ∷ b ∷ c ∷ r) h = marks (λ a b c. Marked a b c r) a b c (both _ _ h).0 (dashes r (both _ _ h).1) (dots r (both _ _ h).1)
+unfolding is_break are_marks
+marker (a ∷ b ∷ c ∷ r) h =
+    marks (λ a b c. IsBefore 0 (up_to_break (a ∷ b ∷ c ∷ r))) a b c (both _ _ h).0
+    (unmarked (45 ∷ 45 ∷ 45 ∷ up_to_break r) (grind arith) refl (omega arith)) (unmarked (46 ∷ 46 ∷ 46 ∷ up_to_break r) (grind arith) refl (omega arith))
 marker _ h = absurd (cc h)
 
 -- Further text's first line is no line of the scalar before it.

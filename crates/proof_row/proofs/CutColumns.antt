@@ -1,6 +1,6 @@
 -- Columns over a step, as a cut has them: block collections that end, and a key that waits on its line.
 use Rattle.std.proofs.lemmas.Bool.Decides.{nat_tests}
-use Rattle.proof_row.proofs.Common.{[], Account, Act, act_of, ap, arith, Before, begins_free_line, block_end, blocks_at, Bool, drop, ends_at, ends_separation, false, gives_node, has_break, has_no_break, if◌then◌else◌, is_blank_or_end, is_in_line, is_marker, IsPiece, length, List, nat_lt, not_ended, Option, Position, position_after, position_past, previous_by, put, refl, replicate, subst, suc, sym, Tok, Token, true, zero, ℕ, ◌++◌, ◌+◌, ◌-◌, ◌<◌, ◌∙◌, ◌∷◌, ◌≡◌, ◌≤◌, ◌⊎◌, both, untrue}
+use Rattle.proof_row.proofs.Common.{[], Account, Act, act_of, ap, arith, Before, begins_free_line, block_end, blocks_at, Bool, drop, ends_at, ends_separation, false, gives_node, has_break, has_no_break, if◌then◌else◌, is_blank_or_end, is_in_line, is_marker, IsPiece, length, List, nat_lt, not_ended, Option, Position, position_after, position_past, previous_by, put, refl, replicate, subst, suc, Tok, Token, true, zero, ℕ, ◌++◌, ◌+◌, ◌-◌, ◌<◌, ◌∙◌, ◌∷◌, ◌≡◌, ◌≤◌, ◌⊎◌, both, untrue}
 use Rattle.proof_row.proofs.CutPieces.{account_by}
 use Rattle.proof_row.proofs.CutSteps.{somes}
 use Rattle.proof_row.proofs.Inserted.{past_all, AreEmpty}
@@ -16,18 +16,15 @@ ended col (n ∷ bs) = by (nat_lt col n) (ended col bs)
         (let cs : List ℕ = (if d then not_ended col bs else n ∷ bs) in (drop (length (n ∷ bs) - length cs) (n ∷ bs) ≡ cs) × (length cs ≤ length (n ∷ bs)))
     by a h = grind arith
 
-drop_all : (bs : List ℕ) → drop (length bs - 0) bs ≡ []
-drop_all bs = ap (λ k. drop k bs) (omega arith) ∙ all bs
-  where
-    all : (bs : List ℕ) → drop (length bs) bs ≡ []
-    all [] = refl
-    all (n ∷ bs) = all bs
+drop_all : (bs : List ℕ) → drop (length bs) bs ≡ []
+drop_all [] = refl
+drop_all (n ∷ bs) = drop_all bs
 
 outer : (k : Act) (col : ℕ) (bs : List ℕ) → (drop (length bs - length (blocks_at false k col bs)) bs ≡ blocks_at false k col bs) × (length (blocks_at false k col bs) ≤ length bs)
 outer k col bs = by (is_marker k)
   where
     by : (m : Bool) → (let cs : List ℕ = (if m then [] else not_ended col bs) in (drop (length bs - length cs) bs ≡ cs) × (length cs ≤ length bs))
-    by true = (drop_all bs, omega arith)
+    by true = (ap (λ k. drop k bs) (omega arith) ∙ drop_all bs, omega arith)
     by false = ended col bs
 
 -- Tokens without a piece lead from an account to another.
@@ -54,14 +51,7 @@ not_ended_twice col (n ∷ bs) = grind (arith, not_ended_twice col bs)
 
 pub not_ended_further : (col here : ℕ) (bs : List ℕ) → col ≤ here → not_ended col bs ≡ bs → not_ended here bs ≡ bs
 not_ended_further col here [] m h = refl
-not_ended_further col here (n ∷ bs) m h = by (nat_lt here n) refl
-  where
-    by : (d : Bool) → nat_lt here n ≡ d → (if d then not_ended here bs else n ∷ bs) ≡ n ∷ bs
-    by false e = refl
-    by true e =
-        let less : nat_lt col n ≡ true = grind (arith, nat_tests) in
-        let ends : not_ended col bs ≡ n ∷ bs = sym (ap (λ d. if d then not_ended col bs else n ∷ bs) less) ∙ h in
-        absurd (omega (arith, (ended col bs).1, ap length ends))
+not_ended_further col here (n ∷ bs) m h = let short = (ended col bs).1 in grind (arith, nat_tests, short)
 
 -- ---- on one line
 

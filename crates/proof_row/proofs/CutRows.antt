@@ -1,5 +1,5 @@
 -- Each step of a row is a row of a cut: tokens without a piece, and the one that it shows.
-use Rattle.proof_row.proofs.Common.{[], account_at_piece, account_past, account_past_separation, account_past_token, Act, act_of, ap, arith, Before, before_past, before_past_token, begins_free_line, begun_by, begun_inside, begun_outside, blocks_at, Bool, Colon, ends_at, entries_past, Entry, false, free, gives_node, has_break, has_no_break, if◌then◌else◌, inl, inr, is_deeper, is_in_column, is_in_line, is_marker, is_renewed, is_separation, is_waiting, IsPiece, IsWritten, key_end, length, level_of, levels_past, Line, line_past, line_past_separation, List, map, may_stand, None, not_ended, on_one_line, Option, Outside, pair_position, past_inside, past_outside, past_piece, piece_with_blocks, Position, position_after, previous_by, put, refl, seen, shown_position, Site, site_at, site_past, Some, spelled, Step, subst, suc, sym, taken, takes_pair, Tok, Token, tokens_of_step, true, waits, ℕ, ◌&&◌, ◌++◌, ◌<◌, ◌∙◌, ◌∷◌, ◌≡◌, ◌≤◌}
+use Rattle.proof_row.proofs.Common.{[], account_at_piece, account_past, account_past_separation, account_past_token, Act, act_of, ap, arith, Before, before_past, begins_free_line, begun_by, begun_inside, begun_outside, Bool, Colon, ends_at, entries_past, Entry, false, free, gives_node, has_break, has_no_break, if◌then◌else◌, inl, inr, is_deeper, is_in_column, is_in_line, is_marker, is_renewed, is_separation, is_waiting, IsPiece, IsWritten, key_end, length, level_of, Line, line_past, line_past_separation, List, map, may_stand, None, not_ended, on_one_line, Option, Outside, pair_position, past_inside, past_outside, past_piece, piece_with_blocks, Position, position_after, previous_by, put, refl, seen, shown_position, Site, site_at, site_past, Some, Step, subst, suc, sym, taken, takes_pair, Tok, Token, tokens_of_step, true, waits, ℕ, ◌&&◌, ◌++◌, ◌<◌, ◌∙◌, ◌∷◌, ◌≡◌, ◌≤◌}
 use Rattle.defs_token.specs.Account.{Account as PieceAccount}
 use Rattle.defs_token.specs.Step as step
 use Rattle.defs_token.specs.RowAccount.{Account, before_by as before_by_previous}
@@ -32,19 +32,19 @@ pub record IsCutStep (a : Account) (w : Step) (ws : List Step) (after : List ℕ
   pub kept : IsKept b
 
 -- the piece and account of a step, from the account at its piece
-stepped : (a : Account) (w : Step) (ws : List Step) (after : List ℕ) (b : Account) (us : List Token) (p : Position) → is_separation false w.separation (w.piece ++ step.spelled ws after) ≡ true →
-    (let next : List ℕ = step.spelled ws after in let here : PieceAccount = account_past_separation (in_cut a) w.separation (w.piece ++ next) in
-    (tokens_of_step a w ws after ≡ us ++ (put p w.shown ∷ [])) → AreEmpty here us (w.piece ++ next) w.shown → ((last : Option Tok) → IsPiece (account_at_piece (past_all here us) w.piece) w.piece next last p w.shown) →
-    account_past_token (account_at_piece (past_all here us) w.piece) w.piece next w.shown ≡ in_cut b → IsKept b → IsCutStep a w ws after b)
-stepped a w ws after b us p fills tokens empty piece same kept =
+stepped : (a : Account) (f : List ℕ) (c : ℕ) (r : List ℕ) (t : Tok) (key : Bool) (ws : List Step) (after : List ℕ) (b : Account) (us : List Token) (p : Position) (opened : PieceAccount) →
+    (let w : Step = record { separation = f; piece = c ∷ r; shown = t; key = key } in let next : List ℕ = step.spelled ws after in let here : PieceAccount = account_past_separation (in_cut a) f ((c ∷ r) ++ next) in
+    is_separation false f ((c ∷ r) ++ next) ≡ true → (tokens_of_step a w ws after ≡ us ++ (put p t ∷ [])) → AreEmpty here us ((c ∷ r) ++ next) t → account_at_piece (past_all here us) (c ∷ r) ≡ opened →
+    IsPiece opened (c ∷ r) next None p t → account_past_token opened (c ∷ r) next t ≡ in_cut b → IsKept b → IsCutStep a w ws after b)
+stepped a f c r t key ws after b us p opened fills tokens empty there piece same kept =
     let next : List ℕ = step.spelled ws after in
-    let so = written_so (in_cut a) w.separation us w.piece (put p w.shown) next fills empty piece in
+    let so = written_so (in_cut a) f us (c ∷ r) (put p t) next fills empty (λ last. rw there (whatever_follows opened c r next None last p t piece)) in
     record {
       cut = record {
-        row = written w.separation us w.piece (put p w.shown);
-        spells = spelled_written w.separation us w.piece (put p w.shown) next;
-        tokens_are = tokens_written w.separation us w.piece (put p w.shown) ∙ sym tokens;
-        is_row = record { is_row = so.is_row; past = so.past ∙ same };
+        row = written f us (c ∷ r) (put p t);
+        spells = spelled_written f us (c ∷ r) (put p t) next;
+        tokens_are = tokens_written f us (c ∷ r) (put p t) ∙ sym tokens;
+        is_row = record { is_row = so.is_row; past = so.past ∙ ap (λ d. account_past_token d (c ∷ r) next t) there ∙ same };
       };
       kept = kept;
     }
@@ -99,11 +99,11 @@ module _ (must : Bool) (s : Site) (line : Line) (f : List ℕ) (c : ℕ) (r : Li
   IsCut = IsCutStep place shown_step ws after x
 
   outside_so : (l : Line) → IsWritten place shown_step further → line_past_separation false (begins_free_line s.before f) line ≡ Some l
-      → past_outside site_here (c ∷ r) t further (line_past must site_here.position site_here.blocks (act_of t) key l) ≡ Some x
+      → past_by must site_here (c ∷ r) t further key (line_past_separation false (begins_free_line s.before f) line) ≡ Some x
       → (has_break (c ∷ r) && is_waiting x.line) ≡ false → (IsKept x → is_waiting x.line ≡ true → is_in_line further ≡ true)
       → Leads s line site_here l before_here → WaitsAt l site_here.position.col site_here.blocks → IsCut
   outside_so l h same_line same on_line in_line leads waiting =
-      by (line_past must site_here.position site_here.blocks (act_of t) key l) same
+      by (line_past must site_here.position site_here.blocks (act_of t) key l) (rw same_line at same)
       (begun (act_of t) must key l site_here.position colon.here before_here ((c ∷ r) ++ further) t c r site_here.blocks refl)
       (waits_on (act_of t) must key l site_here.position site_here.blocks waiting on_node)
     where
@@ -115,7 +115,7 @@ module _ (must : Bool) (s : Site) (line : Line) (f : List ℕ) (c : ℕ) (r : Li
 
       -- at a node the collections that go on are those that it does not end
       on_node : act_of t ≡ gives_node → not_ended site_here.position.col site_here.blocks ≡ site_here.blocks
-      on_node k = subst (λ bs. not_ended site_here.position.col bs ≡ bs) (sym (ap (λ z. blocks_at false z site_here.position.col s.blocks) k)) (not_ended_twice site_here.position.col s.blocks)
+      on_node k = grind (arith, not_ended_twice)
 
       more : Option Line → List Token
       more o = begun_outside (is_deeper site_here.position.col site_here.blocks) site_here.position colon.here (act_of t) key o
@@ -133,22 +133,19 @@ module _ (must : Bool) (s : Site) (line : Line) (f : List ℕ) (c : ℕ) (r : Li
           let to : z ≡ x = cc e in
           let line_is : o.line ≡ x.line = ap (λ y. y.line) to in
           let one_line : is_waiting o.line ≡ true → has_no_break (c ∷ r) ≡ true = λ h. (grind arith) in
-          let lead : AreEmpty (account_past_separation (in_cut place) f ((c ∷ r) ++ further)) us ((c ∷ r) ++ further) t × (past_all (account_past_separation (in_cut place) f ((c ∷ r) ++ further)) us ≡ past_all begin (more (Some l))) =
-          leads (more (Some l)) ((c ∷ r) ++ further) t g.are_empty in
+          let lead = leads (more (Some l)) ((c ∷ r) ++ further) t g.are_empty in
           let opened : PieceAccount = account_by site_here.position before_here (somes (with_key o.blocks o.line)) [] in
           let there : account_at_piece (past_all (account_past_separation (in_cut place) f ((c ∷ r) ++ further)) us) (c ∷ r) ≡ opened = ap (λ d. account_at_piece d (c ∷ r)) lead.1 ∙ g.blocks_are in
           let keeps : IsKept z = kept_on o.line site_here.position o.blocks z.site.awaits c r further t k.0 one_line (λ i. no_directive (seen place site_here f) c r further None own t h.1.1 (inl (k.1 i))) in
-          let piece : IsPiece opened (c ∷ r) further None own t = sees o one_line (λ i. in_line (subst IsKept to keeps) (ap is_waiting (sym line_is) ∙ i)) g.sees in
+          let on : is_waiting o.line ≡ true → is_in_line further ≡ true = λ i. in_line (subst IsKept to keeps) (ap is_waiting (sym line_is) ∙ i) in
+          let piece : IsPiece opened (c ∷ r) further None own t = sees o one_line on g.sees in
           let alike = blocks_alike opened c r further None own t (somes (with_key o.blocks o.line)) piece in
           let levels = levels_outside t c r in
           let past : account_past_token opened (c ∷ r) further t ≡ in_cut z = grind (arith, alike, levels) in
-          subst (λ y. IsCutStep place shown_step ws after y) to
-          (stepped place shown_step ws after z us own h.0 (ap (λ o. (ends_at site_here.position s.blocks site_here.blocks ++ more o) ++ (put own t ∷ [])) same_line) lead.0
-          (λ last. subst (λ d. IsPiece d (c ∷ r) further last own t) (sym there) (whatever_follows opened c r further None last own t piece))
-          (ap (λ d. account_past_token d (c ∷ r) further t) there ∙ past) keeps)
+          rw (← to) (stepped place f c r t key ws after z us own opened h.0 (ap (λ o. (ends_at site_here.position s.blocks site_here.blocks ++ more o) ++ (put own t ∷ [])) same_line) lead.0 there piece past keeps)
         where
           sees : (o : Outside) → (is_waiting o.line ≡ true → has_no_break (c ∷ r) ≡ true) → (is_waiting o.line ≡ true → is_in_line further ≡ true) → Sees (act_of t) site_here.blocks o → IsPiece (account_by site_here.position before_here (somes (with_key o.blocks o.line)) []) (c ∷ r) further None own t
-          sees o one on (inl e) = subst (λ bs. IsPiece (account_by site_here.position before_here (somes bs) []) (c ∷ r) further None own t) (sym e) h.1.1
+          sees o one on (inl e) = rw e h.1.1
           sees o one on (inr (inl k)) = piece_with_blocks (somes (with_key o.blocks o.line)) (account_by site_here.position before_here (somes site_here.blocks) []) (c ∷ r) further None own t (grind arith) (one k.0) (on k.0) h.1.1
           sees o one on (inr (inr i)) = indicator_with_blocks (somes (with_key o.blocks o.line)) (account_by site_here.position before_here (somes site_here.blocks) []) c r further None own t i h.1.1
 
@@ -156,17 +153,8 @@ module _ (must : Bool) (s : Site) (line : Line) (f : List ℕ) (c : ℕ) (r : Li
       → (has_break (c ∷ r) && is_waiting x.line) ≡ false → (IsKept x → is_waiting x.line ≡ true → is_in_line further ≡ true) → IsKept place → IsCut
   outside_step h same on_line in_line kept = by (begins_free_line s.before f) line refl refl
     where
-      Of : Option Line → Type 0
-      Of o = past_by must site_here (c ∷ r) t further key o ≡ Some x
-
-      so : (l m : Line) → line ≡ m → line_past_separation false (begins_free_line s.before f) m ≡ Some l → Leads s m site_here l before_here → WaitsAt l site_here.position.col site_here.blocks → IsCut
-      so l m e g leads waiting =
-          let there : line_past_separation false (begins_free_line s.before f) line ≡ Some l = ap (λ z. line_past_separation false (begins_free_line s.before f) z) e ∙ g in
-          outside_so l h there (subst Of there same) on_line in_line (subst (λ z. Leads s z site_here l before_here) (sym e) leads) waiting
-
-      free_so : (l m : Line) → (with_key s.blocks m ≡ s.blocks) → (with_key site_here.blocks l ≡ site_here.blocks) → Leads s m site_here l before_here
-      free_so l m e g = subst (λ cs. LeadTo (account_by site_here.position before_here (somes cs) []) (ends_at site_here.position s.blocks site_here.blocks) (account_by site_here.position before_here (somes (with_key site_here.blocks l)) [])) (sym e)
-          (subst (λ cs. LeadTo (account_by site_here.position before_here (somes s.blocks) []) (ends_at site_here.position s.blocks site_here.blocks) (account_by site_here.position before_here (somes cs) [])) (sym g) (blocks_end (act_of t) site_here.position site_here.position before_here s.blocks))
+      lead : Leads s free site_here free before_here
+      lead = blocks_end (act_of t) site_here.position site_here.position before_here s.blocks
 
       waiting_so : (begin : Position) → line ≡ waits begin → begins_free_line s.before f ≡ false → (m : Bool) → is_marker (act_of t) ≡ m → IsCut
       waiting_so begin e g true k = grind (arith, same)
@@ -174,15 +162,15 @@ module _ (must : Bool) (s : Site) (line : Line) (f : List ℕ) (c : ℕ) (r : Li
           let keeps : KeptBy (waits begin) s = subst (λ z. KeptBy z s) e kept in
           let right : begin.col ≤ site_here.position.col = omega (arith, keeps.1, column_grows s.position f ((c ∷ r) ++ further) (unbroken f (sym (keeps.2 f) ∙ g))) in
           let all : site_here.blocks ≡ s.blocks = ap (λ m. if m then [] else not_ended site_here.position.col s.blocks) k ∙ not_ended_further begin.col site_here.position.col s.blocks right keeps.0 in
-          so (waits begin) (waits begin) e (rw g refl) (λ us n u i. grind (arith, all)) (rw all keeps.0, right)
+          outside_so (waits begin) h (rw (g, e) refl) same on_line in_line (rw e (λ us n u i. grind (arith, all))) (rw all keeps.0, right)
 
       by : (n : Bool) (m : Line) → begins_free_line s.before f ≡ n → line ≡ m → IsCut
-      by true free g e = so free free e (ap (λ z. line_past_separation false z free) g) (free_so free free refl refl) tt
-      by false free g e = so free free e (ap (λ z. line_past_separation false z free) g) (free_so free free refl refl) tt
-      by true taken g e = so free taken e (ap (λ z. line_past_separation false z taken) g) (free_so free taken refl refl) tt
-      by false taken g e = so taken taken e (ap (λ z. line_past_separation false z taken) g) (free_so taken taken refl refl) tt
+      by true free g e = outside_so free h (rw (g, e) refl) same on_line in_line (rw e lead) tt
+      by false free g e = outside_so free h (rw (g, e) refl) same on_line in_line (rw e lead) tt
+      by true taken g e = outside_so free h (rw (g, e) refl) same on_line in_line (rw e lead) tt
+      by false taken g e = outside_so taken h (rw (g, e) refl) same on_line in_line (rw e lead) tt
       by false (waits begin) g e = waiting_so begin e g (is_marker (act_of t)) refl
-      by true (waits begin) g e = absurd (cc (subst Of (ap (λ z. line_past_separation false z line) g ∙ ap (λ z. line_past_separation false true z) e) same))
+      by true (waits begin) g e = absurd (cc (rw (g, e) at same))
 
 -- ---- in flow
 
@@ -242,10 +230,7 @@ inside_step s line e es f c r t key ws after x h same on_line kept = by_line (li
         let alike = blocks_alike after_all c r next None own t bs piece in
         let past : account_past_token after_all (c ∷ r) next t ≡ in_cut z = (let levels = n.levels_are in let same = flow.0 in grind (arith, alike, levels, same)) in
         let waiting : KeptBy l z.site = subst (λ y. KeptBy y z.site) (sym flow.0) (keeps line kept flow.1 one_line piece) in
-        subst (λ y. IsCutStep a w ws after y) to
-        (stepped a w ws after z us own h.0 refl n.are_empty
-        (λ last. subst (λ d. IsPiece d (c ∷ r) next last own t) (sym there) (whatever_follows after_all c r next None last own t piece))
-        (ap (λ d. account_past_token d (c ∷ r) next t) there ∙ past) waiting)
+        rw (← to) (stepped a f c r t key ws after z us own after_all h.0 refl n.are_empty there piece past waiting)
       where
         keeps : (m : Line) → KeptBy m s → (is_waiting m ≡ true → begins_free_line s.before f ≡ false) → (is_waiting m ≡ true → has_no_break (c ∷ r) ≡ true) → IsPiece (account_by at.position b bs (n.level ∷ levels_in es)) (c ∷ r) next None own t →
             KeptBy m (site_past true at (c ∷ r) t next at.blocks)
@@ -300,11 +285,9 @@ cut_step a w ws after x h same in_line kept = by a.entries w.piece h same kept
     by es [] h same kept = absurd (cc h.1.0)
     by [] (c ∷ r) h same kept =
         let at : Site = site_at false a.site w.separation (c ∷ r) w.shown next in
-        let s : (past_piece at (c ∷ r) w.shown next (is_renewed a.site.before w.separation) w.key (line_past_separation false (begins_free_line a.site.before w.separation) a.line) [] ≡ Some x) × ((has_break (c ∷ r) && is_waiting x.line) ≡ false) =
-        stood (may_stand false a.site at w.separation (c ∷ r) w.shown next) (c ∷ r) (past_piece at (c ∷ r) w.shown next (is_renewed a.site.before w.separation) w.key (line_past_separation false (begins_free_line a.site.before w.separation) a.line) []) x same in
+        let s = stood (may_stand false a.site at w.separation (c ∷ r) w.shown next) (c ∷ r) _ x same in
         outside_step (is_in_column at.position.col at.blocks) a.site a.line w.separation c r w.shown w.key ws after x h (same_by at (c ∷ r) w.shown next (is_renewed a.site.before w.separation) w.key (line_past_separation false (begins_free_line a.site.before w.separation) a.line) ∙ s.0) s.1 in_line kept
     by (e ∷ es) (c ∷ r) h same kept =
         let at : Site = site_at true a.site w.separation (c ∷ r) w.shown next in
-        let s : (past_piece at (c ∷ r) w.shown next (is_renewed a.site.before w.separation) w.key (line_past_separation true (begins_free_line a.site.before w.separation) a.line) (e ∷ es) ≡ Some x) × ((has_break (c ∷ r) && is_waiting x.line) ≡ false) =
-        stood (may_stand true a.site at w.separation (c ∷ r) w.shown next) (c ∷ r) (past_piece at (c ∷ r) w.shown next (is_renewed a.site.before w.separation) w.key (line_past_separation true (begins_free_line a.site.before w.separation) a.line) (e ∷ es)) x same in
+        let s = stood (may_stand true a.site at w.separation (c ∷ r) w.shown next) (c ∷ r) _ x same in
         inside_step a.site a.line e es w.separation c r w.shown w.key ws after x h s.0 s.1 kept

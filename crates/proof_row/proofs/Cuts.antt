@@ -21,7 +21,7 @@ line_stands a fl broken at p t next again key begin es x e = grind arith
 -- after a key that waits the text goes on in its line
 waits_in_line : (a : Account) (ws : List Step) (after : List ℕ) (b : Account) → Leads (Some a) ws after b → may_end b ≡ true → IsKept a → is_waiting a.line ≡ true → is_in_line (step.spelled ws after) ≡ true
 waits_in_line a [] after b h ends kept w = grind arith
-waits_in_line a (w ∷ ws) after b h ends kept waiting = by_line a.line refl waiting
+waits_in_line a (w ∷ ws) after b h ends kept waiting = by a.line refl
   where
     next : List ℕ
     next = step.spelled ws after
@@ -29,20 +29,18 @@ waits_in_line a (w ∷ ws) after b h ends kept waiting = by_line a.line refl wai
     by_piece : (f p : List ℕ) (t : Tok) → IsWritten a (record { separation = f; piece = p; shown = t; key = w.key }) next → has_break f ≡ false → is_in_line (f ++ (p ++ next)) ≡ true
     by_piece f a t h e = grind (arith, in_line, unbroken, separations_end_before)
 
-    by_past : (begin : Position) → a.line ≡ waits begin → (o : Option Account) → account_past a w next ≡ o → Leads o ws after b → begins_free_line a.site.before w.separation ≡ false
-    by_past begin e None g k = absurd k
-    by_past begin e (Some x) g k =
-        let at : Site = site_at (is_in_flow a.entries) a.site w.separation w.piece w.shown next in
-        let may : Bool = may_stand (is_in_flow a.entries) a.site at w.separation w.piece w.shown next in
-        let again : Bool = is_renewed a.site.before w.separation in
-        line_stands may (is_in_flow a.entries) (begins_free_line a.site.before w.separation) at w.piece w.shown next again w.key begin a.entries x
-        (subst (λ l. (if may then on_one_line w.piece (past_piece at w.piece w.shown next again w.key (line_past_separation (is_in_flow a.entries) (begins_free_line a.site.before w.separation) l) a.entries) else None) ≡ Some x) e g)
+    free : (begin : Position) → a.line ≡ waits begin → (o : Option Account) → account_past a w next ≡ o → Leads o ws after b → begins_free_line a.site.before w.separation ≡ false
+    free begin e None g k = absurd k
+    free begin e (Some x) g k =
+        let fl : Bool = is_in_flow a.entries in
+        let at : Site = site_at fl a.site w.separation w.piece w.shown next in
+        line_stands (may_stand fl a.site at w.separation w.piece w.shown next) fl (begins_free_line a.site.before w.separation) at w.piece w.shown next (is_renewed a.site.before w.separation) w.key begin a.entries x (rw e at g)
 
-    by_line : (l : Line) → a.line ≡ l → is_waiting l ≡ true → is_in_line (w.separation ++ (w.piece ++ next)) ≡ true
-    by_line (waits begin) e i =
+    by : (l : Line) → a.line ≡ l → is_in_line (step.spelled (w ∷ ws) after) ≡ true
+    by (waits begin) e =
         let keeps : KeptBy (waits begin) a.site = subst (λ z. KeptBy z a.site) e kept in
-        by_piece w.separation w.piece w.shown h.0 (sym (keeps.2 w.separation) ∙ by_past begin e (account_past a w next) refl h.1)
-    by_line _ e i = absurd (cc i)
+        by_piece w.separation w.piece w.shown h.0 (sym (keeps.2 w.separation) ∙ free begin e _ refl h.1)
+    by _ e = absurd (cc (e, waiting))
 
 -- ---- steps
 
@@ -98,26 +96,19 @@ record IsEnd (a : Account) (last : List ℕ) : Type 0 where
 ends_so : (a : Account) (last : List ℕ) → may_end a ≡ true → IsEnd a last
 ends_so a last h = by a.line a.entries h
   where
-    end : Position
-    end = position_after a.site.position last []
-
-    outside : (l : Line) → with_key a.site.blocks l ≡ a.site.blocks → IsEnd (record { site = a.site; line = l; entries = [] }) last
-    outside l e =
-        let b : Before = before_by_previous a.site.before in
-        let none : cut.Account = account_by a.site.position b [] [] in
+    by : (l : Line) (es : List Entry) → (not (is_waiting l) && have_no_key es) ≡ true → IsEnd (record { site = a.site; line = l; entries = es }) last
+    by l (e ∷ es) h = record { tokens = []; are = refl; closed = in_cut (record { site = a.site; line = l; entries = e ∷ es }); closes = refl; is_cut = nothing_cut _ last }
+    by l [] h =
+        let none : with_key a.site.blocks l ≡ a.site.blocks = grind arith in
+        let end : Position = position_after a.site.position last [] in
+        let before : Before = before_by_previous a.site.before in
         record {
           tokens = ends_with_stream end a.site.blocks;
           are = refl;
-          closed = none;
+          closed = account_by a.site.position before [] [];
           closes = refl;
-          is_cut = subst (λ bs. IsCutOf (account_by a.site.position b (somes bs) []) last (ends_with_stream end a.site.blocks) last none) (sym e)
-              (ends_cut a.site.blocks a.site.position end b last);
+          is_cut = rw none (ends_cut a.site.blocks a.site.position end before last);
         }
-
-    by : (l : Line) (es : List Entry) → (not (is_waiting l) && have_no_key es) ≡ true → IsEnd (record { site = a.site; line = l; entries = es }) last
-    by (waits begin) es h = absurd (cc h)
-    by l (e ∷ es) h = record { tokens = []; are = refl; closed = in_cut (record { site = a.site; line = l; entries = e ∷ es }); closes = refl; is_cut = nothing_cut _ last }
-    by l [] h = outside l refl
 
 -- ---- laws
 
@@ -169,7 +160,7 @@ goes_on : (text after : List ℕ) (a b : Account) (ts : List Token) (w : Step) (
 goes_on text after a b ts w ws last parts s c =
     let next : List ℕ = step.spelled ws last in
     let own : IsCutOf cut.first_account (up_to_nul text) (tokens_of c.row) after (in_cut a) = record { row = c.row; spells = c.is_text; tokens_are = refl; is_row = c.is_row } in
-    let u = cut_append _ _ _ _ _ _ after next own (subst (λ y. IsCutOf (in_cut a) y (tokens_of_step a w ws last) next (in_cut b)) (sym parts) s.cut) in
+    let u = cut_append _ _ _ _ _ _ after next own (rw parts s.cut) in
     record {
       row = u.row;
       are_tokens = ap (λ us. us ++ tokens_of_step a w ws last) c.are_tokens ∙ ap (λ us. start_token first_position ∷ us) (sym u.tokens_are);
@@ -181,16 +172,11 @@ goes_on text after a b ts w ws last parts s c =
 pub cut_past : (text after : List ℕ) (a b : Account) (ts : List Token) (w : Step) (ws : List Step) (last next : List ℕ) → after ≡ w.separation ++ (w.piece ++ next) → step.spelled ws last ≡ next → IsWritten a w next → account_past a w next ≡ Some b →
     is_waiting a.line ≡ false → is_waiting b.line ≡ false → IsCutUpTo text after a ts → IsCutUpTo text next b (ts ++ tokens_of_step a w ws last)
 cut_past text after a b ts w ws last next cut e written stands idle idle_then c =
-    let own : List ℕ → Type 0 = λ x. after ≡ w.separation ++ (w.piece ++ x) → IsWritten a w x → account_past a w x ≡ Some b → IsCutUpTo text x b (ts ++ tokens_of_step a w ws last) in
-    let here : own (step.spelled ws last) = λ g h i. goes_on text after a b ts w ws last g (cut_step a w ws last b h i (λ k j. absurd (cc (j, idle_then))) (idle_kept a.line a.site idle)) c in
-    (subst own e here) cut written stands
+    rw (← e) (goes_on text after a b ts w ws last (rw e cut) (cut_step a w ws last b (rw e written) (rw e stands) (λ k j. absurd (cc (j, idle_then))) (idle_kept a.line a.site idle)) c)
 
 -- The same with a piece outside flow that is no key, also where a key must begin.
 pub cut_past_no_key : (must : Bool) (text after : List ℕ) (a b : Account) (ts : List Token) (w : Step) (ws : List Step) (last next : List ℕ) → after ≡ w.separation ++ (w.piece ++ next) → step.spelled ws last ≡ next → a.entries ≡ [] → IsWritten a w next →
     past_by must (site_at false a.site w.separation w.piece w.shown next) w.piece w.shown next w.key (line_past_separation false (begins_free_line a.site.before w.separation) a.line) ≡ Some b →
     is_waiting a.line ≡ false → is_waiting b.line ≡ false → IsCutUpTo text after a ts → IsCutUpTo text next b (ts ++ tokens_of_step a w ws last)
 cut_past_no_key must text after a b ts w ws last next cut e none written stands idle idle_then c =
-    let own : List ℕ → Type 0 = λ x. after ≡ w.separation ++ (w.piece ++ x) → IsWritten a w x → past_by must (site_at false a.site w.separation w.piece w.shown x) w.piece w.shown x w.key (line_past_separation false (begins_free_line a.site.before w.separation) a.line) ≡ Some b →
-    IsCutUpTo text x b (ts ++ tokens_of_step a w ws last) in
-    let here : own (step.spelled ws last) = λ g h i. goes_on text after a b ts w ws last g (cut_no_key must a w ws last b none idle idle_then h i) c in
-    (subst own e here) cut written stands
+    rw (← e) (goes_on text after a b ts w ws last (rw e cut) (cut_no_key must a w ws last b none idle idle_then (rw e written) (rw e stands)) c)

@@ -1,5 +1,5 @@
 -- Like entries stay like over a piece in flow.
-use Rattle.proof_row.proofs.Common.{Act, Bool, entries_past, Entry, entry_past, FlowKind, gives_closing, gives_comma, Had, had_after, List, Option, Pair, pair_past, Position, renewed, subst, takes_pair, with_had, ◌∷◌, ◌≡◌, arith}
+use Rattle.proof_row.proofs.Common.{Act, Bool, entries_past, Entry, entry_past, FlowKind, gives_closing, gives_comma, Had, List, Option, Pair, pair_past, Position, takes_pair, with_had, ◌∷◌, ◌≡◌, arith}
 use Rattle.proof_row.proofs.Like.{LikeHad, LikeEntry, LikeEntries, Stepped, weaker, tails, both, like_after, same_after, same_entry}
 
 -- ---- an entry that goes on
@@ -15,14 +15,9 @@ EntriesStep k = (here : Position) (again : Bool) (begun : List Entry) (b c : Boo
 goes_on : (k : Act) (here : Position) (again : Bool) (begun : List Entry) (b c : Bool) (d e : Entry) (ds es : List Entry) → LikeEntry d e → LikeEntries ds es →
     Stepped LikeEntries ((d ∷ ds ≡ e ∷ es) × (b ≡ c)) (entry_past here again k begun b d ds) (entry_past here again k begun c e es)
 goes_on k here again begun b c d e ds es i j =
-    let second : FlowKind → Pair → Option (List Entry) = λ x y. with_had x (pair_past (takes_pair x y) k y) begun es (had_after here (takes_pair x y) k c (renewed again k e.had)) in
     let Were : Type 0 = ((d.had ≡ e.had) × (b ≡ c)) × (ds ≡ es) in
-    let T : FlowKind → Pair → Type 0 = λ x y. Stepped LikeEntries Were (entry_past here again k begun b d ds) (second x y) in
-    let own : T d.kind d.pair = with_had_step d.kind (pair_past (takes_pair d.kind d.pair) k d.pair) begun ds es ((d.had ≡ e.had) × (b ≡ c)) _ _ j
-    (grind arith) in
-    let kinds : T e.kind d.pair = subst (λ x. T x d.pair) i.0 own in
-    let pairs : T e.kind e.pair = subst (λ x. T e.kind x) i.1 kinds in
-    weaker LikeEntries Were ((d ∷ ds ≡ e ∷ es) × (b ≡ c)) _ _ (λ h. (both d e ds es (same_entry d e i.0 i.1 h.0.0) h.1, h.0.1)) pairs
+    weaker LikeEntries Were ((d ∷ ds ≡ e ∷ es) × (b ≡ c)) _ _ (λ h. (both d e ds es (same_entry d e i.0 i.1 h.0.0) h.1, h.0.1))
+    (rw (← i.0, ← i.1) (with_had_step d.kind (pair_past (takes_pair d.kind d.pair) k d.pair) begun ds es ((d.had ≡ e.had) × (b ≡ c)) _ _ j (grind arith)))
 
 -- Like entries are like again after a piece in flow.
 pub entries_step : (k : Act) → EntriesStep k

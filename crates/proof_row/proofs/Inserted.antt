@@ -1,6 +1,5 @@
 -- Tokens without a piece before a token with its piece, as a cut has them: what each step of a row is there.
-use Rattle.proof_row.proofs.Common.{[], Account, account_at_piece, account_past_row, account_past_separation, account_past_token, ap, Before, before_past, blocks_past, false, first_token, is_separation, IsPiece, IsRow, levels_past, List, Option, refl, Some, spelled, subst, sym, Tok, Token, tokens_of, true, Written, ℕ, ◌++◌, ◌∙◌, ◌∷◌, ◌≡◌, arith}
-use Rattle.defs_token.specs.Cut.{IsWritten, account_past}
+use Rattle.proof_row.proofs.Common.{[], Account, account_at_piece, account_past_row, account_past_separation, account_past_token, ap, Before, before_past, blocks_past, false, first_token, is_separation, IsPiece, IsRow, levels_past, List, Option, refl, Some, spelled, sym, Tok, Token, tokens_of, true, Written, ℕ, ◌++◌, ◌∙◌, ◌∷◌, ◌≡◌, arith}
 use Rattle.defs_token.proofs.Append.{spelled_append, tokens_append, account_append, row_append}
 
 -- ---- the row
@@ -72,9 +71,7 @@ cut_append a b c text ts us between next r s =
       spells = spelled_append r.row s.row next ∙ ap (λ y. spelled r.row y) s.spells ∙ r.spells;
       tokens_are = tokens_append r.row s.row ∙ ap (λ x. x ++ tokens_of s.row) r.tokens_are ∙ ap (λ x. ts ++ x) s.tokens_are;
       is_row = record {
-        is_row = λ o. row_append a r.row s.row next o
-            (subst (λ y. IsRow a r.row y (first_token s.row o)) (sym s.spells) (r.is_row.is_row (first_token s.row o)))
-            (subst (λ y. IsRow y s.row next o) (sym past) (s.is_row.is_row o));
+        is_row = λ o. row_append a r.row s.row next o (rw (s.spells) (r.is_row.is_row (first_token s.row o))) (rw past (s.is_row.is_row o));
         past = account_append a r.row s.row next ∙ ap (λ y. account_past_row y s.row next) past ∙ s.is_row.past;
       };
     }
@@ -94,10 +91,8 @@ written_so a f (u ∷ us) p t next fills empty piece =
     let same : past ≡ account_past_separation past [] (p ++ next) = sym (ap (λ b. record past { before = b }) (before_again past.before)) in
     let cut : p ++ next ≡ spelled more next = sym (spelled_written [] us p t next) in
     let later : IsRowTo past more next (End (account_past_separation past [] (p ++ next))) =
-    written_so past [] us p t next refl (subst (λ b. AreEmpty b us (p ++ next) t.tok) same empty.1)
-    (λ last. subst (λ b. IsPiece (account_at_piece (past_all b us) p) p next last t.position t.tok) same (piece last)) in
+    written_so past [] us p t next refl (rw (← same) empty.1) (λ last. rw (← same) (piece last)) in
     record {
-      is_row = λ last. subst (λ x. IsWritten a own x (first_token more last) × IsRow (account_past a own x) more next last) cut
-          ((fills, subst (λ o. IsPiece here [] (p ++ next) o u.position u.tok) (sym (first_written [] us p t last)) empty.0), later.is_row last);
+      is_row = λ last. rw (← cut, first_written [] us p t last) ((fills, empty.0), later.is_row last);
       past = let on = later.past in grind (arith, cut, on, same);
     }

@@ -1,7 +1,7 @@
 -- A text has one row. The choice of keys goes forwards, the proof backwards: at the text's end no key waits, so like accounts are equal there, and that is carried back to the start.
-use Rattle.proof_row.proofs.Common.{[], account_past, ap, false, first_account, has_no_nul, Holds, is_separation, IsRowFrom, IsWritten, List, None, OneReading, OneRow, Option, refl, Some, Step, subst, sym, tokens_of_row, ℕ, ◌++◌, ◌∙◌, ◌∷◌, ◌≡◌, arith, no_nul_after}
+use Rattle.proof_row.proofs.Common.{[], account_past, ap, false, first_account, has_no_nul, Holds, is_separation, IsRowFrom, IsWritten, List, None, OneReading, OneRow, Option, refl, Some, Step, sym, tokens_of_row, ℕ, ◌++◌, ◌∙◌, ◌∷◌, ◌≡◌, arith, no_nul_after}
 use Rattle.proof_row.proofs.Pieces.{no_piece_at_end, clean_up_to_end}
-use Rattle.defs_token.specs.Step.{Row, spelled}
+use Rattle.defs_token.specs.Step.{spelled}
 use Rattle.defs_token.specs.RowAccount.{Account}
 use Rattle.proof_row.proofs.Like.{IsLike, Stepped}
 use Rattle.proof_row.proofs.Accounts.{account_step, same_at_end}
@@ -30,11 +30,9 @@ rows_from Were (Some a) (Some b) (w ∷ ws) (v ∷ vs) f g t h k e c =
 -- A text has at most one row.
 pub one_row : OneRow
 one_row text r s h k =
-    let clean : Holds (has_no_nul (spelled r.steps r.last)) = subst (λ z. Holds (has_no_nul z)) (sym h.0) (clean_up_to_end text) in
-    let same : (first_account ≡ first_account) × (r.steps ≡ s.steps) × (r.last ≡ s.last) =
-    rows_from (first_account ≡ first_account) (Some first_account) (Some first_account) r.steps s.steps r.last s.last
-    ((refl, tt, tt), λ e. e) h.1 k.1 (h.0 ∙ sym k.0) clean in
-    ap (λ x. let y : Row = record { steps = x; last = r.last } in y) same.1 ∙ ap (λ x. let y : Row = record { steps = s.steps; last = x } in y) same.2
+    let same = rows_from (first_account ≡ first_account) (Some first_account) (Some first_account) r.steps s.steps r.last s.last
+    ((refl, tt, tt), λ e. e) h.1 k.1 (h.0 ∙ sym k.0) (rw (h.0) (clean_up_to_end text)) in
+    grind (arith, same)
 
 -- A text is read as at most one list of tokens.
 pub one_reading : OneReading

@@ -1,13 +1,13 @@
 -- At one account a text begins with one piece of one token.
-use Rattle.proof_row.proofs.Common.{[], alias_name, anchor_name, ap, append-nil, block_read, block_scalar, BlockRead, directive_line, double_quoted_value, has_no_nul, in_double_quotes, in_single_quotes, Kind, List, NoPieceIsInASeparation, nothing, PiecesHaveOneEnd, PiecesSeenAlikeHaveOneEnd, plain_scalar, refl, SeparationsBeforePiecesAreOne, single_quoted_value, Some, subst, sym, Tag, tag, tag_text, TextsUpToTheirEndHaveNoNul, Tok, true, written_tag, ℕ, ◌++◌, ◌∙◌, ◌∷◌, ◌≡◌, IsNamed, alias, anchor, arith, joined, same_head}
+use Rattle.proof_row.proofs.Common.{[], alias_name, anchor_name, ap, append-nil, block_scalar, directive_line, has_no_nul, in_double_quotes, in_single_quotes, Kind, List, NoPieceIsInASeparation, nothing, PiecesHaveOneEnd, PiecesSeenAlikeHaveOneEnd, plain_scalar, refl, SeparationsBeforePiecesAreOne, Some, sym, tag_text, TextsUpToTheirEndHaveNoNul, Tok, true, ℕ, ◌++◌, ◌∙◌, ◌∷◌, ◌≡◌, IsNamed, alias, anchor, arith, joined, same_head}
 use Rattle.proof_row.proofs.Separations.{separations}
 use Rattle.proof_row.proofs.Names.{names}
 use Rattle.proof_row.proofs.Plains.{plains}
-use Rattle.proof_row.proofs.Quotes.{singles, single_bodies, doubles, double_bodies}
+use Rattle.proof_row.proofs.Quotes.{single_bodies, double_bodies}
 use Rattle.proof_row.proofs.Directives.{directives}
 use Rattle.proof_row.proofs.TagEnds.{tags}
 use Rattle.proof_row.proofs.Blocks.{blocks}
-use Rattle.proof_row.proofs.Begins.{block_token, Context, Whole, piece_of, kind_there, separations_end_before}
+use Rattle.proof_row.proofs.Begins.{Context, Whole, piece_of, kind_there, separations_end_before}
 
 some : {A : Type 0} → (a b : A) → Some a ≡ Some b → a ≡ b
 some a b e = cc
@@ -30,16 +30,7 @@ abbrev OneOf : Kind → Type 0
 OneOf k = (a : Context) (p q x y : List ℕ) (t u : Tok) → Whole k a p x t → Whole k a q y u → p ++ x ≡ q ++ y → has_no_nul (p ++ x) ≡ true → Same p q x y t u
 
 one_name : (i : ℕ) (token : List ℕ → Tok) (p q x y : List ℕ) (t u : Tok) → (name : List ℕ) × IsNamed i p x name × (t ≡ token name) → (name : List ℕ) × IsNamed i q y name × (u ≡ token name) → p ++ x ≡ q ++ y → Same p q x y t u
-one_name i token p q x y t u h k e =
-    let same : (p ≡ q) × (x ≡ y) = names i p q x y (h.0, h.1) (k.0, k.1) e in
-    let name : h.0 ≡ k.0 = (same_head i i h.0 k.0 (sym h.1.0 ∙ (same.0 ∙ k.1.0))).1 in
-    same_by p q x y t u same (h.2 ∙ (ap token name ∙ sym k.2))
-
-abbrev tag_token : Tag → Tok
-tag_token t = tag (t.handle) (t.suffix)
-
-abbrev read_token : BlockRead → Tok
-read_token r = block_token (r.style) (r.text)
+one_name i token p q x y t u h k e = let same : (p ≡ q) × (x ≡ y) = names i p q x y (h.0, h.1) (k.0, k.1) e in grind arith
 
 pub one_of : (k : Kind) → OneOf k
 one_of nothing a p q x y t u h k e n = absurd h
@@ -47,24 +38,11 @@ one_of plain_scalar a p q x y t u h k e n = grind (arith, plains, some, same_by)
 one_of directive_line a p q x y t u h k e n = grind (arith, directives, some, same_by)
 one_of alias_name a p q x y t u h k e n = one_name 42 alias p q x y t u h k e
 one_of anchor_name a p q x y t u h k e n = one_name 38 anchor p q x y t u h k e
-one_of tag_text a p q x y t u h k e n =
-    let same : (p ≡ q) × (x ≡ y) = tags a.in_flow p q x y (h.0, h.1, h.2) (k.0, k.1, k.2) e in
-    let d : h.0 ≡ k.0 = some _ _ (sym h.1 ∙ (ap written_tag same.0 ∙ k.1)) in
-    same_by p q x y t u same (h.3 ∙ (ap tag_token d ∙ sym k.3))
-one_of in_single_quotes a p q x y t u h k e n =
-    let same : (h.1.0 ≡ k.1.0) × (x ≡ y) = single_bodies p q x y h.0 k.0 h.1 k.1 e in
-    let text : h.0 ≡ k.0 = some _ _ (sym h.1.2 ∙ (ap single_quoted_value same.0 ∙ k.1.2)) in
-    same_by p q x y t u (singles p q x y (h.0, h.1) (k.0, k.1) e) (cc (h.2, k.2, text))
-one_of in_double_quotes a p q x y t u h k e n =
-    let same : (h.1.0 ≡ k.1.0) × (x ≡ y) = double_bodies p q x y h.0 k.0 h.1 k.1 e in
-    let text : h.0 ≡ k.0 = some _ _ (sym h.1.2 ∙ (ap double_quoted_value same.0 ∙ k.1.2)) in
-    same_by p q x y t u (doubles p q x y (h.0, h.1) (k.0, k.1) e) (cc (h.2, k.2, text))
+one_of tag_text a p q x y t u h k e n = let same : (p ≡ q) × (x ≡ y) = tags a.in_flow p q x y (h.0, h.1, h.2) (k.0, k.1, k.2) e in grind arith
+one_of in_single_quotes a p q x y t u h k e n = let same : (h.1.0 ≡ k.1.0) × (x ≡ y) = single_bodies p q x y h.0 k.0 h.1 k.1 e in grind arith
+one_of in_double_quotes a p q x y t u h k e n = let same : (h.1.0 ≡ k.1.0) × (x ≡ y) = double_bodies p q x y h.0 k.0 h.1 k.1 e in grind arith
 one_of block_scalar a p q x y t u h k e n =
-    let same : (p ≡ q) × (x ≡ y) = blocks a.collection p q x y (h.0, h.1, n) (k.0, k.1, subst (λ z. has_no_nul z ≡ true) e n) e in
-    let first : block_read a.collection p x ≡ block_read a.collection q x = ap (λ z. block_read a.collection z x) same.0 in
-    let second : block_read a.collection q x ≡ block_read a.collection q y = ap (λ z. block_read a.collection q z) same.1 in
-    let r : h.0 ≡ k.0 = some _ _ (sym h.1 ∙ (first ∙ (second ∙ k.1))) in
-    same_by p q x y t u same (h.3 ∙ (ap read_token r ∙ sym k.3))
+    let same : (p ≡ q) × (x ≡ y) = blocks a.collection p q x y (h.0, h.1, n) (k.0, k.1, rw (← e) n) e in grind arith
 one_of k a p q x y t u h i e n = grind (arith, alike, same_by)
 
 -- ---- pieces at accounts that are seen alike

@@ -1,5 +1,5 @@
 -- A plain scalar has one end.
-use Rattle.proof_row.proofs.Common.{[], after_blank, Bool, ends_with_content, false, goes_on, inside, List, on_line, Option, past, PlainScalarsHaveOneEnd, refl, Stand, stops, subst, sym, true, ℕ, ◌++◌, ◌∷◌, ◌≡◌, arith, both, untrue, contrary, same_head, longer}
+use Rattle.proof_row.proofs.Common.{[], after_blank, Bool, ends_with_content, false, goes_on, inside, List, on_line, Option, past, PlainScalarsHaveOneEnd, refl, Stand, stops, true, ℕ, ◌++◌, ◌∷◌, ◌≡◌, arith, both, untrue, contrary, same_head, longer}
 
 -- whether the last character of a text is content, or what stands before an empty one
 abbrev settled : Stand → List ℕ → Bool
@@ -16,10 +16,8 @@ over fl coll s c (d ∷ r) next h k f = grind (arith, both, contrary, untrue, ov
 from : (fl : Bool) (coll : Option ℕ) (s : Stand) (p q x y : List ℕ) → goes_on fl coll s p x ≡ true → goes_on fl coll s q y ≡ true → settled s p ≡ true → settled s q ≡ true →
     stops fl coll inside x ≡ true → stops fl coll inside y ≡ true → p ++ x ≡ q ++ y → (p ≡ q) × (x ≡ y)
 from fl coll s [] [] x y h k f g i j e = (refl, e)
-from fl coll inside [] (d ∷ q) x y h k f g i j e = absurd (over fl coll inside d q y (subst (λ z. stops fl coll inside z ≡ true) e i) k g)
-from fl coll inside (c ∷ p) [] x y h k f g i j e = absurd (over fl coll inside c p x (subst (λ z. stops fl coll inside z ≡ true) (sym e) j) h f)
-from fl coll s [] (d ∷ q) x y h k f g i j e = absurd (cc f)
-from fl coll s (c ∷ p) [] x y h k f g i j e = absurd (cc g)
+from fl coll s [] (d ∷ q) x y h k f g i j e = grind (arith, over)
+from fl coll s (c ∷ p) [] x y h k f g i j e = grind (arith, over)
 from fl coll s (c ∷ p) (d ∷ q) x y h k f g i j e = grind (arith, same_head, both, longer, from fl coll (past s c) p q x y)
 
 pub plains : PlainScalarsHaveOneEnd

@@ -1,5 +1,5 @@
 -- A scalar in quotes has one end: no quote that would end it stands inside a body that has a value.
-use Rattle.proof_row.proofs.Common.{[], ap, append-nil, append_assoc, arith, begins_with, Bool, double_quote, double_quoted_element, double_quoted_value, DoubleQuotedScalarsHaveOneEnd, Element, elements, eqb-true, escape, false, folded_elements, followed, has_document_marker, if◌then◌else◌, is_nul, IsDoubleQuoted, IsSingleQuoted, length, length-take, List, None, numeric_escape, Option, plain_element, refl, single_quote, single_quoted_element, single_quoted_value, SingleQuotedScalarsHaveOneEnd, Some, Spelled, suc, sym, take-append-le, true, zero, ℕ, ◌++◌, ◌==◌, ◌∙◌, ◌∷◌, ◌≡◌, ◌≤◌, ◌⊎◌, contrary, same_head}
+use Rattle.proof_row.proofs.Common.{[], append-nil, append_assoc, arith, begins_with, Bool, double_quote, double_quoted_element, double_quoted_value, DoubleQuotedScalarsHaveOneEnd, Element, elements, eqb-true, escape, false, folded_elements, followed, has_document_marker, if◌then◌else◌, is_nul, IsDoubleQuoted, IsSingleQuoted, length, length-take, List, None, numeric_escape, Option, plain_element, refl, single_quote, single_quoted_element, single_quoted_value, SingleQuotedScalarsHaveOneEnd, Some, Spelled, suc, take-append-le, true, zero, ℕ, ◌++◌, ◌==◌, ◌∷◌, ◌≡◌, ◌≤◌, ◌⊎◌, contrary, same_head}
 use Rattle.proof_row.proofs.Splits.{More, splits}
 
 -- ---- an element is its own characters
@@ -87,9 +87,7 @@ single_bodies p q x y s t h k e =
     h.3 k.3 (between single_quote p q h.0 k.0 x y h.1 k.1 e)
 
 pub singles : SingleQuotedScalarsHaveOneEnd
-singles p q x y h k e =
-    let same : (h.1.0 ≡ k.1.0) × (x ≡ y) = single_bodies p q x y h.0 k.0 h.1 k.1 e in
-    (h.1.1 ∙ (ap (λ z. single_quote ∷ (z ++ (single_quote ∷ []))) same.0 ∙ sym k.1.1), same.1)
+singles p q x y h k e = let same : (h.1.0 ≡ k.1.0) × (x ≡ y) = single_bodies p q x y h.0 k.0 h.1 k.1 e in grind arith
 
 -- The bodies of two scalars in double quotes, and what follows these.
 pub double_bodies : (p q x y s t : List ℕ) → (h : IsDoubleQuoted p x s) → (k : IsDoubleQuoted q y t) → p ++ x ≡ q ++ y → (h.0 ≡ k.0) × (x ≡ y)
@@ -100,6 +98,4 @@ double_bodies p q x y s t h k e =
     refl refl (between double_quote p q h.0 k.0 x y h.1 k.1 e)
 
 pub doubles : DoubleQuotedScalarsHaveOneEnd
-doubles p q x y h k e =
-    let same : (h.1.0 ≡ k.1.0) × (x ≡ y) = double_bodies p q x y h.0 k.0 h.1 k.1 e in
-    (h.1.1 ∙ (ap (λ z. double_quote ∷ (z ++ (double_quote ∷ []))) same.0 ∙ sym k.1.1), same.1)
+doubles p q x y h k e = let same : (h.1.0 ≡ k.1.0) × (x ≡ y) = double_bodies p q x y h.0 k.0 h.1 k.1 e in grind arith

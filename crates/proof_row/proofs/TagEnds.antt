@@ -1,5 +1,5 @@
 -- A tag has one end: a verbatim one its `>`, another one the first gap or flow indicator.
-use Rattle.proof_row.proofs.Common.{[], after, after_mark, all_of, ap, append_assoc, begins_with, begins_with_mark, Bool, eqb-true, false, if◌then◌else◌, inl, inr, is_alpha, is_blank, is_blank_or_end, is_break, is_decimal_digit, is_flow, is_letter, is_nul, is_same, is_tag, is_uri, leading, List, named, not, refl, shorthand, Some, subst, sym, Tag, tag_of_class, TagsHaveOneEnd, true, verbatim, written_tag, ℕ, ◌&&◌, ◌++◌, ◌==◌, ◌∙◌, ◌∷◌, ◌≡◌, ◌⊎◌, arith, both, joined, same_head, ends_run, runs, gaps, flows, leading_after, all_leading, all_weaker, all_append}
+use Rattle.proof_row.proofs.Common.{[], after, after_mark, all_of, append_assoc, begins_with, begins_with_mark, Bool, eqb-true, false, if◌then◌else◌, inl, inr, is_alpha, is_blank, is_blank_or_end, is_break, is_decimal_digit, is_flow, is_letter, is_nul, is_same, is_tag, is_uri, leading, List, named, not, refl, shorthand, Some, subst, sym, Tag, tag_of_class, TagsHaveOneEnd, true, verbatim, written_tag, ℕ, ◌&&◌, ◌++◌, ◌==◌, ◌∷◌, ◌≡◌, ◌⊎◌, arith, both, joined, same_head, ends_run, runs, gaps, flows, leading_after, all_leading, all_weaker, all_append}
 
 -- ---- the characters of a shorthand
 
@@ -48,7 +48,7 @@ of_shorthand c r t e = by (begins_with_mark (after is_alpha (c ∷ r))) refl e
 
 same_one : (r : List ℕ) → is_same r (62 ∷ []) ≡ true → r ≡ 62 ∷ []
 same_one [] h = absurd (cc h)
-same_one (c ∷ []) h = ap (λ z. z ∷ []) (eqb-true c 62 (both _ _ h).0)
+same_one (c ∷ []) h = grind (arith, both, eqb-true)
 same_one (c ∷ d ∷ r) h = absurd (cc (both (c == 62) false h).1)
 
 shape : (r : List ℕ) (t : Tag) → after_mark r ≡ Some t → IsVerbatim r ⊎ IsShorthand r
@@ -71,22 +71,14 @@ mark_is_first a t e = grind arith
 
 shapes : (r s x y : List ℕ) → IsVerbatim r ⊎ IsShorthand r → IsVerbatim s ⊎ IsShorthand s → ends_run goes_on x ≡ true → ends_run goes_on y ≡ true → r ++ x ≡ s ++ y → (r ≡ s) × (x ≡ y)
 unfolding is_uri is_decimal_digit is_letter
-shapes r s x y (inl h) (inl k) f g e = let whole : (60 ∷ (h.0 ++ (62 ∷ []))) ++ x ≡ (60 ∷ (k.0 ++ (62 ∷ []))) ++ y = ap (λ z. z ++ x) (sym h.1) ∙ (e ∙ ap (λ z. z ++ y) k.1) in
-    let tails : h.0 ++ (62 ∷ x) ≡ k.0 ++ (62 ∷ y) =
-    sym (append_assoc h.0 (62 ∷ []) x) ∙ ((same_head 60 60 _ _ whole).1 ∙ append_assoc k.0 (62 ∷ []) y) in
-    let same : (h.0 ≡ k.0) × (62 ∷ x ≡ 62 ∷ y) = runs is_uri h.0 k.0 (62 ∷ x) (62 ∷ y) h.2 k.2 refl refl tails in
-    (h.1 ∙ (ap (λ z. 60 ∷ (z ++ (62 ∷ []))) same.0 ∙ sym k.1), (same_head 62 62 x y same.1).1)
+shapes r s x y (inl h) (inl k) f g e =
+    let same : (h.0 ≡ k.0) × (62 ∷ x ≡ 62 ∷ y) = runs is_uri h.0 k.0 (62 ∷ x) (62 ∷ y) h.2 k.2 refl refl (grind (arith, same_head, append_assoc)) in grind arith
 shapes r s x y (inl h) (inr k) f g e = absurd (apart r s x y h k g e)
 shapes r s x y (inr h) (inl k) f g e = absurd (apart s r y x k h f (sym e))
 shapes r s x y (inr h) (inr k) f g e = runs goes_on r s x y h.0 k.0 f g e
 
 pub tags : TagsHaveOneEnd
-tags fl p q x y h k e = by (mark_is_first p h.0 h.1) (mark_is_first q k.0 k.1)
-  where
-    by : (r : List ℕ) × (p ≡ 33 ∷ r) × (after_mark r ≡ Some h.0) → (s : List ℕ) × (q ≡ 33 ∷ s) × (after_mark s ≡ Some k.0) → (p ≡ q) × (x ≡ y)
-    by m n =
-        let whole : (33 ∷ m.0) ++ x ≡ (33 ∷ n.0) ++ y = ap (λ z. z ++ x) (sym m.1) ∙ (e ∙ ap (λ z. z ++ y) n.1) in
-        let same : (m.0 ≡ n.0) × (x ≡ y) =
-        shapes m.0 n.0 x y (shape m.0 h.0 m.2) (shape n.0 k.0 n.2) (grind arith) (grind arith)
-        (same_head 33 33 (m.0 ++ x) (n.0 ++ y) whole).1 in
-        (m.1 ∙ (ap (λ z. 33 ∷ z) same.0 ∙ sym n.1), same.1)
+tags fl p q x y h k e =
+    let m = mark_is_first p h.0 h.1 in
+    let n = mark_is_first q k.0 k.1 in
+    let same : (m.0 ≡ n.0) × (x ≡ y) = shapes m.0 n.0 x y (shape m.0 h.0 m.2) (shape n.0 k.0 n.2) (grind arith) (grind arith) (grind (arith, same_head)) in grind arith
