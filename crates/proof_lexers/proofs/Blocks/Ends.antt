@@ -119,15 +119,6 @@ module _ (indent : ℕ) (p : Position) where
       → with_value h column (if starts_with_tab (ls ++ last ∷ []) then None else value_at_end h column last (rows_of column ls) (row_of column last)) ≡ Some b → AtEnd h column ls last b
   at_the_end h column ls last b e = grind arith
 
-  end_read : (h : defs.Header) (line : List ℕ) (k : Break) (ls : List Line) (last : List ℕ) (b : BlockRead) → header_of (indicator_of h.style ∷ line) ≡ Some h → digit_by (digit_or_zero h.digit) ≡ h.digit → is_in_line line ≡ true
-      → Fits k (spell ls last) → AreLines ls last → is_in_line last ≡ true
-      → AtEnd h (column_by h.digit (collection_of indent) (texts ls ++ last ∷ [])) (texts ls) last b
-      → IsRead indent p b (indicator_of h.style ∷ (line ++ put k (spell ls last))) [] (block (is_literal_style b.style) indent ((indicator_of h.style ∷ (line ++ put k (spell ls last))) ++ []) p)
-  end_read h line k ls last b is digit inner fits are last_inner z =
-      let K = column_by h.digit (collection_of indent) (texts ls ++ last ∷ []) in
-      let found = block_is h line k indent p is digit inner ls last K refl are last_inner fits (tab_whole ls last ∙ z.tabless) in
-      rw (append-nil, ← z.value) (before_the_end h line k indent p is digit inner K ls last z.rows are last_inner fits z.are_rows found z.row (row_is K last z.row z.is_row))
-
 -- ---- each piece
 
 pub some_next : (d : ℕ) (n : List ℕ) → list_all is_some (d ∷ n) ≡ true → is_at_end (d ∷ n) ≡ false
@@ -135,13 +126,8 @@ unfolding is_nul
 some_next d n h = not-true _ ((and_parts (not (d == 0)) (list_all is_some n) h).0)
 
 -- a piece's first line is a header
-record Headed (w : List ℕ) : Type 0 where
-  h : defs.Header
-  is : header_of w ≡ Some h
-  line : List ℕ
-  cut : w ≡ indicator_of h.style ∷ line
-  digit : digit_by (digit_or_zero h.digit) ≡ h.digit
-  inner : is_in_line line ≡ true
+data Headed : List ℕ → Type 0 where
+  heads : (h : defs.Header) (line : List ℕ) → header_of (indicator_of h.style ∷ line) ≡ Some h → digit_by (digit_or_zero h.digit) ≡ h.digit → is_in_line line ≡ true → Headed (indicator_of h.style ∷ line)
 
 headed : (indent : ℕ) (w : List ℕ) (content : Body) (next : List ℕ) (b : BlockRead) → is_in_line w ≡ true → read_body (header_of w) (collection_of indent) content next ≡ Some b → Headed w
 headed indent [] content next b inner e = cc
@@ -149,43 +135,36 @@ headed indent (c ∷ line) content next b inner e = by (header_of (c ∷ line)) 
   where
     by : (o : Option defs.Header) → header_of (c ∷ line) ≡ o → Headed (c ∷ line)
     by None f = let no : None ≡ Some b = rw f at e in cc
-    by (Some h) f =
-        let z = said c line h f in record { h = h; is = f; line = line; cut = ap (λ d. d ∷ line) z.begins; digit = z.digit_is; inner = (first_inner c line inner).1 }
+    by (Some h) f = let z = said c line h f in let begins = z.begins in rw begins (heads h line (rw (← begins) f) z.digit_is (first_inner c line inner).1)
 
 module _ (indent : ℕ) (p : Position) (b : BlockRead) where
   abbrev pub Read_as : List ℕ → List ℕ → Type 0
   Read_as piece next = IsRead indent p b piece next (block (is_literal_style b.style) indent (piece ++ next) p)
 
-  read_alone : (w : List ℕ) → is_in_line w ≡ true → read_body (header_of w) (collection_of indent) input_ends [] ≡ Some b → Read_as w []
-  read_alone w inner e =
-      let z = headed indent w input_ends [] b inner e in
-      let same : record { style = z.h.style; column = 0; text = [] } ≡ b = cc (e, z.is) in
-      let w' = indicator_of z.h.style ∷ z.line in
-      subst (λ x. Read_as x []) (sym z.cut) (subst (λ (r : BlockRead). IsRead indent p r w' [] (block (is_literal_style r.style) indent (w' ++ []) p)) same
-      (rw append-nil (header_alone_is_read z.h z.line indent p (sym (ap header_of z.cut) ∙ z.is) z.inner)))
+  read_alone : (w : List ℕ) → Headed w → read_body (header_of w) (collection_of indent) input_ends [] ≡ Some b → Read_as w []
+  read_alone _ (heads h line is digit inner) e =
+      let same : record { style = h.style; column = 0; text = [] } ≡ b = cc (e, is) in rw (append-nil, ← same) (header_alone_is_read h line indent p is inner)
 
-  pub to_end : (w : List ℕ) (k : Break) (ls : List Line) (last : List ℕ) → is_in_line w ≡ true → Fits k (spell ls last) → AreLines ls last → is_in_line last ≡ true
+  to_end : (w : List ℕ) (k : Break) (ls : List Line) (last : List ℕ) → Headed w → Fits k (spell ls last) → AreLines ls last → is_in_line last ≡ true
       → read_body (header_of w) (collection_of indent) (body (texts ls) (unbroken last)) [] ≡ Some b → Read_as (w ++ put k (spell ls last)) []
-  to_end w k ls last inner fits are last_inner e =
-      let z = headed indent w (body (texts ls) (unbroken last)) [] b inner e in
-      subst (λ x. Read_as (x ++ put k (spell ls last)) []) (sym z.cut)
-      (end_read indent p z.h z.line k ls last b (sym (ap header_of z.cut) ∙ z.is) z.digit z.inner fits are last_inner (at_the_end indent p z.h _ (texts ls) last b (rw z.is at e)))
+  to_end _ k ls last (heads h line is digit inner) fits are last_inner e =
+      let z = at_the_end indent p h _ (texts ls) last b (rw is at e) in
+      let K = column_by h.digit (collection_of indent) (texts ls ++ last ∷ []) in
+      let found = block_is h line k indent p is digit inner ls last K refl are last_inner fits (tab_whole ls last ∙ z.tabless) in
+      rw (append-nil, ← z.value) (before_the_end h line k indent p is digit inner K ls last z.rows are last_inner fits z.are_rows found z.row (row_is K last z.row z.is_row))
 
-  pub read_to_text : (w : List ℕ) (k : Break) (ls : List Line) (next : List ℕ) → is_in_line w ≡ true → Fits k (spell ls []) → AreLines ls [] → is_at_end next ≡ false
+  read_to_text : (w : List ℕ) (k : Break) (ls : List Line) (next : List ℕ) → Headed w → Fits k (spell ls []) → AreLines ls [] → is_at_end next ≡ false
       → read_body (header_of w) (collection_of indent) (body (texts ls) further_text) next ≡ Some b → Read_as (w ++ put k (spell ls [])) next
-  read_to_text w k ls next inner fits are some e =
-      let z = headed indent w (body (texts ls) further_text) next b inner e in
-      let value = rw (z.is, some) at e in
-      subst (λ x. Read_as (x ++ put k (spell ls [])) next) (sym z.cut)
-      (further_read indent p next z.h z.line k ls b (sym (ap header_of z.cut) ∙ z.is) z.digit z.inner fits are some (before indent p next z.h _ (texts ls) b value))
+  read_to_text _ k ls next (heads h line is digit inner) fits are some e =
+      further_read indent p next h line k ls b is digit inner fits are some (before indent p next h _ (texts ls) b (rw (is, some) at e))
 
   read_of_lines : (ls : List Line) (last next : List ℕ) → AreLines ls last → is_in_line last ≡ true → list_all is_some next ≡ true → (t : Bool) → is_at_end next ≡ t
       → read_lines (collection_of indent) (texts ls) last next t ≡ Some b → Read_as (spell ls last) next
-  read_of_lines [] last [] are inner some true x e = read_alone last inner e
-  read_of_lines (l ∷ ls) last [] are inner some true x e = to_end l.text l.by ls last are.0 are.1 are.2 inner e
+  read_of_lines [] last [] are inner some true x e = read_alone last (headed indent last _ [] b inner e) e
+  read_of_lines (l ∷ ls) last [] are inner some true x e = to_end l.text l.by ls last (headed indent l.text _ [] b are.0 e) are.1 are.2 inner e
   read_of_lines ls last [] are inner some false x e = let no : true ≡ false = x in cc
   read_of_lines ls last (d ∷ n) are inner some true x e = let no : false ≡ true = sym (some_next d n some) ∙ x in cc
-  read_of_lines (l ∷ ls) [] (d ∷ n) are inner some false x e = read_to_text l.text l.by ls (d ∷ n) are.0 are.1 are.2 x e
+  read_of_lines (l ∷ ls) [] (d ∷ n) are inner some false x e = read_to_text l.text l.by ls (d ∷ n) (headed indent l.text _ (d ∷ n) b are.0 e) are.1 are.2 x e
   read_of_lines _ last (d ∷ n) are inner some false x e = cc
 
 pub pieces_are_read : BlockPiecesAreRead
@@ -229,7 +208,7 @@ module _ (style : BlockStyle) (indent : ℕ) (p : Position) where
       let b : BlockRead = record { style = h.style; column = column; text = value } in
       let own : h.style ≡ style = sym (style_same style h.style (said (indicator_of style) line h is).begins) in
       let so : IsRead indent p b piece next (block (is_literal_style style) indent (indicator_of style ∷ text) p) =
-      rw cut (subst (λ (s : BlockStyle). IsRead indent p b piece next (block (is_literal_style s) indent (piece ++ next) p)) own (pieces_are_read indent piece next p b some reads_so)) in
+      rw (cut, ← own) (pieces_are_read indent piece next p b some reads_so) in
       let here : IsBlockPiece style indent text piece next b = record { is_text = cut; is_read = reads_so; is_style = own } in
       ends_also (λ r read. whole_block piece next b here read) (λ f why. after_piece piece next b here why) so
 
@@ -247,21 +226,18 @@ module _ (style : BlockStyle) (indent : ℕ) (p : Position) where
 
     to_text : (own ns : List Line) (rs : List Row) → ls ≡ own ++ ns → rows_of column (texts own) ≡ Some rs → is_further_text column (spell ns last) ≡ true → list_all is_some (spell ns last) ≡ true → Ends (line ++ put k (spell ls last))
     to_text own ns rs split_at rows further some_next_text =
-        let further_not_end : is_at_end (spell ns last) ≡ false = grind (arith, some_next) in
+        let not_end : is_at_end (spell ns last) ≡ false = grind (arith, some_next) in
         let joined : spell ls last ≡ spell own (spell ns last) = ap (λ x. spell x last) split_at ∙ spell_append own ns last in
         let parts = are_parts own ns last (rw (← split_at) are) in
         let column_is : column ≡ column_by h.digit (collection_of indent) (texts (own ++ ns) ++ last ∷ []) = ap (λ x. column_by h.digit (collection_of indent) (texts x ++ last ∷ [])) split_at in
         let same : column ≡ column_by h.digit (collection_of indent) (texts own) = column_is ∙ part_column h.digit indent own ns last parts.1 last_inner (rw (← column_is) further) in
         let fits_own : Fits k (spell own []) = fits_before k own (spell ns last) [] (fits_alone k) (rw (← joined) fits) in
         let tab_free = tab_of own (spell ns last) (rw (← joined) tabless) in
-        let not_end = further_not_end in
         let lines = split_spell (record { text = indicator_of style ∷ line; by = k } ∷ own) [] (style_inner style line inner, fits_own, are_before own (spell ns last) [] fits_alone parts.0) refl in
-        let rows_here : rows_of (column_by h.digit (collection_of indent) (texts own)) (texts own) ≡ Some rs = rw (← same) rows in
-        let further_here : is_further_text (column_by h.digit (collection_of indent) (texts own)) (spell ns last) ≡ true = rw (← same) further in
         found (line ++ put k (spell ls last)) (indicator_of style ∷ (line ++ put k (spell own []))) (spell ns last) line (value_before_text h rs) h (column_by h.digit (collection_of indent) (texts own)) is
         (ap (λ a. indicator_of style ∷ (line ++ put k a)) joined ∙ sym (spell_more (record { text = indicator_of style ∷ line; by = k } ∷ own) [] (spell ns last))) some_next_text
         (ap (λ s. read_split (collection_of indent) s (spell ns last)) lines ∙ ap (λ t. read_lines (collection_of indent) ((indicator_of style ∷ line) ∷ texts own) [] (spell ns last) t) not_end
-        ∙ ap (λ o. read_body o (collection_of indent) (body (texts own) further_text) (spell ns last)) is ∙ rw (not_end, further_here, tab_free, rows_here) refl)
+        ∙ ap (λ o. read_body o (collection_of indent) (body (texts own) further_text) (spell ns last)) is ∙ rw (not_end, ← same, further, tab_free, rows) refl)
       where
         tab_of : (own : List Line) (next : List ℕ) → begins_with tab (spell own next) ≡ false → starts_with_tab (texts own) ≡ false
         tab_of [] next e = refl

@@ -1,7 +1,6 @@
 -- The definitions' positions are the model's.
 use Rattle.proof_lexers.proofs.Common.{[], along, ap, append-nil, append_assoc, arith, false, first_content, is_break, is_in_line, is_spaces, length, List, None, past, past_break, Position, position_after, position_past, refl, sym, true, ℕ, ◌++◌, ◌+◌, ◌∙◌, ◌∷◌, ◌≡◌, ◌≤◌, Read, indent_from, Column, Option, if◌then◌else◌, is_empty, Some, same_break}
 use Rattle.defs_text.specs.Classes as classes
-use Rattle.defs_text.specs.Breaks as cut
 use Rattle.proof_lexers.proofs.Blocks.Margins.{after_break, after_line, after_lines, AreLines, at, Break, empty_passes, first_inner, Fits, Line, put, spell}
 use Rattle.proof_lexers.proofs.Plain.Turns.{in_line_position, line_position, same_feed}
 

@@ -1,5 +1,5 @@
 -- The whole scan of a block scalar whose lines are known.
-use Rattle.proof_lexers.proofs.Common.{[], after_header, along, and_then, ap, append-nil, arith, At, begins_with, Block, block, block_position, BlockRead, Bool, breaks, cases_Bool, chomping_of, collection_of, Column, column_by, content_row, digit_by, digit_or_zero, drop, empty_row, empty_text, Err, false, Fault, first_content, further_position, has_content, Header, header, header_of, indent_from, indicator_of, indicators_of, inl, inr, is_at_end, is_in_line, is_literal_style, is_open, is_spaces, is_tabbed, IsRead, le-ltb, length, Lines, lines_from, List, max, nat_le, nat_lt, nat_tests, None, Ok, past, past_spaces, Position, position_after, position_or, Read, read_header, reads, refl, refuses, Result, Row, rows_of, Some, suc, sym, tab, tail, true, value_before_end, value_before_text, with_content, without_spaces, ℕ, ◌&&◌, ◌++◌, ◌+◌, ◌∙◌, ◌∷◌, ◌≡◌, ◌≤◌, Option, BlockScalarTab, and_false, both}
+use Rattle.proof_lexers.proofs.Common.{[], after_header, along, and_then, ap, append-nil, arith, At, begins_with, Block, block, block_position, BlockRead, Bool, breaks, cases_Bool, chomping_of, collection_of, Column, column_by, content_row, digit_by, digit_or_zero, drop, empty_row, empty_text, Err, false, Fault, first_content, further_position, has_content, Header, header, header_of, indent_from, indicator_of, indicators_of, inl, inr, is_at_end, is_in_line, is_literal_style, is_open, is_spaces, is_tabbed, IsRead, le-ltb, length, Lines, lines_from, List, max, nat_le, nat_lt, nat_tests, None, Ok, past, past_spaces, Position, position_after, position_or, Read, read_header, reads, refl, refuses, Result, Row, rows_of, Some, suc, sym, tab, tail, true, value_before_end, value_before_text, without_spaces, ℕ, ◌&&◌, ◌++◌, ◌+◌, ◌∙◌, ◌∷◌, ◌≡◌, ◌≤◌, Option, BlockScalarTab, and_false, both}
 use Rattle.defs_text.specs.Classes as classes
 use Rattle.defs_text.specs.BlockScalar as defs
 use Rattle.model_scanner.specs.BlockScalar.{content}

@@ -1,5 +1,5 @@
 -- Plain scalars are read as their values, and no other text is.
-use Rattle.proof_lexers.proofs.Common.{[], and_parts, ap, arith, At, at_dash, begins_left, begins_solid, Bool, by_column, by_dash, by_tab, cases_Bool, collection_of, Context, EndsAs, false, Fault, Folded, goes_on, goes_over, has_document_marker, has_no_nul, HasTab, inl, inr, is_indented, is_shallow, is_white, IsPlainRead, IsPlainRefusal, joined, List, nat_lt, nat_tests, not-true, nothing, or_parts, Plain, plain, plain_from, plain_value, PlainScalarsAreRead, PlainScansEndAsTheirTextSays, Position, position_after, Read, reads, refl, refuses, Result, Some, stand_after, stops, suc, sym, true, whole_plain, with_char, ℕ, ◌&&◌, ◌++◌, ◌+◌, ◌∙◌, ◌∷◌, ◌≡◌, after_blank, append-nil, at_marker, can_be_plain, ends_at_colon, ends_plain, eqb-true, is_apart, is_blank, is_break, not, Ok, on_line, slice_index, Stand, tabs, ◌==◌, ◌||◌, is_left, FlowIndentation, PlainDashInFlow, PlainTab, is_nul, same_break, same_blank}
+use Rattle.proof_lexers.proofs.Common.{[], and_parts, ap, arith, At, at_dash, begins_left, begins_solid, Bool, by_column, by_dash, by_tab, cases_Bool, collection_of, Context, EndsAs, false, Fault, Folded, goes_on, goes_over, has_document_marker, has_no_nul, HasTab, inl, inr, is_indented, is_shallow, is_white, IsPlainRead, IsPlainRefusal, joined, List, nat_lt, nat_tests, not-true, nothing, or_parts, Plain, plain, plain_from, plain_value, PlainScalarsAreRead, PlainScansEndAsTheirTextSays, Position, position_after, Read, reads, refl, refuses, Result, Some, stand_after, stops, suc, sym, true, whole_plain, with_char, ℕ, ◌&&◌, ◌++◌, ◌+◌, ◌∙◌, ◌∷◌, ◌≡◌, after_blank, append-nil, at_marker, can_be_plain, ends_at_colon, ends_plain, eqb-true, is_apart, is_blank, is_break, not, Ok, on_line, slice_index, Stand, tabs, ◌==◌, ◌||◌, FlowIndentation, PlainDashInFlow, PlainTab, is_nul, same_break, same_blank}
 use Rattle.defs_token.specs.Plain as defs
 use Rattle.model_scanner.specs.Machine as machine
 use Rattle.model_scanner.specs.Plain.{inside, first, starts, between}
