@@ -87,11 +87,9 @@ written_so a f (u ∷ us) p t next fills empty piece =
     let past : Account = past_empty here u.tok in
     let own : Written = record { separation = f; piece = []; token = u } in
     let more : List Written = written [] us p t in
-    let End : Account → Account = λ b. account_past_token (account_at_piece (past_all b us) p) p next t.tok in
     let same : past ≡ account_past_separation past [] (p ++ next) = sym (ap (λ b. record past { before = b }) (before_again past.before)) in
     let cut : p ++ next ≡ spelled more next = sym (spelled_written [] us p t next) in
-    let later : IsRowTo past more next (End (account_past_separation past [] (p ++ next))) =
-    written_so past [] us p t next refl (rw (← same) empty.1) (λ last. rw (← same) (piece last)) in
+    let later = written_so past [] us p t next refl (rw (← same) empty.1) (λ last. rw (← same) (piece last)) in
     record {
       is_row = λ last. rw (← cut, first_written [] us p t last) ((fills, empty.0), later.is_row last);
       past = let on = later.past in grind (arith, cut, on, same);

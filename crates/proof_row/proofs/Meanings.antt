@@ -38,8 +38,7 @@ one_meaning keep_tags text ts us x y =
     let first : List NestedDocument = x.read.documents in
     let second : List NestedDocument = y.read.documents in
     let same : toks y.tokens ≡ toks x.tokens = ap toks (one_reading text y.tokens x.tokens y.has x.has) in
-    let events : nested_stream first ≡ nested_stream second =
-    grammar.one_list keep_tags (toks x.tokens) (nested_stream first) (nested_stream second) x.read.stream (subst (λ z. IsStream keep_tags z (nested_stream second)) same y.read.stream) in
+    let events = grammar.one_list keep_tags (toks x.tokens) (nested_stream first) (nested_stream second) x.read.stream (subst (λ z. IsStream keep_tags z (nested_stream second)) same y.read.stream) in
     let es : List (Ev × Position) = map somewhere (nested_stream first) in
     let are : events_of es ≡ nested_stream first = with_somewhere [] (nested_stream first) in
     let again : reading first ≡ Ok us =

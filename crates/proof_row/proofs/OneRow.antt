@@ -19,11 +19,9 @@ rows_from Were (Some a) (Some b) [] [] f g t h k e c = (t.1 (same_at_end a b t.0
 rows_from Were (Some a) (Some b) [] (v ∷ vs) f g t h k e c = absurd (at_end b v f (spelled vs g) h.0 k.0 e)
 rows_from Were (Some a) (Some b) (w ∷ ws) [] f g t h k e c = absurd (at_end a w g (spelled ws f) k.0 h.0 (sym e))
 rows_from Were (Some a) (Some b) (w ∷ ws) (v ∷ vs) f g t h k e c =
-    let same : (w.separation ≡ v.separation) × (w.piece ≡ v.piece) × (w.shown ≡ v.shown) × (spelled ws f ≡ spelled vs g) =
-    same_written a b w v (spelled ws f) (spelled vs g) t.0 h.0 k.0 e c in
+    let same = same_written a b w v (spelled ws f) (spelled vs g) t.0 h.0 k.0 e c in
     let clean : Holds (has_no_nul (spelled ws f)) = no_nul_after w.piece (spelled ws f) (no_nul_after w.separation (w.piece ++ spelled ws f) c) in
-    let rest : ((a ≡ b) × (w ≡ v)) × (ws ≡ vs) × (f ≡ g) =
-    rows_from ((a ≡ b) × (w ≡ v)) (account_past a w (spelled ws f)) (account_past b v (spelled vs g)) ws vs f g
+    let rest = rows_from ((a ≡ b) × (w ≡ v)) (account_past a w (spelled ws f)) (account_past b v (spelled vs g)) ws vs f g
     (account_step a b w v (spelled ws f) (spelled vs g) t.0 same.0 same.1 same.2 same.3) h.1 k.1 same.3 clean in
     (t.1 rest.0.0, ap (λ z. z ∷ ws) rest.0.1 ∙ ap (λ z. v ∷ z) rest.1, rest.2)
 

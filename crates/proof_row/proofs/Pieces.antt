@@ -1,5 +1,6 @@
 -- At one account a text begins with one piece of one token.
-use Rattle.proof_row.proofs.Common.{[], alias_name, anchor_name, ap, append-nil, block_scalar, directive_line, has_no_nul, in_double_quotes, in_single_quotes, Kind, List, NoPieceIsInASeparation, nothing, PiecesHaveOneEnd, PiecesSeenAlikeHaveOneEnd, plain_scalar, refl, SeparationsBeforePiecesAreOne, Some, sym, tag_text, TextsUpToTheirEndHaveNoNul, Tok, true, ℕ, ◌++◌, ◌∙◌, ◌∷◌, ◌≡◌, IsNamed, alias, anchor, arith, joined, same_head}
+use Rattle.proof_row.proofs.Common.{[], alias_name, anchor_name, append-nil, block_scalar, directive_line, has_no_nul, in_double_quotes, in_single_quotes, Kind, List, NoPieceIsInASeparation, nothing, PiecesHaveOneEnd, PiecesSeenAlikeHaveOneEnd, plain_scalar, refl, SeparationsBeforePiecesAreOne, Some, sym, tag_text, TextsUpToTheirEndHaveNoNul, Tok, true, ℕ, ◌++◌, ◌∙◌, ◌∷◌, ◌≡◌, IsNamed, alias, anchor, arith, joined}
+use Rattle.std.proofs.lemmas.List.{append_cancel_left}
 use Rattle.proof_row.proofs.Separations.{separations}
 use Rattle.proof_row.proofs.Names.{names}
 use Rattle.proof_row.proofs.Plains.{plains}
@@ -14,11 +15,7 @@ some a b e = cc
 
 -- two pieces of one text
 alike : (p q r x y : List ℕ) → p ≡ r → q ≡ r → p ++ x ≡ q ++ y → (p ≡ q) × (x ≡ y)
-alike p q r x y h k e = (h ∙ sym k, tails r (ap (λ z. z ++ x) (sym h) ∙ (e ∙ ap (λ z. z ++ y) k)))
-  where
-    tails : (r : List ℕ) → r ++ x ≡ r ++ y → x ≡ y
-    tails [] f = f
-    tails (c ∷ r) f = tails r (same_head c c (r ++ x) (r ++ y) f).1
+alike p q r x y h k e = (h ∙ sym k, append_cancel_left r x y (cc))
 
 abbrev Same : (p q x y : List ℕ) → Tok → Tok → Type 0
 Same p q x y t u = (p ≡ q) × (x ≡ y) × (t ≡ u)
@@ -60,8 +57,7 @@ separations_before a b v w p q x y f g m n t u h k i j r s e = grind (arith, sep
 
 pub no_piece_at_end : NoPieceIsInASeparation
 no_piece_at_end a v w p x f m t h k i r e =
-    let same : (v ≡ w) × ([] ≡ p ++ x) = separations v w [] (p ++ x) (h, refl) (k, separations_end_before a p x f m t i r) (append-nil v ∙ e) in
-    i (empty p (sym same.1))
+    let same = separations v w [] (p ++ x) (h, refl) (k, separations_end_before a p x f m t i r) (append-nil v ∙ e) in i (empty p (sym same.1))
   where
     empty : (p : List ℕ) → p ++ x ≡ [] → p ≡ []
     empty [] e = refl

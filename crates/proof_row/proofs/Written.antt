@@ -1,7 +1,7 @@
 -- The text says which piece comes: at like accounts, two steps with which one text begins have the same separation, piece and token.
-use Rattle.proof_row.proofs.Common.{[], Act, act_of, ap, before_past, blocks_at, Bool, Entry, has_no_nul, Holds, innermost_column, is_adjacent, is_empty, is_in_flow, IsSeenAlike, IsWritten, kind_of, level_of, List, map, None, not, Option, position_after, refl, seen, shown_position, Site, site_at, Some, Step, true, ℕ, ◌++◌, ◌∙◌, ◌∷◌, ◌≡◌, ◌≢◌, arith, no_nul_after}
+use Rattle.proof_row.proofs.Common.{[], Act, act_of, blocks_at, Bool, Entry, has_no_nul, Holds, innermost_column, is_empty, is_in_flow, IsSeenAlike, IsWritten, kind_of, level_of, List, map, None, not, Option, refl, seen, shown_position, Site, site_at, Some, Step, true, ℕ, ◌++◌, ◌∷◌, ◌≡◌, ◌≢◌, arith, no_nul_after}
 use Rattle.proof_row.proofs.Pieces.{pieces_seen_alike, separations_before}
-use Rattle.defs_token.specs.RowAccount.{Account, before_by}
+use Rattle.defs_token.specs.RowAccount.{Account}
 use Rattle.proof_row.proofs.Like.{LikeEntries, IsLike}
 
 -- ---- what a piece is seen with
@@ -36,12 +36,10 @@ pub same_piece : (a b : Account) (w v : Step) (x y : List ℕ) → IsLike a b �
 same_piece a b w v x y i h k f e clean =
     let alike : IsSeenAlike (seen a (At a w x) w.separation) (seen b (At b v y) v.separation) = (
       same_levels a.entries b.entries i.2,
-      ap (λ s. is_adjacent (before_past (before_by s.before) w.separation)) i.0 ∙ ap (λ z. is_adjacent (before_past (before_by b.site.before) z)) f,
-      ap (λ s. (position_after s.position w.separation (w.piece ++ x)).col) i.0 ∙
-          (ap (λ z. (position_after b.site.position z (w.piece ++ x)).col) f ∙ ap (λ z. (position_after b.site.position v.separation z).col) e),
+      cc (i.0, f),
+      cc (i.0, f, e),
     ) in
-    let pieces : (w.piece ≡ v.piece) × (x ≡ y) × (w.shown ≡ v.shown) =
-    pieces_seen_alike (seen a (At a w x) w.separation) (seen b (At b v y) v.separation) w.piece v.piece x y None None
+    let pieces = pieces_seen_alike (seen a (At a w x) w.separation) (seen b (At b v y) v.separation) w.piece v.piece x y None None
     (shown_position (At a w x) w.piece w.shown x) (shown_position (At b v y) v.piece v.shown y) w.shown v.shown alike (same_column a b w v x y i alike.2)
     (not_empty w.piece h.1.0) (not_empty v.piece k.1.0) h.1.1 k.1.1 e clean in
     (pieces.0, pieces.2, pieces.1)
