@@ -20,8 +20,7 @@ pub tab_line : (w a : List ℕ) (k : Break) (ls : List (List ℕ)) → begins_wi
 tab_line b a k ls = grind (arith, nat_tests)
 
 pub tab_whole : (ls : List Line) (e : List ℕ) → begins_with tab (spell ls e) ≡ starts_with_tab (texts ls ++ e ∷ [])
-tab_whole [] [] = refl
-tab_whole [] (c ∷ e) = refl
+tab_whole [] e = grind arith
 tab_whole (l ∷ ls) e = tab_line l.text (spell ls e) l.by (texts ls ++ e ∷ [])
 
 -- ---- further text begins with no line feed, and is not the end
