@@ -1,5 +1,5 @@
 -- The lines of a literal or folded block as the definitions of block scalars read them: their column, their rows and their value.
-use Rattle.proof_loads.proofs.TokensCommon.{[], and_false, and_parts, ap, append-nil, append_assoc, append_cancel_right, are_marks, AreFoldedLines, AreLines, AreLinesOf, AreLineTexts, arith, begins_as_marker, begins_with, BeginsWithText, blank, BlockStyle, body, Bool, breaks, Chomping, codes, collection_of, column_by, content_row, contents, deepest_start, digit_of, drop, empty_row, ends_with, EndsInText, false, feed, first_full_line_is_indented, full, further_text, has_content, Header, header_of, if◌then◌else◌, indented_lines, indicator_of, is_at_end, is_blank, is_blank_or_end, is_content_line, is_document_marker, is_empty, is_empty_line, is_further_text, is_in_line, is_line_character, is_line_feed, is_literal_character, is_literal_text, is_nul, is_outside, is_root_literal, is_spaces, IsLineText, leading_spaces, length, Line, lines_of, lines_of_ended, List, list_all, list_any, literal_header, map, max, nat_eq, nat_le, nat_tests, ne_eqb, None, not, not-true, onto_first_line, or_parts, read_body, refl, Row, row_of, rows_of, sign_of, Some, spaces, spell_line, spell_lines, starts_with_tab, suc, sym, text_after, text_of, texts, true, unbroken, value_before_end, value_before_text, zero, ℕ, ◌&&◌, ◌++◌, ◌+◌, ◌<◌, ◌==◌, ◌||◌, ◌∙◌, ◌∷◌, ◌≡◌, ◌≢◌, ◌≤◌, tab, ended}
+use Rattle.proof_loads.proofs.TokensCommon.{[], and_false, and_parts, ap, append-nil, append_assoc, append_cancel_right, are_marks, AreFoldedLines, AreLines, AreLinesOf, AreLineTexts, arith, begins_as_marker, begins_with, BeginsWithText, blank, BlockStyle, body, Bool, breaks, Chomping, codes, collection_of, column_by, content_row, contents, deepest_start, digit_of, drop, empty_row, ends_with, EndsInText, false, feed, first_full_line_is_indented, full, further_text, has_content, Header, header_of, if◌then◌else◌, indented_lines, indicator_of, is_at_end, is_blank, is_blank_or_end, is_content_line, is_document_marker, is_empty, is_empty_line, is_further_text, is_in_line, is_line_character, is_line_feed, is_literal_character, is_literal_text, is_nul, is_outside, is_root_literal, is_spaces, IsLineText, leading_spaces, length, Line, lines_of, lines_of_ended, List, list_all, list_any, literal_header, map, max, nat_eq, nat_le, nat_tests, ne_eqb, None, not, not-true, onto_first_line, or_parts, read_body, refl, Row, row_of, rows_of, sign_of, Some, spaces, spell_line, spell_lines, starts_with_tab, suc, sym, text_after, text_of, texts, true, unbroken, value_before_end, value_before_text, zero, ℕ, ◌&&◌, ◌++◌, ◌+◌, ◌<◌, ◌==◌, ◌||◌, ◌∙◌, ◌∷◌, ◌≡◌, ◌≤◌, tab, ended}
 use Rattle.proof_lexers.proofs.Blocks.Written as written
 use Rattle.defs_text.specs.Classes as classes
 use Rattle.defs_token.specs.BlockPiece as cut
@@ -258,17 +258,14 @@ pub each_split : (column : ℕ) (ls : List Line) (l : Line) → AreEach column (
 each_split column [] l h = (tt, h.0)
 each_split column (m ∷ ls) l h = let q = each_split column ls l h.1 in ((h.0, q.0), q.1)
 
-pub rows_are : (column : ℕ) (ls : List Line) → AreEach column ls → rows_of column (texts (lines_at column ls)) ≡ Some (map row_by ls)
-rows_are column [] h = refl
-rows_are column (l ∷ ls) h = rw (h.0.row, rows_are column ls h.1) refl
-
-pub are_lines : (column : ℕ) (ls : List Line) (e : List ℕ) → AreEach column ls → written.AreLines (lines_at column ls) e
-are_lines column [] e h = tt
-are_lines column (l ∷ ls) e h = (h.0.inner, tt, are_lines column ls e h.1)
-
-pub lines_none : (column : ℕ) (ls : List Line) (e : List ℕ) → AreEach column ls → HasNone e → HasNone (spell (lines_at column ls) e)
-lines_none column [] e h n = n
-lines_none column (l ∷ ls) e h n = both (spell_line column l []) _ h.0.none (lines_none column ls e h.1 n)
+-- such lines before a last one: their rows, as lines, and that they have no NUL
+pub are_each : (column : ℕ) (ls : List Line) (e : List ℕ) → AreEach column ls → HasNone e
+    → (rows_of column (texts (lines_at column ls)) ≡ Some (map row_by ls)) × written.AreLines (lines_at column ls) e
+    × HasNone (spell (lines_at column ls) e)
+are_each column [] e h none = (refl, tt, none)
+are_each column (l ∷ ls) e h none =
+    let z = are_each column ls e h.1 none in
+    (rw (h.0.row, z.0) refl, (h.0.inner, tt, z.1), both (spell_line column l []) _ h.0.none z.2)
 
 pub header_none : (s : BlockStyle) (strips : Bool) (a : List ℕ) → HasNone a → HasNone (block_text s strips (10 ∷ a))
 header_none s strips a n = grind arith
@@ -291,7 +288,7 @@ module _ (s : BlockStyle) (i column : ℕ) (strips : Bool) where
 pub folded_lines : (c column : ℕ) (strips : Bool) (text : List ℕ) (ls : List Line) → c < column → AreFoldedLines c column strips text ls → AreBlockLines BlockStyle.folded column strips text ls
 folded_lines c column strips text ls deep h =
     let each = each_line column ls h.3 h.2 (λ e. absurd (omega (arith, deep, e))) in
-    let rows : rows_of column (indented_lines column ls) ≡ Some (map row_by ls) = rw (← texts_are column ls) (rows_are column ls each) in
+    let rows : rows_of column (indented_lines column ls) ≡ Some (map row_by ls) = rw (← texts_are column ls) (are_each column ls [] each refl).0 in
     let col : column_by None (Some c) (indented_lines column ls) ≡ column = rw (← append-nil (indented_lines column ls)) (in_column_with (suc c) column ls [] deep h.0 h.3) in
     let tabless = no_tab column ls deep h.3 in
     let value : Some (value_before_text (header_by BlockStyle.folded strips) (map row_by ls)) ≡ Some text = rw (tabless, col, rows) at h.4 in
@@ -361,10 +358,8 @@ one_break (suc k) r = ap (λ x. 10 ∷ x) (one_break k r)
 
 text_from : (w : List ℕ) (k : ℕ) (ls : List Line) → EndsInText ls → text_after BlockStyle.literal w k (rows ls) ≡ breaks k ++ after ls
 text_from w k [] h = absurd h
-text_from w k (full v ∷ []) h = append_assoc (breaks (suc k)) v [] ∙ one_break k (v ++ [])
-text_from w k (full v ∷ m ∷ ls) h = append_assoc (breaks (suc k)) v (text_after BlockStyle.literal v 0 (rows (m ∷ ls))) ∙ one_break k (v ++ text_after BlockStyle.literal v 0 (rows (m ∷ ls))) ∙ ap (λ x. breaks k ++ 10 ∷ (v ++ x)) (text_from v 0 (m ∷ ls) h)
-text_from w k (blank n ∷ []) h = absurd h
-text_from w k (blank n ∷ m ∷ ls) h = text_from w (suc k) (m ∷ ls) h ∙ one_break k (after (m ∷ ls))
+text_from w k (full v ∷ ls) h = grind (arith, append_assoc, append-nil, one_break, text_from v 0 ls)
+text_from w k (blank n ∷ ls) h = grind (arith, one_break, text_from w (suc k) ls)
 
 text_is : (l : Line) (ls : List Line) → EndsInText (l ∷ ls) → text_of BlockStyle.literal (rows (l ∷ ls)) ≡ content l ++ after ls
 text_is l [] h = grind arith
@@ -373,8 +368,8 @@ text_is l (m ∷ ls) h = grind (arith, text_from, text_is m ls)
 -- ---- the lines make the text
 
 lines_make : (l : Line) (ls : List Line) → (content l ++ after ls) ++ 10 ∷ [] ≡ ended (contents (l ∷ ls))
-lines_make l [] = ap (λ t. t ++ 10 ∷ []) (append-nil (content l)) ∙ sym (append-nil (content l ++ 10 ∷ []))
-lines_make l (m ∷ ls) = append_assoc (content l) (10 ∷ (content m ++ after ls)) (10 ∷ []) ∙ ap (λ t. content l ++ 10 ∷ t) (lines_make m ls) ∙ sym (append_assoc (content l) (10 ∷ []) (ended (contents (m ∷ ls))))
+lines_make l [] = grind (arith, append-nil)
+lines_make l (m ∷ ls) = grind (arith, append_assoc, lines_make m ls)
 
 -- whether a text lacks an LF at its end
 abbrev pub strips_of : List ℕ → Bool

@@ -1,7 +1,7 @@
 -- Layouts one after another mean their trees, and have no NUL.
 use Rattle.proof_loads.proofs.Common.{[], ap, dumps_are_laid_out_in_turn, IsWithoutNul, layout_tokens, Means, refl, stream_by, subst, sym, Tok, tokens_read_as_their_trees, trees_of, up_to_nul, ◌∙◌, ◌∷◌}
 use Rattle.defs_layout.specs.DumpsInTurn.{dump_texts}
-use Rattle.proof_loads.proofs.TextTokens.{nothing_has_its_tokens}
+use Rattle.proof_loads.proofs.HasRows.Steps.{nothing_has_its_tokens}
 use Rattle.proof_loads.proofs.TokensInTurn.{layouts_in_turn_have_their_tokens}
 use Rattle.proof_loads.specs.InTurn.{LayoutsInTurnMeanTheirTrees, LayoutsInTurnAreWithoutNul, DumpsInTurnMeanTheirTrees}
 use Rattle.proof_loads.proofs.LayoutNul.{layouts_have_no_nul}

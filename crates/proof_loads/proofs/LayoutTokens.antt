@@ -1,3 +1,2 @@
-pub mod JsonRows
 pub mod Rows
 pub mod Texts

@@ -26,7 +26,6 @@ pub mod HasRows
 pub mod Settled
 pub mod Spelled
 pub mod StreamEnds
-mod TextTokens
 pub mod Texts
 mod TokensCommon
 pub mod TokensInTurn

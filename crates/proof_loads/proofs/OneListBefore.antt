@@ -1,5 +1,6 @@
 -- Tokens that are settled stay; a text has one fault, and the events before it are one list.
-use Rattle.proof_loads.proofs.Common.{[], AgreeAt, ap, append-nil, append_assoc, AreBehind, AreFirst, AreSettled, arith, BeginsPlaced, BeginsWith, Blames, Bool, both_ways, ComesAfter, EndsInAnchor, Err, ErrorReport, Ev, events_of, false, Fault, fetch, fits, HasPlacedTo, here, inl, inr, is_of_names, IsFaultOf, IsReached, IsRefusal, IsStream, Key, length, length-append, List, map-append, named, no_names, no_stream, no_token, NoneBegins, one_run, OneListOfEventsBefore, OneListOfPulledEventsBefore, OneListOfPushedEventsBefore, Option, Position, Problem, problem_of, Raw, raws_of, Reaches, read, refl, ScannerState, SettledTokensStay, StandsAt, start, stood, stream_by, subst, sym, there, to_next, Tok, Token, toks, true, wants_memory, without_positions, ℕ, ◌++◌, ◌+◌, ◌∙◌, ◌∷◌, ◌≡◌, ◌⊎◌, list_any, append_cancel_left}
+use Rattle.proof_loads.proofs.Common.{[], AgreeAt, ap, append-nil, append_assoc, AreBehind, AreFirst, AreSettled, arith, BeginsPlaced, BeginsWith, Blames, Bool, both_ways, ComesAfter, EndsInAnchor, Err, ErrorReport, Ev, events_of, false, Fault, fetch, fits, HasPlacedTo, here, inl, inr, is_of_names, IsFaultOf, IsReached, IsRefusal, IsStream, Key, length, length-append, List, map-append, named, no_names, no_stream, no_token, NoneBegins, one_run, OneListOfEventsBefore, OneListOfPulledEventsBefore, OneListOfPushedEventsBefore, Option, Position, Problem, problem_of, Raw, Reaches, read, refl, ScannerState, SettledTokensStay, StandsAt, start, stood, stream_by, subst, sym, there, to_next, Tok, Token, toks, true, wants_memory, ℕ, ◌++◌, ◌+◌, ◌∙◌, ◌∷◌, ◌≡◌, ◌⊎◌, list_any}
+use Rattle.std.proofs.lemmas.List.{same_from_push}
 use Rattle.model_scanner.proofs.Given.{KeysFrom, reached}
 use Rattle.yaml_scanner.specs.Waits.{comes_before}
 use Rattle.yaml_tokens.specs.Problem.{fault_of}
@@ -15,7 +16,7 @@ use Rattle.yaml_parser.specs.Apart.{StandsBefore}
 use Rattle.yaml_parser.proofs.Holding.{many}
 use Rattle.yaml_parser.proofs.Positions.{stood_raws, stood_positions}
 use Rattle.proof_loads.proofs.Texts.{same_beginning}
-use Rattle.proof_loads.proofs.Answers.{FaultAfter, fault_after, fault_taken, Takes}
+use Rattle.proof_loads.proofs.Answers.{FaultAfter, fault_after, fault_taken, placed_stream, Takes}
 
 keys_from : (n : ℕ) (ks : List (Option Key)) → AreBehind n ks → KeysFrom n ks
 keys_from n [] b = tt
@@ -89,16 +90,6 @@ settled_first text all given s r = elim (one_begins given all last.held.tokens t
         let too_long : length all ≡ length given + length b.more = ap length (sym whole ∙ b.whole) ∙ length-append given b.more in
         absurd (omega (arith, count, too_long))
 
--- ---- the last of a list
-
-last_of : (xs ys : List Token) (t u : Token) → xs ++ t ∷ [] ≡ ys ++ u ∷ [] → (xs ≡ ys) × (t ≡ u)
-last_of xs ys t u e =
-    let x = ap length e ∙ length-append ys (u ∷ []) in
-    let y = length-append xs (t ∷ []) in
-    let same = same_beginning xs ys (t ∷ []) (u ∷ []) (omega (arith, x, y)) e in
-    let last : t ∷ [] ≡ u ∷ [] = append_cancel_left ys _ _ (ap (λ zs. zs ++ t ∷ []) (sym same) ∙ e) in
-    (same, cc)
-
 -- ---- of the scanner
 
 pub one_refusal : (text : List ℕ) (f g : ErrorReport) → IsRefusal text f → IsRefusal text g → f.memory ≡ false → f ≡ g
@@ -118,11 +109,7 @@ name_problem kind.Alias = problem.UnknownAnchor
 name_problem _ = problem.UndeclaredHandle
 
 fits_name : (p : Problem) (k : Kind) → is_of_names p ≡ true → fits p k ≡ true → p ≡ name_problem k
-fits_name problem.SecondVersion kind.VersionDirective n f = refl
-fits_name problem.RepeatedHandle kind.TagDirective n f = refl
-fits_name problem.UnknownAnchor kind.Alias n f = refl
-fits_name problem.UndeclaredHandle kind.Tag n f = refl
-fits_name p k n f = absurd cc
+fits_name p k n f = grind arith
 
 one_place : (p : Problem) (before : List Token) (last : Token) (x y : Position) → StandsAt p x before last → StandsAt p y before last → x ≡ y
 one_place p before last x y s u = elim s [
@@ -131,12 +118,12 @@ one_place p before last x y s u = elim s [
 ]
   where
     anchors : EndsInAnchor before x → EndsInAnchor before y → x ≡ y
-    anchors a b = a.at ∙ ap (λ t. t.position) (last_of a.before b.before a.anchor b.anchor (sym a.whole ∙ b.whole)).1 ∙ sym b.at
+    anchors a b = a.at ∙ ap (λ t. t.position) (same_from_push a.before b.before a.anchor b.anchor (sym a.whole ∙ b.whole)).1 ∙ sym b.at
 
 -- Two faults that refuse the same token are of one problem,
 pub same_blame : (keep_tags : Bool) (tokens : List Token) (es fs : List (Ev × Position)) (f g : ErrorReport) (a : Blames f [] keep_tags tokens es) (b : Blames g [] keep_tags tokens fs) → (a.before ≡ b.before) × (a.last ≡ b.last) × (a.problem ≡ b.problem)
 same_blame keep_tags tokens es fs f g a b =
-    let same = last_of a.before b.before a.last b.last (sym a.whole ∙ b.whole) in
+    let same = same_from_push a.before b.before a.last b.last (sym a.whole ∙ b.whole) in
     (same.0, same.1, problems (is_of_names a.problem) (is_of_names b.problem) refl refl same)
   where
     problems : (m n : Bool) → is_of_names a.problem ≡ m → is_of_names b.problem ≡ n → (a.before ≡ b.before) × (a.last ≡ b.last) → a.problem ≡ b.problem
@@ -161,13 +148,12 @@ pub refused_first : (keep_tags : Bool) (before ts : List Token) (last : Token) (
 refused_first keep_tags before ts last events none b w =
     let first = before ++ last ∷ [] in
     let c : BeginsPlaced keep_tags (first ++ w.more) events = subst (λ us. BeginsPlaced keep_tags us events) w.whole b in
-    let s = c.stream in
     let rest = toks w.more ++ toks c.more_tokens in
     let all : toks ((first ++ w.more) ++ c.more_tokens) ≡ toks first ++ rest =
     map-append (λ (t : Token). t.tok) (first ++ w.more) c.more_tokens ∙ ap (λ ts. ts ++ toks c.more_tokens) (map-append (λ (t : Token). t.tok) first w.more)
     ∙ append_assoc (toks first) (toks w.more) (toks c.more_tokens) in
     none rest (events_of (events ++ c.more_events))
-    (subst (λ ts. IsStream keep_tags ts (events_of (events ++ c.more_events))) all (record { raws = raws_of s.raws; says = without_positions s.says; has_events = s.has_events }))
+    (subst (λ ts. IsStream keep_tags ts (events_of (events ++ c.more_events))) all (placed_stream keep_tags _ (events ++ c.more_events) c.stream))
 
 -- a list that begins another one with a last token begins what stands before it, or is all
 pub last_or_before : (xs ys more : List Token) (u : Token) → ys ++ u ∷ [] ≡ xs ++ more → (xs ≡ ys ++ u ∷ []) ⊎ BeginsWith xs ys

@@ -1,5 +1,6 @@
 -- Runs of `load` with `multi` over answers, whatever they are. The calls of a parser from its start on: what it answered and has given.
-use Rattle.proof_loads.proofs.Common.{[], Answer, ap, append-nil, append_assoc, arith, before_stream, between, Bool, Ending, ErrorReport, Ev, event, Explains, false, fault, faulted, given, GivesEvent, has_end, IfSome, inl, inr, inside, is_stream_end, IsAtStart, KeepsSettings, length, length-append, List, load_from, Loaded, no_call, no_document, None, one_call, Option, Parsed, Position, PullsAll, push, read_so, refl, Some, Standing, subst, sym, true, unfinished, well, ◌++◌, ◌||◌, ◌∙◌, ◌∷◌, ◌≡◌, ◌⊎◌, IsSound, or_right}
+use Rattle.proof_loads.proofs.Common.{[], Answer, ap, append-nil, append_assoc, arith, before_stream, between, Bool, Ending, ErrorReport, Ev, event, Explains, false, fault, faulted, given, GivesEvent, has_end, IfSome, inl, inr, inside, is_stream_end, IsAtStart, KeepsSettings, length, length-append, List, load_from, Loaded, no_call, no_document, None, one_call, Option, Parsed, Position, PullsAll, read_so, refl, Some, Standing, subst, sym, true, unfinished, well, ◌++◌, ◌||◌, ◌∙◌, ◌∷◌, ◌≡◌, ◌⊎◌, IsSound, or_right}
+use Rattle.std.specs.Prelude.{drop}
 use Rattle.std.proofs.Math.Bool.{or_assoc}
 use Rattle.proof_lexers.proofs.Bridges.{or_false}
 
@@ -11,49 +12,32 @@ IsOver _ = Unit {0}
 -- After its end a call takes nothing.
 over_is_over : (F : Type 0) (s : Standing) (xs ys : List (Answer F)) → IsOver (load_from s true xs).ending → load_from s true (xs ++ ys) ≡ load_from s true xs
 over_is_over F s [] ys h = absurd h
-over_is_over F before_stream (event e p ∷ xs) ys h = ap (push e p) (over_is_over F between xs ys h)
-over_is_over F between (event Ev.document_start p ∷ xs) ys h = ap (push Ev.document_start p) (over_is_over F inside xs ys h)
-over_is_over F inside (event Ev.document_end p ∷ xs) ys h = ap (push Ev.document_end p) (over_is_over F between xs ys h)
-over_is_over F inside (event e p ∷ xs) ys h = ap (push e p) (over_is_over F inside xs ys h)
-over_is_over F s xs ys h = refl
+over_is_over F s (a ∷ xs) ys h = grind (arith, over_is_over F between xs ys, over_is_over F inside xs ys)
 
 -- Of these events some are pushed, and then some are left.
 pub record Pushes {F : Type 0} (l : Loaded F) (es : List (Ev × Position)) : Type 0 where
   pub left : List (Ev × Position)
   pub whole : es ≡ l.pushed ++ left
 
-one_more : (F : Type 0) (e : Ev) (p : Position) (l : Loaded F) (es : List (Ev × Position)) → Pushes l es → Pushes (push e p l) ((e, p) ∷ es)
-one_more F e p l es z = record { left = z.left; whole = ap (λ xs. (e, p) ∷ xs) z.whole }
+first_pushed : (F : Type 0) (s : Standing) (es : List (Ev × Position))
+    → es ≡ (load_from s true (given F es)).pushed ++ drop (length (load_from s true (given F es)).pushed) es
+first_pushed F s [] = refl
+first_pushed F s (e ∷ es) = grind (arith, first_pushed F between es, first_pushed F inside es)
 
 pub pushes : (F : Type 0) (s : Standing) (es : List (Ev × Position)) → Pushes (load_from s true (given F es)) es
-pushes F s [] = record { left = []; whole = refl }
-pushes F before_stream ((e, p) ∷ es) = one_more F e p _ es (pushes F between es)
-pushes F between ((Ev.stream_end, p) ∷ es) = record { left = es; whole = refl }
-pushes F between ((Ev.document_start, p) ∷ es) = one_more F Ev.document_start p _ es (pushes F inside es)
-pushes F between ((e, p) ∷ es) = record { left = (e, p) ∷ es; whole = refl }
-pushes F inside ((Ev.document_end, p) ∷ es) = one_more F Ev.document_end p _ es (pushes F between es)
-pushes F inside ((e, p) ∷ es) = one_more F e p _ es (pushes F inside es)
+pushes F s es = record { left = drop (length (load_from s true (given F es)).pushed) es; whole = first_pushed F s es }
 
 -- A call that took all answers up to a fault, or more, has not met an event in no document.
 pub fault_is_reached : (F : Type 0) (s : Standing) (es : List (Ev × Position)) (f : F) (rest : List (Answer F)) (p : Position) → (load_from s true (given F es ++ fault f ∷ rest)).ending ≡ no_document p
     → (load_from s true (given F es ++ fault f ∷ rest)).taken ≡ length (given F es ++ fault f ∷ rest) → ⊥
 fault_is_reached F s [] f rest p h n = cc
-fault_is_reached F before_stream (e ∷ es) f rest p h n = fault_is_reached F between es f rest p h (omega (arith, n))
-fault_is_reached F between ((Ev.stream_end, q) ∷ es) f rest p h n = cc
-fault_is_reached F between ((Ev.document_start, q) ∷ es) f rest p h n = fault_is_reached F inside es f rest p h (omega (arith, n))
-fault_is_reached F between ((e, q) ∷ es) f rest p h n = let long = length-append (given F es) (fault f ∷ rest) in omega (arith, n, long)
-fault_is_reached F inside ((Ev.document_end, q) ∷ es) f rest p h n = fault_is_reached F between es f rest p h (omega (arith, n))
-fault_is_reached F inside ((e, q) ∷ es) f rest p h n = fault_is_reached F inside es f rest p h (omega (arith, n))
+fault_is_reached F s (e ∷ es) f rest p h n =
+    grind (arith, length-append, fault_is_reached F between es f rest p, fault_is_reached F inside es f rest p)
 
 -- A call that has ended well took the stream's end.
 pub end_is_reached : (F : Type 0) (s : Standing) (es : List (Ev × Position)) → (load_from s true (given F es)).ending ≡ well → has_end es ≡ true
 end_is_reached F s [] h = cc
-end_is_reached F before_stream (e ∷ es) h = or_right (is_stream_end e.0) _ (end_is_reached F between es h)
-end_is_reached F between ((Ev.stream_end, p) ∷ es) h = refl
-end_is_reached F between ((Ev.document_start, p) ∷ es) h = end_is_reached F inside es h
-end_is_reached F between ((e, p) ∷ es) h = cc
-end_is_reached F inside ((Ev.document_end, p) ∷ es) h = end_is_reached F between es h
-end_is_reached F inside ((e, p) ∷ es) h = or_right (is_stream_end e) _ (end_is_reached F inside es h)
+end_is_reached F s (e ∷ es) h = grind (arith, or_right, end_is_reached F between es, end_is_reached F inside es)
 
 -- ---- against a whole stream
 
@@ -80,12 +64,7 @@ given_append F (e ∷ es) fs = ap (λ bs. event e.0 e.1 ∷ bs) (given_append F 
 pub faulted_pushes : (F : Type 0) (s : Standing) (es : List (Ev × Position)) (f g : F) (rest : List (Answer F)) → (load_from s true (given F es ++ fault g ∷ rest)).ending ≡ faulted f
     → (load_from s true (given F es ++ fault g ∷ rest)).pushed ≡ es
 faulted_pushes F s [] f g rest h = refl
-faulted_pushes F before_stream (e ∷ es) f g rest h = ap (λ xs. e ∷ xs) (faulted_pushes F between es f g rest h)
-faulted_pushes F between ((Ev.stream_end, p) ∷ es) f g rest h = cc
-faulted_pushes F between ((Ev.document_start, p) ∷ es) f g rest h = ap (λ xs. (Ev.document_start, p) ∷ xs) (faulted_pushes F inside es f g rest h)
-faulted_pushes F between ((e, p) ∷ es) f g rest h = cc
-faulted_pushes F inside ((Ev.document_end, p) ∷ es) f g rest h = ap (λ xs. (Ev.document_end, p) ∷ xs) (faulted_pushes F between es f g rest h)
-faulted_pushes F inside ((e, p) ∷ es) f g rest h = ap (λ xs. (e, p) ∷ xs) (faulted_pushes F inside es f g rest h)
+faulted_pushes F s (e ∷ es) f g rest h = grind (arith, faulted_pushes F between es f g rest, faulted_pushes F inside es f g rest)
 
 pub settings_stay : {p q : Parsed} {answers : List (Answer ErrorReport)} → PullsAll p answers q → KeepsSettings p q
 settings_stay no_call = record { keep_tags = refl; steady = refl }
@@ -98,7 +77,7 @@ read_given es ended ahead h = refl
 
 pub has_end_append : (es fs : List (Ev × Position)) → has_end (es ++ fs) ≡ has_end es || has_end fs
 has_end_append [] fs = refl
-has_end_append (e ∷ es) fs = ap (λ b. is_stream_end e.0 || b) (has_end_append es fs) ∙ sym (or_assoc (is_stream_end e.0) (has_end es) (has_end fs))
+has_end_append (e ∷ es) fs = grind (arith, or_assoc, has_end_append es fs)
 
 -- The events that were given are all that was answered, but for the stream's end again after that end.
 pub record Noted (answers : List (Answer ErrorReport)) (p : Parsed) : Type 0 where

@@ -1,6 +1,6 @@
 -- After the stream's end or a fault the same answer comes again.
 use Rattle.proof_lexers.proofs.Plain.Turns.{or_true}
-use Rattle.proof_loads.proofs.Common.{[], Answer, AnswersAreSettled, ap, ErrorReport, Ev, event, false, fault, IfSome, IsSettled, IsStreamEnd, List, MayFollow, no_call, None, one_call, Parsed, Pulls, PullsAll, Some, subst, sym, true, ◌++◌, ◌∙◌, ◌∷◌, ◌≡◌}
+use Rattle.proof_loads.proofs.Common.{[], Answer, AnswersAreSettled, ap, arith, ErrorReport, Ev, event, false, fault, IfSome, IsSettled, IsStreamEnd, List, MayFollow, no_call, None, one_call, Parsed, Pulls, PullsAll, Some, subst, sym, true, ◌++◌, ◌∙◌, ◌∷◌, ◌≡◌}
 
 -- what an answer leaves of the parser
 abbrev Leaves : Parsed → Answer ErrorReport → Type 0
@@ -28,8 +28,7 @@ Last q (a ∷ b ∷ answers) = Last q (b ∷ answers)
 
 one_more : (q r : Parsed) (answers : List (Answer ErrorReport)) (b : Answer ErrorReport) → Pulls q b r → IsSettled answers × Last q answers → IsSettled (answers ++ b ∷ []) × Last r (answers ++ b ∷ [])
 one_more q r [] b g h = (tt, leaves q r b g)
-one_more q r (a ∷ []) b g h = ((may_follow q r a b h.1 g, tt), leaves q r b g)
-one_more q r (a ∷ c ∷ answers) b g h = let z = one_more q r (c ∷ answers) b g (h.0.1, h.1) in ((h.0.0, z.0), z.1)
+one_more q r (a ∷ answers) b g h = grind (arith, leaves, may_follow, one_more q r answers b g)
 
 ends : {p q : Parsed} {answers : List (Answer ErrorReport)} → PullsAll p answers q → IsSettled answers × Last q answers
 ends no_call = (tt, tt)

@@ -1,7 +1,7 @@
 -- A stream's tokens hold the stream's end; so a text has no more tokens than a stream that it begins with.
 use Rattle.proof_loads.proofs.Common.{[], ap, append-nil, append_assoc, arith, Bool, false, has_no_nul, IsReached, IsRead, List, None, Option, Raw, refl, Some, StreamSays, subst, Tok, Token, tokens_are_of_a_row, toks, true, whole_stream, ℕ, ◌++◌, ◌||◌, ◌∙◌, ◌∷◌, ◌≡◌, list_any, or_right}
 use Rattle.defs_event.specs.Kinds.{is_stream_end}
-use Rattle.defs_event.specs.Table.{Part, Row, takes, leaves, row_of, Work, reading, saying, before, Derives, says, by_taking, by_leaving, say, show, empty}
+use Rattle.defs_event.specs.Table.{Part, Row, takes, leaves, row_of, Work, reading, saying, before, Derives, says, by_taking, by_leaving}
 use Rattle.defs_event.specs.Grammar.{Held, Goal, stream, documents, directives, explicit_document, document_end, cases, grammar}
 use Rattle.model_scanner.proofs.Ends.{end_is_last}
 
@@ -27,10 +27,7 @@ has_last (reading g h ∷ w) = is_last g || has_last w
 
 kept : (h : Held) (t : Tok) (ps : List (Part Goal Raw)) (w : Works) → has_last w ≡ true → has_last (before grammar h t ps w) ≡ true
 kept h t [] w k = k
-kept h t (say e ∷ ps) w k = kept h t ps w k
-kept h t (show ∷ ps) w k = kept h t ps w k
-kept h t (empty ∷ ps) w k = kept h t ps w k
-kept h t (p ∷ ps) w k = or_right _ _ (kept h t ps w k)
+kept h t (p ∷ ps) w k = grind (arith, or_right, kept h t ps w)
 
 -- whether it is the token, or one is to be read after its row
 abbrev after_row : Held → Tok → Works → Option (Row Goal Raw) → Bool

@@ -3,7 +3,7 @@ use Rattle.proof_loads.proofs.TokensCommon.{[], and_false, another, ap, append-n
 use Rattle.proof_lexers.proofs.Blocks.Written as written
 use Rattle.proof_lexers.proofs.Blocks.Written.{spell}
 use Rattle.proof_lexers.proofs.Blocks.Positions.{spell_more}
-use Rattle.proof_loads.proofs.BlockLines.{line_of, lines_at, empties, texts_are, spelt_feeds, spelt_more, Last, last_of, row_by, row_spaces, content_append, header_by, text_value, spaces_value, last_value, header_line, block_text, header_inner, IsInside, AreEach, AreBlockLines, tab_more, in_column_with, text_body, end_body, is_block, each_more, each_split, rows_are, are_lines, lines_none, header_none, content_last}
+use Rattle.proof_loads.proofs.BlockLines.{line_of, lines_at, empties, texts_are, spelt_feeds, spelt_more, Last, last_of, row_by, row_spaces, content_append, header_by, text_value, spaces_value, last_value, header_line, block_text, header_inner, IsInside, AreEach, AreBlockLines, tab_more, in_column_with, text_body, end_body, is_block, each_more, each_split, are_each, header_none, content_last}
 use Rattle.proof_loads.proofs.BlockLines as scans
 use Rattle.defs_token.specs.Key
 use Rattle.proof_loads.proofs.HasRows.Nodes.{none_ends, Parts, From, outside_reads, Reads, at, HasNone}
@@ -117,12 +117,13 @@ module _ (s : BlockStyle) (i column : ℕ) (strips : Bool) (text : List ℕ) (ls
   ends_so : (ms : List Line) (l : List ℕ) (r : Row) (more : List (List ℕ)) → AreEach column ms → row_of column l ≡ Some r → is_in_line l ≡ true → HasNone l → texts (lines_at column ms) ++ l ∷ [] ≡ indented_lines column ls ++ more
       → value_before_end (header_by s strips) column (map row_by ms) l r ≡ text → IsBlockPiece bs s text (spell (header ∷ lines_at column ms) l) []
   ends_so ms l r more each row inner none lines value =
-      let body = end_body s i column strips (texts (lines_at column ms)) l _ r (ap (column_by None (collection_of i)) lines ∙ (in_column more).0) (ap starts_with_tab lines ∙ (in_column more).1) (rows_are column ms each) row in
+      let z = are_each column ms l each none in
+      let body = end_body s i column strips (texts (lines_at column ms)) l _ r (ap (column_by None (collection_of i)) lines ∙ (in_column more).0) (ap starts_with_tab lines ∙ (in_column more).1) z.0 row in
       record {
         column = column;
-        read = rw (same, split_spell (header ∷ lines_at column ms) l (header_inner s strips, tt, are_lines column ms l each) inner) (body ∙ ap (λ t. Some (is_block s i column strips t)) value);
+        read = rw (same, split_spell (header ∷ lines_at column ms) l (header_inner s strips, tt, z.1) inner) (body ∙ ap (λ t. Some (is_block s i column strips t)) value);
         may = refl;
-        none = header_none s strips (spell (lines_at column ms) l) (lines_none column ms l each none);
+        none = header_none s strips (spell (lines_at column ms) l) z.2;
         some = refl;
       }
 
@@ -141,10 +142,10 @@ module _ (s : BlockStyle) (i column : ℕ) (strips : Bool) (text : List ℕ) (ls
     all_texts = ap texts (map-append (line_of column) ls (empties n)) ∙ texts_append (lines_at column ls) (lines_at column (empties n)) ∙ ap (λ x. x ++ texts (lines_at column (empties n))) (texts_are column ls)
 
     all_rows : rows_of column (texts (lines_at column all_lines)) ≡ Some (map row_by ls ++ map row_by (empties n))
-    all_rows = rows_are column all_lines each ∙ ap Some (map-append row_by ls (empties n))
+    all_rows = (are_each column all_lines [] each refl).0 ∙ ap Some (map-append row_by ls (empties n))
 
     is_split : split piece ≡ record { complete = texts (header ∷ lines_at column all_lines); last = [] }
-    is_split = split_spell (header ∷ lines_at column all_lines) [] (header_inner s strips, tt, are_lines column all_lines [] each) refl
+    is_split = split_spell (header ∷ lines_at column all_lines) [] (header_inner s strips, tt, (are_each column all_lines [] each refl).1) refl
 
     spelt_all : (more_text : List ℕ) → block_text s strips (spell_lines column ls (10 ∷ spell (lines_at column (empties n)) more_text)) ≡ piece ++ more_text
     spelt_all more_text = grind (arith, nat_tests, block_text, strips, spelt_feeds, column, ls, spell, lines_at, empties, spell_append, map-append, line_of, spell_more, header, all_lines)
@@ -161,7 +162,7 @@ module _ (s : BlockStyle) (i column : ℕ) (strips : Bool) (text : List ℕ) (ls
         let body = text_body s i column strips (texts (lines_at column all_lines)) more_text _ (ap (column_by None (collection_of i)) all_texts ∙ known.0) some_text is_further (ap starts_with_tab all_texts ∙ known.1) all_rows ∙ ap (λ t. Some (is_block s i column strips t)) value in
         let read : block_read (innermost bs) piece more_text ≡ Some (is_block s i column strips text) = rw (same, is_split, some_text) body in
         let content = not_all_empty column (texts (lines_at column all_lines)) _ all_rows (rw (content_append, some) refl) in
-        record { column = column; read = read; may = rw (read, is_split, content, tabless, some_text, and_false (is_empty (texts (lines_at column all_lines)))) refl; none = header_none s strips (spell (lines_at column all_lines) []) (lines_none column all_lines [] each refl); some = refl }
+        record { column = column; read = read; may = rw (read, is_split, content, tabless, some_text, and_false (is_empty (texts (lines_at column all_lines)))) refl; none = header_none s strips (spell (lines_at column all_lines) []) (are_each column all_lines [] each refl).2; some = refl }
 
     -- a line begins after it
     piece_column : (more_text : List ℕ) (p : Position) → (position_after p piece more_text).col ≡ 0

@@ -1,5 +1,7 @@
 -- Steps outside flow that begin at a column, after block collections that end there.
-use Rattle.proof_loads.proofs.TokensCommon.{[], act_of, and_parts, another, ap, arith, awaits_past, begins_free_line, begins_with, begins_with_space_or_break, begun_by, begun_outside, Bool, colon_may_precede, dash_may_precede, false, free, further_lines_stand, gives_node, has_break, has_no_break, has_tab_before_piece, has_tab_within, inl, innermost, inside, is_at_gap, is_blank, is_break, is_deeper, is_in_column, is_marker, is_nul, is_separation, is_waiting, IsShown, last_line, le-ltb, least_column, length, length-append, line_past, line_past_separation, List, may_precede, nat_lt, not, not-true, not_ended, opened, Position, position_after, Previous, previous_by, put, quoted_may_end, refl, replicate, Some, stops, suc, taken, Tok, Token, toks, true, ℕ, ◌&&◌, ◌++◌, ◌+◌, ◌-◌, ◌<◌, ◌∙◌, ◌∷◌, ◌≡◌, ◌≤◌}
+use Rattle.proof_loads.proofs.TokensCommon.{[], act_of, another, ap, arith, awaits_past, begins_free_line, begins_with, begins_with_space_or_break, begun_by, begun_outside, Bool, colon_may_precede, dash_may_precede, false, free, further_lines_stand, gives_node, has_break, has_no_break, has_tab_before_piece, has_tab_within, inl, innermost, inside, is_at_gap, is_blank, is_break, is_deeper, is_in_column, is_marker, is_nul, is_separation, is_waiting, IsShown, last_line, le-ltb, least_column, length, length-append, line_past, line_past_separation, List, may_precede, nat_lt, not, not_ended, opened, Position, position_after, Previous, previous_by, put, quoted_may_end, refl, replicate, Some, stops, suc, taken, Tok, Token, toks, true, ℕ, ◌&&◌, ◌++◌, ◌+◌, ◌-◌, ◌<◌, ◌∙◌, ◌∷◌, ◌≡◌, ◌≤◌}
+use Rattle.proof_row.proofs.CutColumns.{column_grows}
+use Rattle.proof_scanner.proofs.Cut.Positions.{index_after}
 use Rattle.proof_loads.proofs.HasRows.Nodes.{or_true, deeper, Quiet, Reads, at, step_of, site_of, Steps, step, ended, HasNone, Line}
 
 -- ---- columns
@@ -102,11 +104,6 @@ module _ (c : ℕ) (bs w : List ℕ) (t : Tok) (key : Bool) (next : List ℕ) (c
 
 -- ---- entries
 
--- the column after a piece on one line, and its index
-along : (w : List ℕ) (p : Position) (next : List ℕ) → has_no_break w ≡ true → ((position_after p w next).col ≡ p.col + length w) × ((position_after p w next).index ≡ p.index + length w)
-along [] p next h = (omega arith, omega arith)
-along (c ∷ w) p next h = grind (arith, and_parts, not-true, along w)
-
 module _ (c : ℕ) (bs next : List ℕ) (tokens : List Tok) where
   -- from after an indicator at the column on
   abbrev pub Marked : Type 0
@@ -158,7 +155,8 @@ key_reads c bs w t next tokens z short gap follows rest =
     (λ o must here col may. rw (z.node.0) refl) (λ here. rw (z.no_break) refl) (λ o here colon. grind arith)
     (λ o here awaits col may.
     let past = position_after here w (58 ∷ next) in
-    let x = along w here (58 ∷ next) z.no_break in
+    let x = column_grows here w (58 ∷ next) z.no_break in
+    let i = index_after here w (58 ∷ next) in
     let on : Stay past.col (stood o c bs) = let low = stands o c bs may in grind arith in
     let opened_at : opened here.col (stood o c bs) ≡ c ∷ bs = rw col (opens o c bs may) in
-    rw (z.node.1) (step (step_of [] (58 ∷ []) Tok.value false) next (colon_step (stood o c bs) (c ∷ bs) next here past awaits (previous_by t) on (omega (arith, x, short)) opened_at gap follows (z.node.2 [])) (rest (position_after past (58 ∷ []) next) (omega (arith, x, col)))))
+    rw (z.node.1) (step (step_of [] (58 ∷ []) Tok.value false) next (colon_step (stood o c bs) (c ∷ bs) next here past awaits (previous_by t) on (omega (arith, i, short)) opened_at gap follows (z.node.2 [])) (rest (position_after past (58 ∷ []) next) (omega (arith, x, col)))))

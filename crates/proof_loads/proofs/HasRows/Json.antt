@@ -1,6 +1,6 @@
 -- JSON values have rows, with the white space between their parts; plain scalars on one line as pieces.
-use Rattle.proof_loads.proofs.TokensCommon.{[], after, after_blank, and_false, and_from, and_parts, another, ap, are_marks, are_pieces, AreElements, AreMembers, arith, array, begins_flow, begins_plain, begins_with, Blank, blank_character, Bool, codes, colon_may_precede, element, element_levels, element_tokens, Elements, empty_array, empty_object, ends_with_content, ends_with_dash, Entry, false, false_word, filled, first_entry, flow_collection, flow_entry, flow_mapping_end, flow_mapping_start, flow_sequence_end, flow_sequence_start, fresh, goes_on, goes_on_quoted, Had, has_dash_before_flow, has_no_break, has_tab_within, inl, innermost, innermost_column, inside, is_at_gap, is_blank, is_blank_or_end, is_blanks_and_comment, is_break, is_document_marker, is_empty, is_flow, is_keyed, is_nul, is_on_line, is_one_of, is_separation, is_whole_plain, IsJson, Json, json_tokens, last_element, last_member, leading, length, length-map, level_of, levels, List, list_all, map, mapping, may_begin, member, member_levels, member_tokens, Members, nat_lt, nat_tests, not, not-true, null_word, object, Option, Piece, plain_element, plain_lines_fit, plain_scalar, plain_value, Position, position_after, quoted_may_end, quoted_scalar, refl, settled, Some, space, spell, spell_elements, spell_members, spell_number, spell_string, split, Stand, stops, string, string_token, Style, subst, suc, TabsBeginLines, Tok, true, true_word, zero, ℕ, ◌&&◌, ◌++◌, ◌+◌, ◌<◌, ◌==◌, ◌||◌, ◌∷◌, ◌≡◌, ◌≤◌, list_all-more}
-use Rattle.proof_loads.proofs.HasRows.Strings.{IsOneLine, nothing, plain_step, value_is, body_of, quoted, quoted_is, string_piece}
+use Rattle.proof_loads.proofs.TokensCommon.{[], after, after_blank, and_false, and_from, and_parts, another, ap, are_marks, are_pieces, AreElements, AreMembers, arith, array, begins_flow, begins_plain, begins_with, Blank, blank_character, Bool, codes, colon_may_precede, element, element_levels, element_tokens, Elements, empty_array, empty_object, ends_with_content, ends_with_dash, Entry, false, false_word, filled, first_entry, flow_collection, flow_entry, flow_mapping_end, flow_mapping_start, flow_sequence_end, flow_sequence_start, fresh, goes_on, goes_on_quoted, Had, has_dash_before_flow, has_no_break, has_tab_within, inl, innermost, innermost_column, inside, is_at_gap, is_blank, is_blank_or_end, is_blanks_and_comment, is_break, is_document_marker, is_empty, is_flow, is_keyed, is_nul, is_on_line, is_one_of, is_separation, is_whole_plain, double, IsJson, Json, json_tokens, last_element, last_member, leading, length, length-map, level_of, levels, List, list_all, map, mapping, member, member_levels, member_tokens, Members, nat_lt, nat_tests, not, not-true, null_word, object, Option, Piece, plain_element, plain_lines_fit, plain_scalar, plain_value, Position, position_after, quoted_may_end, quoted_scalar, refl, settled, Some, space, spell, spell_elements, spell_members, spell_number, spell_string, split, Stand, stops, string, string_token, Style, subst, suc, TabsBeginLines, Tok, true, true_word, zero, ℕ, ◌&&◌, ◌++◌, ◌+◌, ◌<◌, ◌==◌, ◌||◌, ◌∷◌, ◌≡◌, ◌≤◌, list_all-more}
+use Rattle.proof_loads.proofs.HasRows.Strings.{IsOneLine, nothing, plain_step, value_is, body_of, quoted, quoted_is, quoted_piece, string_is}
 use Rattle.proof_loads.proofs.PlainTexts.{is_plain_char, are_plain, closes, IsPlainText, is_first, is_second, first_space, is_word, are_words, IsWord, word_text}
 use Rattle.defs_layout.specs.JsonGap.{spell_gap}
 use Rattle.proof_loads.proofs.JsonTokens.Spaces.{AreSpaces, HasSpaces, HaveSpaces, MembersHaveSpaces}
@@ -51,8 +51,8 @@ module _ (in_flow : Bool) (collection : Option ℕ) (next : List ℕ) where
   goes_over b (c ∷ w) h flow = grind (arith, and_parts, plain_char, goes_over (c == 32) w)
 
 ends_full : (c : ℕ) (w : List ℕ) → is_plain_char c ≡ true → are_plain w ≡ true → closes (c == 32) w ≡ true → ends_with_content c w ≡ true
-ends_full c [] one h e = let z = plain_char c one in rw (z.break, z.blank, not-true (c == 32) e) refl
-ends_full c (d ∷ w) one h e = let q = and_parts (is_plain_char d) (are_plain w) h in ends_full d w q.0 q.1 e
+ends_full c [] one h e = grind (arith, plain_char, not-true)
+ends_full c (d ∷ w) one h e = grind (arith, and_parts, ends_full d w)
 
 -- ---- where it begins
 
@@ -60,15 +60,9 @@ pub first_char : (c : ℕ) → is_first c ≡ true → (is_plain_char c ≡ true
 unfolding is_blank_or_end is_flow is_blank is_break is_nul
 first_char c h = (grind (arith, nat_tests), grind (arith, nat_tests), grind (arith, nat_tests), grind (arith, nat_tests), grind (arith, nat_tests))
 
-three : (c d e : ℕ) → not ((c == 45) && (d == 45)) ≡ true → not ((c == 46) && (d == 46)) ≡ true → are_marks c d e ≡ false
-unfolding are_marks
-three c d e h k = grind (arith, nat_tests)
-
-pair : (c d : ℕ) (r : List ℕ) → not ((c == 45) && (d == 45)) ≡ true → not ((c == 46) && (d == 46)) ≡ true → is_document_marker (c ∷ d ∷ r) ≡ false
-pair c d a h k = grind (arith, three)
-
 unmarked : (c : ℕ) (w next : List ℕ) → is_second c w ≡ true → is_document_marker (c ∷ (w ++ next)) ≡ false
-unmarked c w next h = grind (arith, nat_tests, and_parts, not, pair, not-true)
+unfolding are_marks
+unmarked c w next h = grind (arith, nat_tests, and_parts, not, not-true)
 
 no_gap : (d : ℕ) → is_plain_char d ≡ true → (d == 32) ≡ false → is_blank_or_end d ≡ false
 unfolding is_blank_or_end
@@ -76,17 +70,10 @@ no_gap d h e = let z = plain_char d h in rw (z.blank, e, z.break, z.nul) refl
 
 module _ (in_flow adjacent : Bool) (column : ℕ) where
   begins : (c : ℕ) (w next : List ℕ) → is_first c ≡ true → is_second c w ≡ true → are_plain w ≡ true → MayFlow in_flow (c ∷ w) → begins_plain in_flow adjacent column (c ∷ (w ++ next)) ≡ true
-  begins c w next first second plain flow = rw (unmarked c w next second, and_false (column == 0)) (by (c == 45) refl w second plain flow)
-    where
-      by : (b : Bool) → (c == 45) ≡ b → (w : List ℕ) → is_second c w ≡ true → are_plain w ≡ true → MayFlow in_flow (c ∷ w) → (may_begin in_flow adjacent c (w ++ next) && true) ≡ true
-      by true e [] second plain flow = let q = and_parts (not (c == 45)) (not (c == 46)) second in let n = not-true (c == 45) q.0 in cc
-      by true e (d ∷ w) second plain flow =
-          let q = and_parts (not ((c == 45) && (d == 45)) && not ((c == 46) && (d == 46))) (not ((c == 45) && (d == 32))) second in
-          let n : (d == 32) ≡ false = rw e at (not-true ((c == 45) && (d == 32)) q.1) in
-          let one = and_parts (is_plain_char d) (are_plain w) plain in
-          let no_flow : (in_flow && is_flow d) ≡ false = grind (arith, not-true) in
-          rw (e, no_gap d one.0 n, no_flow) refl
-      by false e w second plain flow = let z = first_char c first in rw (e, z.2, (plain_char c z.0).colon, z.3, z.4) refl
+  begins c [] next first second plain flow =
+      rw (unmarked c [] next second, and_false (column == 0)) (grind (arith, nat_tests, and_parts, not-true, first_char, plain_char))
+  begins c (d ∷ w) next first second plain flow =
+      rw (unmarked c (d ∷ w) next second, and_false (column == 0)) (grind (arith, nat_tests, and_parts, not-true, first_char, plain_char, no_gap))
 
 -- ---- the piece
 
@@ -103,9 +90,7 @@ pub record IsPlainPiece (in_flow : Bool) (collection : Option ℕ) (w next : Lis
 
 no_last_dash : (w : List ℕ) → are_plain w ≡ true → list_all is_in_flow w ≡ true → ends_with_dash w ≡ false
 no_last_dash [] h flow = refl
-no_last_dash (c ∷ []) h flow = refl
-no_last_dash (c ∷ d ∷ []) h flow = grind (arith, plain_char, not-true)
-no_last_dash (c ∷ d ∷ e ∷ w) h flow = no_last_dash (d ∷ e ∷ w) (and_parts (is_plain_char c) (are_plain (d ∷ e ∷ w)) h).1 (and_parts (is_in_flow c) (list_all is_in_flow (d ∷ e ∷ w)) flow).1
+no_last_dash (c ∷ w) h flow = grind (arith, plain_char, not-true, and_parts, no_last_dash w)
 
 dashless : (in_flow : Bool) (w next : List ℕ) → are_plain w ≡ true → MayFlow in_flow w → (in_flow && has_dash_before_flow w next) ≡ false
 dashless a w b h flow = grind (arith, no_last_dash)
@@ -309,7 +294,7 @@ module _ (bs : List ℕ) where
   unfolding is_blank is_break
   key_goes ps are es text g r tokens parts may follows rest =
       let next = spell_gap g (58 ∷ r) in
-      let z = string_piece ps are in
+      let z = quoted_piece double (body_of ps) _ (string_is ps are) in
       flow_reads bs (quoted ps) (string_token ps) text next (Tok.value ∷ tokens) (subst (Parts bs text) (quoted_is ps next) parts) z.none (deep_piece bs (quoted ps) next z.no_break) (λ s e. z.further _)
       another (first_entry mapping) es (λ here. entry_of true (Had.waits here) ∷ es) true (Tok.key ∷ []) refl (λ p awaits l there. (refl, ((body_of ps, refl, z.value), refl))) (done_past true (58 ∷ r) (at_mark 58 r refl refl refl) g (quoted ps)) (λ here. refl) (λ here colon own. refl)
       (λ begin. flow_reads bs (58 ∷ []) Tok.value next r tokens (blanks bs g (58 ∷ r) may) refl (deep_piece bs (58 ∷ []) r refl) (λ s e. refl) quoted_scalar (entry_of true (Had.waits begin)) es (λ here. awaiting true ∷ es) false [] refl
@@ -340,7 +325,7 @@ module _ (bs : List ℕ) where
     value_reads true_word is may pl text r tokens parts ends few rest = word_reads bs (codes "true") (record { chars = refl; begins = refl }) pl text r tokens parts ends rest
     value_reads (number n) is may pl text r tokens parts ends few rest = word_reads bs (spell_number n []) (number_word n is) pl text r tokens (subst (Parts bs text) (number_then n r) parts) ends rest
     value_reads (string ps) is may pl text r tokens parts ends few rest =
-        let z = string_piece ps is in
+        let z = quoted_piece double (body_of ps) _ (string_is ps is) in
         place_reads bs (quoted ps) (string_token ps) text r tokens (subst (Parts bs text) (quoted_is ps r) parts) z.none pl (deep_piece bs (quoted ps) r z.no_break) (λ s e. z.further _) refl
         (λ p awaits l there. (refl, ((body_of ps, refl, z.value), refl))) (ends.done (quoted ps)) (rest quoted_scalar (λ f. refl))
     value_reads (empty_array a) is may pl text r tokens parts ends few rest = empty_reads false a may pl text r tokens parts ends.no_comment (omega (arith, few)) rest

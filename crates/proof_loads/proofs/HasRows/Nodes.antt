@@ -1,5 +1,5 @@
 -- Texts that are read from a place on: how they begin with a separation and a piece, outside flow and in flow.
-use Rattle.proof_loads.proofs.TokensCommon.{[], act_of, and_false, and_parts, another, arith, awaits_at, awaits_past, begins_free_line, begins_line, begun_by, Bool, Entry, false, filled, flow_mapping_end, flow_mapping_start, flow_sequence_end, flow_sequence_start, FlowKind, free, fresh, further_lines_stand, gives_node, Had, has_break, has_no_break, has_tab_within, if◌then◌else◌, is_break, is_deeper, is_empty, is_in_column, is_in_flow, is_indented_by_spaces, is_marker, is_renewed, is_separation, is_waiting, IsShown, last_line, le-ltb, least_column, least_for, length, line_past, line_past_separation, List, mapping, may_precede, nat_le, ne_eqb, no_pair, not, not-true, not_ended, Option, Position, position_after, position_past, Previous, previous_by, refl, sequence, settled, Site, Some, Step, taken, Tok, toks, true, ℕ, ◌++◌, ◌-◌, ◌∷◌, ◌≡◌, ◌≤◌, entries_past, takes_pair, begun_inside, begun_outside}
+use Rattle.proof_loads.proofs.TokensCommon.{[], act_of, and_parts, another, arith, awaits_at, awaits_past, begins_free_line, begins_line, begun_by, Bool, Entry, false, filled, flow_mapping_end, flow_mapping_start, flow_sequence_end, flow_sequence_start, FlowKind, free, fresh, further_lines_stand, gives_node, Had, has_break, has_no_break, has_tab_within, if◌then◌else◌, is_break, is_deeper, is_empty, is_in_flow, is_indented_by_spaces, is_marker, is_renewed, is_separation, is_waiting, IsShown, last_line, le-ltb, least_column, least_for, length, line_past, line_past_separation, List, mapping, may_precede, nat_le, ne_eqb, no_pair, not, not-true, not_ended, Option, Position, position_after, position_past, Previous, previous_by, refl, sequence, settled, Site, Some, Step, taken, Tok, toks, true, ℕ, ◌++◌, ◌-◌, ◌∷◌, ◌≡◌, ◌≤◌, entries_past, takes_pair, begun_inside, begun_outside}
 pub use Rattle.defs_token.specs.Key.{Line}
 pub use Rattle.proof_loads.proofs.HasRows.Steps.{at, ended, has_tokens, read_end, Reads, site_of, step, step_of, Steps}
 pub use Rattle.proof_loads.proofs.Nul.{both, HasNone, of_class, quoted_none, text_none}
@@ -138,14 +138,8 @@ module _ (bs w : List ℕ) (t : Tok) (text next : List ℕ) (tokens : List Tok) 
       let a = at p bs awaits before l (e ∷ es) in
       let low_for : nat_le (least_for t (site_of a w' next)) here.col ≡ true = grind (arith, low) in
       let fits = further (site_of a w' next) refl in
-      let s : Steps a w' next (at (position_after here w next) bs (awaits_past true t bs awaits next) (previous_by t) l (after here)) first = record {
-        is_separated = parts.separates;
-        is_shown = shown p awaits l there;
-        stands = rw (indented before bs awaits parts, no_marker, low_for, fits, precede) refl;
-        leads = rw (same_line (begins_free_line before parts.by) l line, past here, line, and_false (has_break w)) refl;
-        begins = λ past colon. begins here _ _;
-        none = (parts.none, none);
-      } in
+      let s : Steps a w' next (at (position_after here w next) bs (awaits_past true t bs awaits next) (previous_by t) l (after here)) first =
+      grind (arith, indented before bs awaits parts, same_line, shown p awaits l there, past, begins) in
       rw (parts.is) (step w' next s (rest here _ _ l line (over here there)))
 
   -- a piece outside flow that begins no block collection
@@ -163,14 +157,8 @@ module _ (bs w : List ℕ) (t : Tok) (text next : List ℕ) (tokens : List Tok) 
       let fits = further (site_of a w' next) (rw (no_marker, none_ends bs here.col there) refl) in
       let waits = awaits_past false t bs (awaits_at false here.col bs awaits) next in
       let no_less : length bs - length bs ≡ 0 = omega arith in
-      let s : Steps a w' next (at (position_after here w next) bs waits (previous_by t) after (begun_by t)) [] = record {
-        is_separated = parts.separates;
-        is_shown = shown p awaits l there;
-        stands = rw (fits, indented another bs awaits parts, no_marker, none_ends bs here.col there, precede) refl;
-        leads = rw (no_marker, none_ends bs here.col there, m.1, leads (is_in_column here.col bs) here m.0 (grind (arith, ne_eqb)) m.2, quiet, and_false (has_break w)) refl;
-        begins = λ past colon. rw (no_marker, none_ends bs here.col there, no_less, begins) refl;
-        none = (parts.none, none);
-      } in
+      let s : Steps a w' next (at (position_after here w next) bs waits (previous_by t) after (begun_by t)) [] =
+      grind (arith, indented another bs awaits parts, none_ends, ne_eqb, shown p awaits l there, leads, begins, m) in
       rw (parts.is) (step w' next s (rest here waits there))
 
   -- a node outside flow

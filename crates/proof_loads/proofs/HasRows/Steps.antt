@@ -1,5 +1,5 @@
 -- Rows from an account on, given from their last step to their first. A text that has a row has the row's tokens by the scanner's model.
-use Rattle.proof_loads.proofs.TokensCommon.{[], Account, account_past, ap, append_assoc, begins_free_line, Bool, Colon, ends_with_stream, Entry, false, first_account, has_no_nul, HasToks, is_in_flow, is_renewed, is_separation, is_waiting, IsRowFrom, IsShown, line_past_separation, List, map-append, may_stand, on_one_line, past_piece, Position, position_after, Previous, put, refl, Site, site_at, Some, spelled, Step, stream_position, subst, sym, Tok, tokens_before, tokens_from, tokens_of_row, toks, true, up_to_nul, ℕ, ◌++◌, ◌∙◌, ◌∷◌, ◌≡◌}
+use Rattle.proof_loads.proofs.TokensCommon.{[], Account, account_past, another, ap, append_assoc, begins_free_line, Bool, Colon, ends_with_stream, Entry, false, Fault, first_account, first_position, free, has_no_nul, HasTokens, HasToks, is_in_flow, is_renewed, is_separation, is_waiting, IsRefused, IsRowFrom, IsShown, line_past_separation, List, map-append, may_stand, not_refused, on_one_line, one_list, past_piece, Position, position_after, Previous, put, refl, Site, site_at, Some, spelled, Step, stream_position, subst, sym, Tok, Token, tokens_before, tokens_from, tokens_of_row, toks, true, up_to_nul, ℕ, ◌++◌, ◌∙◌, ◌∷◌, ◌≡◌}
 use Rattle.defs_token.specs.Key.{Line}
 use Rattle.proof_loads.proofs.Nul.{HasNone, both, whole}
 use Rattle.defs_token.specs.Step.{Row}
@@ -70,3 +70,14 @@ read_end p bs awaits before l last line separates none = record { steps = []; la
     told : (bs : List ℕ) → toks (ends_with_stream (position_after p last []) bs ++ (put (stream_position (position_after p last [])) Tok.stream_end ∷ [])) ≡ ended bs (Tok.stream_end ∷ [])
     told [] = refl
     told (n ∷ bs) = ap (λ o. Tok.block_end ∷ o) (told bs)
+
+-- ---- a text that has tokens has no others, and is not refused
+
+pub no_other_tokens : (a : List ℕ) (want : List Tok) → HasToks a want → (ts : List Token) → HasTokens a ts → toks ts ≡ want
+no_other_tokens a want y ts z = ap toks (one_list a ts y.0 z y.1) ∙ y.2
+
+pub none_is_refused : (a : List ℕ) (want : List Tok) → HasToks a want → (f : Fault) → IsRefused a f → ⊥
+none_is_refused a want y f refusal = not_refused a y.0 f y.1 refusal
+
+pub nothing_has_its_tokens : HasToks [] (Tok.stream_start ∷ Tok.stream_end ∷ [])
+nothing_has_its_tokens = has_tokens [] (Tok.stream_end ∷ []) (read_end first_position [] false another free [] refl refl refl)

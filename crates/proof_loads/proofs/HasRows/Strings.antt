@@ -87,9 +87,7 @@ Goes quotes w c = (body text : List ℕ) → IsBody quotes body text → IsBody 
 itself_goes : (c : ℕ) → nat_lt c 32 ≡ false → (c == 34) ≡ false → (c == 92) ≡ false → Goes double (c ∷ []) c
 unfolding double_quoted_element is_nul is_break
 itself_goes c high quote backslash body text z =
-    let nul : is_nul c ≡ false = grind (arith, nat_tests) in
-    let no_break : is_break c ≡ false = grind (arith, nat_tests) in
-    plain_step double_quoted_element c body text (rw (nul, quote, backslash) refl) no_break z
+    plain_step double_quoted_element c body text (grind (arith, nat_tests)) (grind (arith, nat_tests)) z
 
 -- an escape of one letter
 named_goes : (l x : ℕ) → is_break l ≡ false → ((body : List ℕ) → escape (l ∷ body) ≡ Some (record { element = content x; further = 1 })) → Goes double (92 ∷ l ∷ []) x
@@ -106,7 +104,7 @@ unfolding double_quoted_element is_nul is_break escape numeric_escape
 unicode_goes a b c d v u body text z =
     content_goes v z (rw (u.first, u.second, u.third, u.fourth, u.value, u.valid, z.are) refl) (rw (digit_break a u.first, digit_break b u.second, digit_break c u.third, digit_break d u.fourth) (z.no_break))
 
-string_is : (ps : List Piece) → are_pieces ps ≡ true → IsBody double (body_of ps) (unescaped ps)
+pub string_is : (ps : List Piece) → are_pieces ps ≡ true → IsBody double (body_of ps) (unescaped ps)
 unfolding is_unescaped
 string_is [] h = nothing
 string_is (itself c ∷ ps) h =
@@ -140,9 +138,6 @@ quoted ps = in_quotes double (body_of ps)
 
 pub quoted_is : (ps : List Piece) (r : List ℕ) → spell_string ps r ≡ quoted ps ++ r
 quoted_is ps r = ap (λ x. 34 ∷ x) (spelt ps (34 ∷ r) ∙ sym (append_assoc (body_of ps) (34 ∷ []) r))
-
-pub string_piece : (ps : List Piece) → are_pieces ps ≡ true → IsQuotedPiece double (body_of ps) (unescaped ps)
-string_piece ps h = quoted_piece double (body_of ps) (unescaped ps) (string_is ps h)
 
 -- ---- in double quotes
 
@@ -184,10 +179,7 @@ double_is (c ∷ w) = character_goes c (written_escapes w) w (double_is w)
 
 plain_goes : (c : ℕ) → is_line_character c ≡ true → (c == 39) ≡ false → Goes single (c ∷ []) c
 unfolding single_quoted_element is_nul is_break is_line_character
-plain_goes c h quote body text z =
-    let nul : is_nul c ≡ false = grind (arith, nat_tests) in
-    let no_break : is_break c ≡ false = grind (arith, nat_tests) in
-    plain_step single_quoted_element c body text (rw (nul, quote) refl) no_break z
+plain_goes c h quote body text z = plain_step single_quoted_element c body text (grind (arith, nat_tests)) (grind (arith, nat_tests)) z
 
 doubled_goes : (c : ℕ) → is_line_character c ≡ true → Goes single (doubled c) c
 unfolding single_quoted_element is_nul is_break

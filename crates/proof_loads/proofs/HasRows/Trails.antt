@@ -1,8 +1,9 @@
 -- What stands after a value of a layout: gaps and comments as separations, and how the next piece is read.
-use Rattle.proof_loads.proofs.TokensCommon.{[], after_blank, and_parts, another, ap, append_assoc, are_marks, arith, Bool, codes, comment, Comment, comment_line, empty_line, false, free, GapLine, has_break, has_tab_within, innermost, inside, is_before_line_feed, is_blank, is_blank_or_end, is_blanks_and_comment, is_break, is_document_marker, is_line_character, is_nul, is_on_line, is_separation, is_value_indicator, is_waiting, IsComment, IsGap, IsLineText, last_line, leading, least_column, List, list_all, nat_le, nat_tests, next_line, no_comment, not, on_line, Option, Position, position_after, position_past, Previous, refl, Some, spaces, spell_comment, spell_ending, spell_gap, split, split_by, Stand, stops, suc, sym, Tok, true, zero, ℕ, ◌&&◌, ◌++◌, ◌+◌, ◌<◌, ◌==◌, ◌||◌, ◌∙◌, ◌∷◌, ◌≡◌, ◌≤◌}
+use Rattle.proof_loads.proofs.TokensCommon.{[], after_blank, another, ap, append_assoc, are_marks, arith, Bool, codes, comment, Comment, comment_line, empty_line, false, free, GapLine, has_break, has_tab_within, innermost, inside, is_blank, is_blank_or_end, is_blanks_and_comment, is_break, is_document_marker, is_line_character, is_nul, is_on_line, is_separation, is_value_indicator, is_waiting, IsComment, IsGap, IsLineText, last_line, leading, least_column, List, nat_le, nat_tests, next_line, no_comment, not, on_line, Option, Position, position_after, position_past, Previous, refl, Some, spaces, spell_comment, spell_ending, spell_gap, split, Stand, stops, suc, sym, Tok, true, zero, ℕ, ◌&&◌, ◌++◌, ◌+◌, ◌<◌, ◌==◌, ◌||◌, ◌∙◌, ◌∷◌, ◌≡◌, ◌≤◌}
 use Rattle.defs_token.specs.Plain.{is_deeper}
 use Rattle.proof_loads.proofs.HasRows.Json.{Ends}
 use Rattle.proof_loads.proofs.HasRows.Nodes.{or_true, Parts, Quiet, Then, Reads, at, ended, HasNone, both, text_none, Line}
+use Rattle.proof_scanner.proofs.Sound.LastLines.{break_append, last_first}
 pub use Rattle.proof_loads.proofs.HasRows.Blocks.{AreAbove, colon_reads, Comes, dash_reads, ended_append, ends_are, Here, IsScalarPiece, key_reads, Marked, question_reads, ShownAt, stood}
 pub use Rattle.proof_loads.proofs.BlockLines.{spaces_are}
 
@@ -62,9 +63,8 @@ one_more t n bs tokens ends rest extra p awaits before l text all arrives =
     same (m ∷ extra) = ap (λ o. Tok.block_end ∷ o) (same extra)
 
     more : (t : Trail) (extra : List ℕ) → EndsAt t n → AllEnd t extra → AllEnd t (extra ++ n ∷ [])
-    more (next g d r) [] ends all = (ends, tt)
-    more (next g d r) (m ∷ extra) ends all = (all.0, more (next g d r) extra ends all.1)
-    more t extra ends all = tt
+    more t [] ends all = grind arith
+    more t (m ∷ extra) ends all = grind (arith, more t extra)
 
 -- ---- gaps as separations
 
@@ -75,7 +75,7 @@ in_line c h = grind (arith, nat_tests)
 -- over a comment
 over_comment : (text a r : List ℕ) → IsLineText text → is_separation true (text ++ a) r ≡ is_separation true a r
 over_comment [] a r h = refl
-over_comment (c ∷ text) a r h = let q = and_parts (is_line_character c) (list_all is_line_character text) h in rw (is_separation, in_line c q.0) (over_comment text a r q.1)
+over_comment (c ∷ text) a r h = grind (arith, in_line, over_comment text a r)
 
 -- a text separates what stands before it from a rest, and has no NUL
 abbrev pub Parting : (text rest : List ℕ) → Type 0
@@ -111,20 +111,10 @@ ending_parts (comment_line text ∷ g) h = let z = ending_parts g h.1 in let y =
 -- ---- the last line
 
 -- after a break the lines before do not matter
-broken_at : (x y : List ℕ) → (first : List ℕ) × (others : List (List ℕ)) × (split (x ++ 10 ∷ y) ≡ record { complete = first ∷ others; last = (split y).last })
-unfolding is_break
-broken_at [] [] = ([], [], refl)
-broken_at [] (d ∷ y) = ([], (split (d ∷ y)).complete, refl)
-broken_at (c ∷ x) y = by (is_break c) (is_before_line_feed c (x ++ 10 ∷ y)) (broken_at x y)
-  where
-    by : (b d : Bool) → (first : List ℕ) × (others : List (List ℕ)) × (split (x ++ 10 ∷ y) ≡ record { complete = first ∷ others; last = (split y).last })
-        → (first : List ℕ) × (others : List (List ℕ)) × (split_by b d c (split (x ++ 10 ∷ y)) ≡ record { complete = first ∷ others; last = (split y).last })
-    by true true z = z
-    by true false z = ([], z.0 ∷ z.1, rw (z.2) refl)
-    by false d z = (c ∷ z.0, z.1, rw (z.2) refl)
-
 last_past : (x y : List ℕ) → last_line (x ++ 10 ∷ y) ≡ last_line y
-last_past x y = rw (last_line, (broken_at x y).2) refl
+unfolding is_break
+last_past [] y = last_first 10 y
+last_past (c ∷ x) y = grind (arith, last_first, break_append, or_true, last_past x y)
 
 -- ---- positions
 
@@ -169,11 +159,6 @@ gap_is (l ∷ g) a r = grind (arith, append_assoc, gap_is g a r)
 comment_is : (k : Comment) (a r : List ℕ) → spell_comment k a ++ r ≡ spell_comment k (a ++ r)
 comment_is k a r = grind (arith, spaces_are, append_assoc)
 
-has_break_at : (x y : List ℕ) → has_break (x ++ 10 ∷ y) ≡ true
-unfolding is_break
-has_break_at [] y = refl
-has_break_at (c ∷ x) y = grind (arith, has_break, has_break_at x y)
-
 -- ---- after a value and a comment
 
 gap_text : (g : List GapLine) (n : ℕ) (r : List ℕ) → spell_gap g (spaces n []) ++ r ≡ spell_gap g (spaces n r)
@@ -206,7 +191,7 @@ here_after k g n r p before l remark gap quiet line =
       is = sym (comment_is k (10 ∷ x) r ∙ ap (λ y. spell_comment k (10 ∷ y)) (gap_text g n r));
       separates = parts.0;
       tabless = λ m. rw (text, last_past (spell_comment k []) x, gap_last g n) (no_tab m n);
-      line = rw (quiet (spell_comment k (10 ∷ x)), text, has_break_at (spell_comment k []) x) (grind arith);
+      line = rw (quiet (spell_comment k (10 ∷ x)), text, break_append (spell_comment k []) (10 ∷ x), or_true (has_break (spell_comment k []))) (grind arith);
       column = rw (text, z.1) (gap_column g n r z.0 z.2);
       none = parts.1;
     }

@@ -1,10 +1,10 @@
 -- Layouts have rows: scalars, values, arrays and hashes, roots, and documents one after the other. So has a text of one quoted scalar.
-use Rattle.proof_loads.proofs.TokensCommon.{[], act_of, all_field_tokens, all_of, Anchor, anchors_after, anchors_after_field, and_false, and_parts, another, ap, append-nil, append_assoc, are_marks, AreDocuments, AreEmptyLines, AreEntries, AreFields, arith, awaits_at, awaits_past, before_by, before_past, begins_with, begins_with_space_or_break, begun, begun_by, Block, block_tokens, BlockStyle, body_value, Bool, codes, colon_may_precede, Comment, dash_may_precede, Documents, documents_tokens, double, double_quoted, double_quoted_element, doubled, Element, elements, empty_hash, empty_line, Entries, entry_tokens, false, Field, field_tokens, Fields, first_account, first_position, flat_map, folded_header, free, further_lines_stand, GapLine, gives_node, goes_on_with_name, has_break, has_no_break, has_tab_before_piece, inl, Inline, inline_tokens, innermost, inr, is_adjacent, is_anchor_name, is_ascii_alphanumeric, is_at_gap, is_blank, is_blank_or_end, is_break, is_flow, is_line_character, is_name, is_nul, is_one_of, is_waiting, IsAfterRoot, IsBlock, IsComment, IsField, IsGap, IsInline, IsLayout, IsLineText, IsRoot, IsScalar, IsValue, Layout, leading, least_column, least_for, length, Lines, lines_fit, List, list_all, marked, may_precede, MayFollowScalarKey, nat_tests, next_line, no_comment, None, Option, parts, plain, Position, position_after, Previous, previous_by, quote_of, quoted, quoted_lines_fit, quoted_may_end, Quotes, refl, replicate, Root, root_tokens, Scalar, scalar, scalar_token, single, single_quoted, single_quoted_element, Site, Some, spaces, spell_block, spell_comment, spell_documents, spell_ending, spell_entries, spell_field, spell_fields, spell_gap, spell_inline, spell_lines, spell_literal, spell_root, spell_scalar, spell_value, Spelled, spelling, style_of, subst, suc, taken, Tok, true, Value, value_tokens, written_escapes, zero, ℕ, ◌&&◌, ◌++◌, ◌+◌, ◌-◌, ◌||◌, ◌∷◌, ◌≡◌, ◌≤◌, ◌⊎◌}
+use Rattle.proof_loads.proofs.TokensCommon.{[], act_of, all_field_tokens, all_of, Anchor, anchors_after, anchors_after_field, and_false, another, ap, append-nil, append_assoc, are_marks, AreDocuments, AreEmptyLines, AreEntries, AreFields, arith, awaits_at, awaits_past, before_by, before_past, begins_with, begins_with_space_or_break, begun, begun_by, Block, block_tokens, BlockStyle, body_value, Bool, codes, colon_may_precede, Comment, dash_may_precede, Documents, documents_tokens, double, double_quoted, double_quoted_element, doubled, Element, elements, empty_hash, empty_line, Entries, entry_tokens, false, Field, field_tokens, Fields, first_account, first_position, flat_map, folded_header, free, further_lines_stand, GapLine, gives_node, goes_on_with_name, has_no_break, has_tab_before_piece, inl, Inline, inline_tokens, innermost, inr, is_adjacent, is_anchor_name, is_ascii_alphanumeric, is_at_gap, is_blank, is_blank_or_end, is_break, is_flow, is_name, is_nul, is_one_of, is_waiting, IsAfterRoot, IsBlock, IsComment, IsField, IsGap, IsInline, IsLayout, IsLineText, IsRoot, IsScalar, IsValue, Layout, leading, least_column, least_for, length, Lines, lines_fit, List, list_all, marked, may_precede, MayFollowScalarKey, nat_tests, next_line, no_comment, None, Option, parts, plain, Position, position_after, Previous, previous_by, quote_of, quoted, quoted_lines_fit, quoted_may_end, Quotes, refl, replicate, Root, root_tokens, Scalar, scalar, scalar_token, single, single_quoted, single_quoted_element, Site, Some, spaces, spell_block, spell_comment, spell_documents, spell_ending, spell_entries, spell_field, spell_fields, spell_gap, spell_inline, spell_lines, spell_literal, spell_root, spell_scalar, spell_value, Spelled, spelling, style_of, subst, suc, taken, Tok, true, Value, value_tokens, written_escapes, zero, ℕ, ◌++◌, ◌+◌, ◌-◌, ◌∷◌, ◌≡◌, ◌≤◌, ◌⊎◌}
 use Rattle.proof_loads.proofs.PlainTexts.{spelt_plain, IsPlainText, first_space}
 use Rattle.proof_loads.proofs.HasRows.Nodes.{none_ends, deep_piece, Parts, Quiet, From, node_reads, outside, or_true, Shown, Reads, at, step_of, Steps, step, ended, read_end, HasNone, of_class, quoted_none, Line}
 use Rattle.proof_loads.proofs.HasRows.Json.{column_is, empty_reads, value_reads, plain_piece, plain_char, first_char}
-use Rattle.proof_loads.proofs.HasRows.Strings.{quoted_piece, double_is, single_is, between, in_quotes}
-use Rattle.proof_loads.proofs.HasRows.Trails.{Trail, end, trail_text, Rest, arrive, trail_ends, in_line, here_after, spaced, here_beside, next, BeginsContent, content_first, IsTrail, EndsAt, After, marker, marker_text, here_gap, Here, Comes, Marked, dash_reads, question_reads, colon_reads, IsScalarPiece, key_reads, ends_are, ended_append}
+use Rattle.proof_loads.proofs.HasRows.Strings.{IsBody, quoted_piece, double_is, single_is, between, in_quotes}
+use Rattle.proof_loads.proofs.HasRows.Trails.{Trail, end, trail_text, Rest, arrive, trail_ends, in_line, here_after, spaced, here_beside, next, BeginsContent, content_first, IsTrail, EndsAt, After, marker, marker_text, here_gap, Here, Comes, Marked, ShownAt, dash_reads, question_reads, colon_reads, IsScalarPiece, key_reads, ends_are, ended_append}
 use Rattle.defs_layout.specs.Json
 use Rattle.defs_token.specs.Piece as piece
 use Rattle.defs_layout.specs.Layout.{empty_array, spell}
@@ -27,6 +27,25 @@ piece_of (single_quoted text) = 39 ∷ (flat_map doubled text ++ 39 ∷ [])
 pub piece_spelt : (s : Scalar) (r : List ℕ) → spell_scalar s r ≡ piece_of s ++ r
 piece_spelt s r = grind (arith, append_assoc)
 
+-- a body between quotes
+quotes_piece : (quotes : Quotes) (body text : List ℕ) → IsBody quotes body text
+    → IsScalarPiece (in_quotes quotes body) (Tok.scalar (style_of quotes) text)
+quotes_piece quotes body text one =
+    let z = quoted_piece quotes body text one in
+    record {
+      node = (grind arith, grind arith, λ f. grind arith);
+      no_break = z.no_break;
+      none = z.none;
+      further = z.further;
+      precedes = λ bs r ends. grind arith;
+      shown = λ bs key r stop quote. shown quotes z.value bs key r quote;
+    }
+  where
+    shown : (quotes : Quotes) → body_value quotes body ≡ Some text → (bs : List ℕ) (key : Bool) (r : List ℕ) → begins_with 39 r ≡ false
+        → ShownAt bs (in_quotes quotes body) (Tok.scalar (style_of quotes) text) key r
+    shown double value bs key r quote all p awaits before l f stay = (refl, ((body, refl, value), refl))
+    shown single value bs key r quote all p awaits before l f stay = (refl, ((body, refl, value, quote), refl))
+
 pub scalar_piece : (s : Scalar) → IsScalar s → IsScalarPiece (piece_of s) (scalar_token s)
 scalar_piece (plain t) h =
     let text = spelt_plain t h in
@@ -41,26 +60,8 @@ scalar_piece (plain t) h =
           let y = plain_piece false (innermost bs) (spelling t) r text (λ e. cc) stop in
           rw (stay, column_is bs) (y.some, ((y.begins (is_adjacent (before_past (before_by before) f)) _, y.whole, y.value), refl));
     }
-scalar_piece (quoted text) h =
-    let z = quoted_piece double (written_escapes text) text (double_is text) in
-    record {
-      node = (refl, refl, λ f. refl);
-      no_break = z.no_break;
-      none = z.none;
-      further = z.further;
-      precedes = λ bs r ends. ends;
-      shown = λ bs key r stop quote all p awaits before l f stay. (refl, ((written_escapes text, refl, z.value), refl));
-    }
-scalar_piece (single_quoted text) h =
-    let z = quoted_piece single (flat_map doubled text) text (single_is text h) in
-    record {
-      node = (refl, refl, λ f. refl);
-      no_break = z.no_break;
-      none = z.none;
-      further = z.further;
-      precedes = λ bs r ends. ends;
-      shown = λ bs key r stop quote all p awaits before l f stay. (refl, ((flat_map doubled text, refl, z.value, quote), refl));
-    }
+scalar_piece (quoted text) h = quotes_piece double (written_escapes text) text (double_is text)
+scalar_piece (single_quoted text) h = quotes_piece single (flat_map doubled text) text (single_is text h)
 
 -- ---- where a value stands
 
@@ -117,7 +118,7 @@ content_tabless a h = grind (arith, content_first)
 comment_tabless : (text a : List ℕ) → IsLineText text → has_tab_before_piece true (text ++ 10 ∷ a) ≡ has_tab_before_piece false a
 unfolding is_break
 comment_tabless [] a h = refl
-comment_tabless (c ∷ text) a h = let q = and_parts (is_line_character c) (list_all is_line_character text) h in rw (has_tab_before_piece, in_line c q.0) (comment_tabless text a q.1)
+comment_tabless (c ∷ text) a h = grind (arith, in_line, has_tab_before_piece, comment_tabless text a)
 
 gap_tabless : (g : List GapLine) (a : List ℕ) → IsGap g → has_tab_before_piece false a ≡ false → has_tab_before_piece false (spell_gap g a) ≡ false
 unfolding is_break
@@ -336,14 +337,8 @@ marker_reads r tokens rest extra p awaits before l text here =
     let w = codes "---" in
     let there = position_after p here.by (w ++ next) in
     let all_left : (length extra) - 0 ≡ (length extra) = omega arith in
-    let first : Steps (at p extra awaits before l []) (step_of here.by w Tok.document_start false) next (at (position_after there w next) [] (awaits_past false Tok.document_start [] (awaits_at false there.col extra awaits) next) another taken []) (ended extra []) = record {
-      is_separated = here.separates;
-      is_shown = (refl, ((refl, here.column, refl, refl), refl));
-      stands = rw (here.tabless, or_true _) refl;
-      leads = rw (here.line, and_false (has_break w)) refl;
-      begins = λ past colon. rw (all_left) (ends_are extra there []);
-      none = (here.none, refl);
-    } in
+    let first : Steps (at p extra awaits before l []) (step_of here.by w Tok.document_start false) next (at (position_after there w next) [] (awaits_past false Tok.document_start [] (awaits_at false there.col extra awaits) next) another taken []) (ended extra []) =
+    grind (arith, or_true, and_false, ends_are) in
     rw (append-nil, here.is, ← ended_append extra [] (Tok.document_start ∷ tokens)) (step (step_of here.by w Tok.document_start false) next first (rest _ _))
 
 -- ---- documents

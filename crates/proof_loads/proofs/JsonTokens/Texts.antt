@@ -1,7 +1,7 @@
 -- JSON texts have their tokens.
 use Rattle.proof_loads.proofs.TokensCommon.{[], append-nil, arith, false, first_account, first_position, free, IsWellFormed, json_text_tokens, json_tokens, JsonText, JsonTextsAreNotRefused, JsonTextsHaveNoOtherTokens, JsonTextsHaveTheirTokens, None, refl, spell_text, Tok, ◌∷◌}
 use Rattle.defs_layout.specs.JsonGap.{spell_gap}
-use Rattle.proof_loads.proofs.TextTokens.{no_other_tokens, none_is_refused}
+use Rattle.proof_loads.proofs.HasRows.Steps.{no_other_tokens, none_is_refused}
 use Rattle.proof_loads.proofs.HasRows.Nodes.{outside, Reads, has_tokens, read_end}
 use Rattle.proof_loads.proofs.HasRows.Json.{white, blanks, white_none, spelt, separates, ends, at_end, value_reads}
 

@@ -1,9 +1,8 @@
 -- Layouts have their tokens.
 use Rattle.proof_loads.proofs.TokensCommon.{[], documents_tokens, layout_tokens, LayoutsAreNotRefused, LayoutsHaveNoOtherTokens, LayoutsHaveTheirTokens, marked}
 use Rattle.defs_layout.specs.Layout.{spell}
-use Rattle.proof_loads.proofs.TextTokens.{no_other_tokens, none_is_refused}
+use Rattle.proof_loads.proofs.HasRows.Steps.{has_tokens, no_other_tokens, none_is_refused}
 use Rattle.proof_loads.proofs.HasRows.Values.{layout_reads}
-use Rattle.proof_loads.proofs.HasRows.Steps.{has_tokens}
 
 pub layouts_have_their_tokens : LayoutsHaveTheirTokens
 layouts_have_their_tokens w is = has_tokens (spell w []) (marked w.is_marked (documents_tokens w.documents)) (layout_reads w is)
