@@ -6,7 +6,7 @@ use Rattle.model_scanner.specs.State.{after}
 use Rattle.model_scanner.specs.Block.{value_of}
 use Rattle.proof_scanner.proofs.Refusals.Common.{knowing, known_turn, held_exactly, Spaced, begins_here, gap_here, no_entries, no_tab_in, not_at_end, past_white, past_white_space, same_has_break, saved_is, saved_keys, spaced, spaces_skipped, value_is, white_cut, white_exactly, white_first, white_of, white_or_missed}
 use Rattle.proof_scanner.proofs.Sound.DocumentLines.{line_begun}
-use Rattle.proof_scanner.proofs.Cut.Blocks.{key_removed}
+use Rattle.proof_scanner.proofs.Cut.Documents.{key_removed}
 use Rattle.proof_scanner.proofs.Sound.Blanks.{same_in_line, line_rest_in_line, line_rest_cut, line_rest_fills, found_in, spaced_parted}
 use Rattle.proof_scanner.proofs.Refusals.Places.{Faults, fault, goes, read, in_turn, tried, checked, either, kept, IsRowless, Told, LiesDeep, rowless_told, account_by, place, many_levels, IsAllowed, stuck, in_flow_is, looked_at, none_begins, followed_stuck, white_goes, space_told, spaces_told, no_comment, no_comment_left, solid_past}
 use Rattle.proof_scanner.proofs.Refusals.KeysThatWait.{not_required, line_rowless, closing_rowless, none_waits}
@@ -121,9 +121,7 @@ module _ {text : List ℕ} {t : ScannerState} (a : Arrives text t) (some : is_em
   broken = begins_free_line a.base.site.before a.separation
 
   line_taken : (c : Bool) (cs : List Bool) → IsAllowed a some c → is_empty t.held.flow ≡ true → t.held.key_allowed ≡ false → is_taken (chosen c cs t.held.keys a.base) a.separation ≡ true
-  line_taken c cs h e f =
-      let outer_line : is_empty t.held.flow ≡ true → line_past_separation false broken a.base.line ≡ Some a.line_here = λ out. subst (λ b. line_past_separation (not b) broken a.base.line ≡ Some a.line_here) out a.is_line in
-      grind (arith, nat_tests, eqb-true, arrivals.not_free, arrivals.unbroken, some, is_taken_line, line_past_separation, line_by, outer_line, waits, outside_key, not, free, taken, is_free)
+  line_taken c cs h e f = grind (arith, nat_tests, eqb-true, is_empty, line_past_separation, broken, not, arrivals.not_free, arrivals.unbroken, is_taken_line, line_by, waits, outside_key, free, taken, is_free)
 
   line_not_taken : (c : Bool) (cs : List Bool) → IsAllowed a some c → is_empty t.held.flow ≡ true → t.held.key_allowed ≡ true → is_taken (chosen c cs t.held.keys a.base) a.separation ≡ false
   line_not_taken c cs may out allowed = grind arith
