@@ -121,7 +121,9 @@ module _ {text : List ℕ} {t : ScannerState} (a : Arrives text t) (some : is_em
   broken = begins_free_line a.base.site.before a.separation
 
   line_taken : (c : Bool) (cs : List Bool) → IsAllowed a some c → is_empty t.held.flow ≡ true → t.held.key_allowed ≡ false → is_taken (chosen c cs t.held.keys a.base) a.separation ≡ true
-  line_taken c cs h e f = grind (arith, nat_tests, eqb-true, is_empty, line_past_separation, broken, not, arrivals.not_free, arrivals.unbroken, is_taken_line, line_by, waits, outside_key, free, taken, is_free)
+  line_taken c cs h e f =
+      let outer_line : is_empty t.held.flow ≡ true → line_past_separation false broken a.base.line ≡ Some a.line_here = λ out. subst (λ b. line_past_separation (not b) broken a.base.line ≡ Some a.line_here) out a.is_line in
+      grind (arith, nat_tests, eqb-true, arrivals.not_free, arrivals.unbroken, some, is_taken_line, line_past_separation, line_by, outer_line, waits, outside_key, not, free, taken, is_free)
 
   line_not_taken : (c : Bool) (cs : List Bool) → IsAllowed a some c → is_empty t.held.flow ≡ true → t.held.key_allowed ≡ true → is_taken (chosen c cs t.held.keys a.base) a.separation ≡ false
   line_not_taken c cs may out allowed = grind arith

@@ -15,7 +15,8 @@ use Rattle.defs_token.specs.FlowEntry as entry
 -- ---- the text at a piece says what piece it is; one that stands for the document begins in column 0
 
 pub marker_begins : (a : pieces.Account) (p x : List ℕ) (f : Option Tok) (m : Position) (t : Tok) → IsPiece a p x f m t → is_marker (act_of t) ≡ true → begins_document_at a.position (p ++ x) ≡ true
-marker_begins a p x f m t h k = grind (arith, nat_tests, eqb-true, directive_of, begins_with, directive_begins, or_true, dash_marks, dot_marks)
+marker_begins a p x f m t h k =
+    grind (arith, nat_tests, eqb-true, directive_of, begins_with, directive_begins, or_true, dash_marks, dot_marks)
 
 -- entries that are alike are as many
 pub many_alike : (ds es : List Entry) → LikeEntries ds es → length ds ≡ length es

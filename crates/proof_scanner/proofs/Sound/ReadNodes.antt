@@ -186,11 +186,11 @@ module _ (text : List ℕ) (t u : ScannerState) (level : Option FlowLevel) (f : 
             ap (λ xs. Some xs) (grind arith));
       }) (λ cs l ws last h.
       let c : Bool = first_choice (choices_around level cs) in
-            let xs : List Entry = entries_by (pop (choices_around level cs)) ks es in
-            node_tokens level a.site a.separation piece (gap ++ u.rest) tok t.held.key_allowed c k (new_key t) e xs ks t.held.position a.tokens u.held.tokens l ws last r.act r.begun (grind arith)
-            (ap length (tokens_before text t f fs k ks e es a)) (among (length a.tokens) (k ∷ ks) a.are_numbered) h place (r.shown (site_of t (f ∷ fs) a.site)) refl
-            (r.tokens_are ∙ ap (λ ts. ts ++ (shown_token ∷ [])) (tokens_before text t f fs k ks e es a)) ∙
-            ap (λ ys. with_keys 0 (past_step a.site.position (record { separation = a.separation; piece = piece; shown = tok; key = bit_of t.held.key_allowed c }) ws last) ws last a.site.blocks l ys (with_no_key level (key_past ∷ ks)) u.held.tokens) (grind arith))
+      let xs : List Entry = entries_by (pop (choices_around level cs)) ks es in
+      node_tokens level a.site a.separation piece (gap ++ u.rest) tok t.held.key_allowed c k (new_key t) e xs ks t.held.position a.tokens u.held.tokens l ws last r.act r.begun (grind arith)
+      (ap length (tokens_before text t f fs k ks e es a)) (among (length a.tokens) (k ∷ ks) a.are_numbered) h place (r.shown (site_of t (f ∷ fs) a.site)) refl
+      (r.tokens_are ∙ ap (λ ts. ts ++ (shown_token ∷ [])) (tokens_before text t f fs k ks e es a)) ∙
+      ap (λ ys. with_keys 0 (past_step a.site.position (record { separation = a.separation; piece = piece; shown = tok; key = bit_of t.held.key_allowed c }) ws last) ws last a.site.blocks l ys (with_no_key level (key_past ∷ ks)) u.held.tokens) (grind arith))
 
 -- ---- both
 
