@@ -1,17 +1,8 @@
-pub mod Blocks
 pub mod Dispatch
 pub mod Documents
 pub mod Faults
-pub mod Fetched
 pub mod FlowEnds
-pub mod Flows
-pub mod Heres
-pub mod Nodes
 pub mod Passes
 pub mod Pieces
 pub mod Positions
-pub mod RowPositions
-pub mod Saved
-pub mod Scalars
 pub mod Stoods
-pub mod Unrolls

@@ -6,7 +6,6 @@ pub mod BlockScalars
 pub mod ColonSpaces
 pub mod Common
 pub mod Completed
-pub mod CutsSoFar
 pub mod DocumentLines
 pub mod Fetches
 pub mod FirstTokens
@@ -29,14 +28,11 @@ pub mod Reads
 pub mod ReadNodes
 pub mod Rolled
 pub mod Runs
-pub mod Sides
 pub mod Skips
 pub mod Sound
 pub mod Stales
-pub mod Starts
 pub mod Steps
 pub mod StreamEnds
 pub mod ToToken
 pub mod Values
 pub mod WhiteSpaces
-pub mod WithoutOpen

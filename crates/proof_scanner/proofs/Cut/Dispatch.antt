@@ -1,14 +1,45 @@
--- The next token by its first characters.
-use Rattle.proof_scanner.proofs.Common.{row, [], codes, and_false, ap, are_single, arith, At, begins_separation, Bool, class_of, comes_marker, comes_plain, eqb-true, Err, false, Fault, fetch_anchor, fetch_block_entry, fetch_block_scalar, fetch_content, fetch_directive, fetch_document_end, fetch_document_marker, fetch_first_column, fetch_flow_collection_end, fetch_flow_collection_start, fetch_flow_entry, fetch_flow_scalar, fetch_indented, fetch_key, fetch_plain_scalar, fetch_tag, fetch_token, fetch_value, has_no_nul, if◌then◌else◌, in_flow, is_at_gap, is_blank_or_breakz, is_document_marker, is_empty, is_literal, is_value, is_value_indicator, is_white, List, mark_of, may_begin, NameKind, nat_lt, not, peek, quote_of, Quotes, refl, Result, same_gap, ScannerState, slice_index, sym, Tok, token_by, true, ℕ, ◌&&◌, ◌+◌, ◌==◌, ◌||◌, ◌∙◌, ◌∷◌, ◌≡◌, nat_tests, InvalidIndentation, UnexpectedAt, UnexpectedBacktick, UnexpectedPercent, Alias, Anchor}
+-- The next token by its first characters, and what these say: the text goes on, or a document marker stands there.
+use Rattle.proof_scanner.proofs.Common.{[], Alias, Anchor, and_false, ap, are_marks, are_single, arith, At, begins_separation, begins_with, Bool, class_of, codes, comes_marker, comes_plain, eqb-true, Err, false, Fault, fetch_anchor, fetch_block_entry, fetch_block_scalar, fetch_content, fetch_directive, fetch_document_end, fetch_document_marker, fetch_first_column, fetch_flow_collection_end, fetch_flow_collection_start, fetch_flow_entry, fetch_flow_scalar, fetch_indented, fetch_key, fetch_plain_scalar, fetch_tag, fetch_token, fetch_value, has_no_nul, if◌then◌else◌, in_flow, InvalidIndentation, is_at_gap, is_blank_or_breakz, is_document_marker, is_empty, is_literal, is_nul, is_value, is_value_indicator, is_white, List, mark_of, may_begin, NameKind, nat_lt, nat_tests, not, peek, quote_of, Quotes, refl, Result, row, same_gap, ScannerState, slice_index, sym, Tok, token_by, true, UnexpectedAt, UnexpectedBacktick, UnexpectedPercent, ℕ, ◌&&◌, ◌+◌, ◌==◌, ◌||◌, ◌∙◌, ◌∷◌, ◌≡◌}
 use Rattle.yaml_chars.specs.Class.{is_blank, is_break, is_flow}
-use Rattle.defs_text.specs.Classes as classes
 use Rattle.model_scanner.specs.declared.kind.BlockStyle.{BlockStyle}
-use Rattle.model_scanner.specs.declared.kind.Collection.TheVariants.{Sequence, Mapping}
-use Rattle.model_scanner.specs.declared.kind.Quotes.TheVariants.{Single, Double}
+use Rattle.model_scanner.specs.declared.kind.Collection.TheVariants.{Mapping, Sequence}
+use Rattle.model_scanner.specs.declared.kind.Quotes.TheVariants.{Double, Single}
 use Rattle.proof_lexers.proofs.Bridges.{same_flow}
-use Rattle.proof_scanner.proofs.Cut.Nodes.{IsDeep}
+use Rattle.proof_scanner.proofs.Cut.Stoods.{IsDeep}
 use Rattle.model_scanner.specs.State.{after}
-use Rattle.proof_scanner.proofs.Cut.Fetched.{Marked, marked, no_marker}
+use Rattle.defs_text.specs.Classes as classes
+
+-- ---- keys that are too far back
+
+-- whether a text begins with a character, the model and the definitions say alike
+pub begins_here : (c : ℕ) (r : List ℕ) → (0 == c) ≡ false → (peek r == c) ≡ begins_with c r
+begins_here c a b = grind arith
+
+-- the text after a document marker of a character
+pub record Marked (c : ℕ) (a : List ℕ) : Type 0 where
+  pub more : List ℕ
+  pub is_text : a ≡ c ∷ c ∷ c ∷ more
+  pub gap : is_at_gap more ≡ true
+
+pub marked : (c : ℕ) (a : List ℕ) → (0 == c) ≡ false → comes_marker c a ≡ true → Marked c a
+unfolding comes_marker is_blank is_break
+marked c [] z h = grind arith
+marked c (x ∷ []) z h = grind arith
+marked c (x ∷ y ∷ []) z h = grind arith
+marked c (x ∷ y ∷ z ∷ more) n h = grind (arith, nat_tests, same_gap)
+
+pub no_marker : (a : List ℕ) → comes_marker 45 a ≡ false → comes_marker 46 a ≡ false → is_document_marker a ≡ false
+unfolding comes_marker are_marks is_blank is_break
+no_marker b h k = grind (arith, same_gap)
+
+-- ---- the next token
+
+pub no_end : (r : List ℕ) → has_no_nul r ≡ true → (peek r == 0) ≡ true → r ≡ []
+unfolding is_nul
+no_end a n h = grind arith
+
+pub goes_on_here : (r : List ℕ) → (peek r == 0) ≡ false → is_empty r ≡ false
+goes_on_here a h = grind arith
 
 -- ---- characters
 
@@ -91,9 +122,7 @@ module _ (Q : Result ScannerState Fault → Type 0) (t : ScannerState) (adjacent
 
   other : (c : ℕ) → IsNone told c → Reads c
   unfolding classes.is_blank_or_end classes.is_blank classes.is_break classes.is_nul classes.is_flow class_of
-  other c o more e =
-      let is_plain : token_by (class_of c) t ≡ fetch_plain_scalar t = grind (arith, o) in
-      rw is_plain (plain_here c more e (grind arith))
+  other c o more e = grind (arith, nat_tests, eqb-true, token_by, class_of, fetch_plain_scalar, plain_here)
 
   each : (c : ℕ) → Reads c
   unfolding class_of classes.is_blank classes.is_break classes.is_nul

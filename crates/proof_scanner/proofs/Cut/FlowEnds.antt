@@ -1,9 +1,22 @@
--- What the model leaves at closing brackets and commas.
-use Rattle.proof_scanner.proofs.Common.{[], allow_key, arith, before_past, begins_token, blocks_past, Bool, collection, decrease_flow_level, end_flow_pair, ends_entry, ends_spaces, false, FlowLevel, has_no_nul, Held, if◌then◌else◌, inl, is_adjacent, is_at_line_end, is_blank, is_blanks, is_break, is_pair_at, is_separation, IsAdjacent, IsPiece, Key, Keyed, length, List, no_hash, None, not, Option, other, pop, Position, refl, same_blank, Some, sym, Tok, Token, token, true, with_top, Yes, ℕ, ◌&&◌, ◌++◌, ◌+◌, ◌==◌, ◌||◌, ◌∙◌, ◌∷◌, ◌≡◌, ◌⊎◌, nat_tests, eqb-true}
-use Rattle.proof_lexers.specs.PlainEnds.{has_break}
+-- Opening brackets of flow collections, closing ones and commas.
+use Rattle.proof_scanner.proofs.Common.{[], allow_key, arith, before_past, begins_token, blocks_past, Bool, collection, decrease_flow_level, end_flow_pair, ends_entry, ends_spaces, eqb-true, false, FlowLevel, has_no_nul, has_room, Held, if◌then◌else◌, inl, is_adjacent, is_at_line_end, is_blank, is_blanks, is_break, is_pair_at, is_separation, IsAdjacent, IsPiece, Key, Keyed, length, List, nat_tests, no_hash, None, not, Option, other, pop, Position, refl, same_blank, Some, sym, Tok, Token, token, true, with_top, Yes, ℕ, ◌&&◌, ◌++◌, ◌+◌, ◌==◌, ◌||◌, ◌∙◌, ◌∷◌, ◌≡◌, ◌⊎◌}
 use Rattle.defs_token.specs.Account.{Account}
+use Rattle.proof_lexers.specs.PlainEnds.{has_break}
 use Rattle.model_scanner.specs.declared.level.FlowLevel.TheVariants.{Entry, Pair}
-use Rattle.proof_scanner.proofs.Cut.Scalars.{same_number}
+use Rattle.proof_scanner.proofs.Cut.Stoods.{same_number}
+
+-- what is said of an opening bracket
+pub record IsOpeningOf (tok : Tok) (c : ℕ) : Type 0 where
+  pub in_line : is_break c ≡ false
+  pub piece : (a : Account) (next : List ℕ) (last : Option Tok) → has_room a ≡ true → IsPiece a (c ∷ []) next last a.position tok
+
+pub opening_sequence : IsOpeningOf Tok.flow_sequence_start 91
+unfolding is_break
+opening_sequence = record { in_line = refl; piece = λ a next last h. ((refl, h), refl) }
+
+pub opening_mapping : IsOpeningOf Tok.flow_mapping_start 123
+unfolding is_break
+opening_mapping = record { in_line = refl; piece = λ a next last h. inl ((refl, h), refl) }
 
 -- ---- what the model leaves
 

@@ -1,7 +1,6 @@
 pub mod Blocks
 pub mod Directives
 pub mod Separations
-pub mod Inserted
 pub mod Names
 pub mod Plains
 pub mod Quoted

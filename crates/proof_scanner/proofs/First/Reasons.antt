@@ -183,9 +183,7 @@ of_declaration : (start : Position) (line : List ℕ) → HasName (codes "TAG") 
 of_declaration start line h = rw (h.is_name, h.is_whole) refl
 
 after_it : (start : Position) (line rest : List ℕ) → IsVersionBefore line rest → line_wrong start line ≡ tail_wrong start line rest
-after_it start line rest v =
-    let version_right : version_wrong (said line) ≡ None = number_right (leading is_decimal_digit (said line)) _ v.major v.is_major ∙ rw v.has_point (number_right (leading is_decimal_digit v.point) None v.minor v.is_minor) in
-    of_version start line v.is_version ∙ rw (version_right, v.has_point, v.is_before) refl
+after_it start line rest v = grind (arith, nat_tests, eqb-true, version_wrong, said, number_right, leading, is_decimal_digit, of_version)
 
 refusal_is : (start : Position) (line : List ℕ) (f : Fault) → IsDirectiveRefusal start line f → line_wrong start line ≡ f
 refusal_is start line f (directives.no_name e) = rw e refl

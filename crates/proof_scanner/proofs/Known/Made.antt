@@ -1,7 +1,7 @@
 -- What a step makes of a line: where a key waits after it, and how it came to wait.
 use Rattle.proof_scanner.proofs.Common.{cases_Bool, inl, inr, [], Account, account_past, Act, act_of, ap, begins_free_line, begun_by, Bool, entries_past, Entry, false, free, gives_node, has_break, if◌then◌else◌, is_in_column, is_in_flow, is_renewed, is_waiting, LikeLine, Line, line_past, line_past_separation, List, may_stand, None, on_one_line, Option, Outside, past_inside, past_outside, past_piece, Position, refl, Site, site_at, site_past, Some, Step, sym, true, waits, ℕ, ◌&&◌, ◌∙◌, ◌∷◌, ◌≡◌, arith}
 use Rattle.proof_row.proofs.RowLines.{separation_step}
-use Rattle.proof_scanner.proofs.Sound.Sides.{with_entries}
+use Rattle.proof_scanner.proofs.Sound.Arrivals.{with_entries}
 
 -- two things that are there
 pub same_of : {A : Type 0} → (a b : A) → Some a ≡ Some b → a ≡ b

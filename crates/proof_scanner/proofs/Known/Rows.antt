@@ -42,8 +42,7 @@ pub begins_whole : (text after : List ℕ) (b : Account) → after ≡ up_to_nul
 begins_whole text after b whole g = by g.steps g.leads (g.spells ∙ sym whole)
   where
     by : (ws : List Step) → Leads (Some first_account) ws after b → spelled ws after ≡ after → first_account ≡ b
-    by [] h e = h
-    by (w ∷ ws) h e = absurd (never [] ws w.separation w.piece after h.0.1.0 (sym e))
+    by a h e = grind (arith, nat_tests, eqb-true, never)
 
 -- ---- past a step
 
@@ -79,8 +78,7 @@ came_by text a w next b way written g =
         same = same_written a n.account w n.step next (spelled n.steps next) n.is_like written n.is_written (sym n.spells) n.holds.1
 
         to : (ws : List Step) → LeadsBy Same (Some n.past) ws next b → next ≡ spelled ws next → account_past n.account (With w n.step.key) (spelled ws next) ≡ Some n.past → Came text a w next b
-        to [] h e past = record { from = n.account; key = n.step.key; is_like = n.is_like; begins = n.holds.0; is_past = past ∙ ap (λ x. Some x) h }
-        to (v ∷ ws) h e past = absurd (never [] ws v.separation v.piece next h.2.1.0 e)
+        to a h e past = grind (arith, nat_tests, eqb-true, never)
 
 -- ---- ways to where a piece begins
 
@@ -158,8 +156,7 @@ walk J R keeps vs ws after last x y a i h leads row e clean = by (meet J Same R 
     by (second_on n) = record { account = n.account; is_like = n.is_like; holds = n.holds; steps = n.step ∷ n.steps; last = last; is_row = (n.is_written, rw n.is_past (leads_row n.steps last (Some n.past) end.account n.leads end.is_filled end.may)); spells = n.spells; is_clean = clean_after vs after clean }
 
 pub row_walks : (J : Account → Account → Type 0) (R : Account → Account → List ℕ → Type 0) → KeepsOn J Same R → (text after : List ℕ) (a : Account) (r : Row) → R first_account first_account (up_to_nul text) → Way J text after a → HasRow text r → Walked R a after
-row_walks J R keeps text after a r p way h =
-    walk J R keeps way.steps r.steps after r.last first_account first_account a (refl, tt, tt) (rw way.spells p) way.leads h.1 (way.spells ∙ sym h.0) (rw way.spells (clean_up_to_end text))
+row_walks J R keeps text after a r p way h = grind (arith, nat_tests, eqb-true, walk, first_account, clean_up_to_end)
 
 -- ---- past a step
 

@@ -1,5 +1,5 @@
 -- Two ways through one text: each beginning of a row goes through the place of the other, or the other goes on past its own. A way may give up a key that waits.
-use Rattle.proof_scanner.proofs.Common.{[], Account, account_past, account_step, ap, Begins, BeginsButForKey, Bool, Entry, first_account, free, has_no_nul, is_in_column, IsLike, IsWritten, Leads, LikeEntries, List, no_nul_after, None, Option, Position, refl, same_written, Some, spelled, Step, Stepped, subst, sym, taken, true, up_to_nul, waits, ℕ, ◌++◌, ◌∙◌, ◌∷◌, ◌≡◌, arith}
+use Rattle.proof_scanner.proofs.Common.{[], Account, account_past, account_step, ap, Begins, BeginsButForKey, Bool, Entry, first_account, free, has_no_nul, is_in_column, IsLike, IsWritten, Leads, LikeEntries, List, no_nul_after, None, Option, Position, refl, same_written, Some, spelled, Step, Stepped, subst, sym, taken, true, up_to_nul, waits, ℕ, ◌++◌, ◌∙◌, ◌∷◌, ◌≡◌, arith, nat_tests, eqb-true}
 use Rattle.defs_token.specs.Piece.{Holds}
 
 -- ---- accounts that are alike
@@ -121,8 +121,7 @@ pub record KeepsOn (J K : Account → Account → Type 0) (R : Account → Accou
 
 -- steps lead on from an account
 pub leads_on : (J : Account → Account → Type 0) (o : Option Account) (ws : List Step) (after : List ℕ) (b : Account) → LeadsBy J o ws after b → (c : Account) × (o ≡ Some c) × LeadsBy J (Some c) ws after b
-leads_on J None ws after b h = absurd h
-leads_on J (Some c) ws after b h = (c, refl, h)
+leads_on a d ws after b h = grind (arith, nat_tests, eqb-true)
 
 module _ (J K : Account → Account → Type 0) (R : Account → Account → List ℕ → Type 0) (keeps : KeepsOn J K R) where
   pub meet : (vs ws : List Step) (after1 after2 : List ℕ) (x y a b : Account) → IsLike x y → R x y (spelled vs after1) → LeadsBy J (Some x) vs after1 a → LeadsBy K (Some y) ws after2 b → spelled vs after1 ≡ spelled ws after2 → Holds (has_no_nul (spelled vs after1)) → Meet J K R a b after1 after2

@@ -37,8 +37,7 @@ more_stands (c ∷ s) d r b e f g = grind (arith, nat_tests, more_stands s d r)
 
 pub not_done : (s : List ℕ) (d : ℕ) (r : List ℕ) → is_blanks s ≡ true → is_break d ≡ false → is_blank d ≡ false → (d == 35) ≡ false → line_is_done (s ++ d ∷ r) ≡ false
 unfolding is_blank is_break
-not_done [] d r b e f g = rw (e, f, g) refl
-not_done (c ∷ s) d r b e f g = grind (arith, nat_tests, more_stands s d r)
+not_done a d r b e f g = grind (arith, nat_tests, eqb-true, more_stands)
 
 -- what stands after the blanks and a comment may follow
 follows : (flow : Bool) (piece s rest : List ℕ) (same : Bool) → (has_break piece ≡ false → same ≡ true) → is_separation false s rest ≡ true → plains.has_break s ≡ false → ends_spaces Yes rest ≡ true → quoted_may_end flow piece (s ++ rest) ≡ true → may_follow_quoted flow same (peek rest) ≡ true

@@ -16,8 +16,7 @@ use Rattle.defs_token.specs.FlowEntry as entry
 
 pub marker_begins : (a : pieces.Account) (p x : List ℕ) (f : Option Tok) (m : Position) (t : Tok) → IsPiece a p x f m t → is_marker (act_of t) ≡ true → begins_document_at a.position (p ++ x) ≡ true
 marker_begins a p x f m t h k =
-    let line_begins : (p x : List ℕ) (d : Directive) → directive_of p ≡ Some d → begins_with 37 (p ++ x) ≡ true = λ p x d e. let b = directive_begins p d e in ap (λ z. begins_with 37 (z ++ x)) b.1 in
-    grind (arith, nat_tests, eqb-true, line_begins, or_true, dash_marks, dot_marks)
+    grind (arith, nat_tests, eqb-true, directive_of, begins_with, directive_begins, or_true, dash_marks, dot_marks)
 
 -- entries that are alike are as many
 pub many_alike : (ds es : List Entry) → LikeEntries ds es → length ds ≡ length es
@@ -104,9 +103,7 @@ module _ {a : Account} {separation rest : List ℕ} {here : Position} (s : StepA
   KindOf r = Here (kind_at (pieces.is_in_flow acct) (is_adjacent acct.before) acct.position.col r)
 
   pub whole_at : KindOf rest
-  whole_at =
-      let some = not_empty s.step.piece s.is_written.1.0 in
-      subst KindOf s.text_is (subst Here (sym (texts_begin acct s.step.piece s.next None spot s.step.shown some is_piece)) (piece_of acct s.step.piece s.next None spot s.step.shown some is_piece))
+  whole_at = grind (arith, nat_tests, eqb-true, not_empty, texts_begin, acct, spot, is_piece, piece_of)
 
   -- so does its first character
   pub whole_by : (c : ℕ) (more : List ℕ) → rest ≡ c ∷ more → KindOf (c ∷ more)
@@ -284,9 +281,7 @@ module _ {a : Account} {separation rest : List ℕ} {here : Position} (s : StepA
   -- ---- where a piece stands
 
   too_shallow : (t : Tok) (x : Site) → is_marker (act_of t) ≡ false → nat_le (least_column x.blocks x.awaits) x.position.col ≡ false → (is_marker (act_of t) || nat_le (least_for t x) x.position.col) ≡ false
-  too_shallow t x e f =
-      let least_at_most : least_column x.blocks x.awaits ≤ least_for t x = grind arith in
-      ap (λ b. b || nat_le (least_for t x) x.position.col) e ∙ (let up = least_at_most in grind (arith, nat_tests, up, f))
+  too_shallow t x e f = grind (arith, nat_tests, eqb-true, least_column, least_for, nat_le)
 
   no_room : 255 ≤ length a.entries → nat_lt (length acct.levels) 255 ≡ true → ⊥
   no_room many room = grind (arith, nat_tests, many, room, (length-map s.account.entries level_of ∙ sym (many_alike a.entries s.account.entries s.is_like.2)))

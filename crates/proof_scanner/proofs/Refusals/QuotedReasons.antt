@@ -410,10 +410,7 @@ module _ (single : Bool) (least : ℕ) (start : Position) where
       open_here = grind arith
 
       by_kind : (e : Spelled) → element_of single c b ≡ Some e → Kind single c b e → judge 0 s p (c ∷ b) ≡ Some (QuotedIndentation, start)
-      by_kind e is (has_content code k g) = rw (none, is, open_here, low) refl
-      by_kind e is (has_blank f g) = absurd (not_solid c b (rw (f, g) refl) solid)
-      by_kind e is (has_line f) = absurd (not_solid c b (rw f refl) solid)
-      by_kind e is (has_escaped d a double same_c same_b f) = rw (none, is, open_here, low) refl
+      by_kind e is b = grind (arith, nat_tests, eqb-true, open_here, not_solid)
 
       by : (o : Option Spelled) → element_of single c b ≡ o → judge 0 s p (c ∷ b) ≡ Some (QuotedIndentation, start)
       by None is = rw (none, is, further, low) refl
@@ -429,10 +426,7 @@ module _ (single : Bool) (least : ℕ) (start : Position) where
 
   closed_judged : (s : LineStand) (p : Position) (next : List ℕ) → ends_before single next ≡ true → all_stand least s p.col (before_quote s) ≡ true → is_marked p (quote_of single ∷ next) ≡ false → judge 0 s p (quote_of single ∷ next) ≡ None
   unfolding single_quoted_element double_quoted_element classes.is_nul
-  closed_judged s p next ends fit none =
-      -- where a scalar ends, no element begins with the quote
-      let quote_ends : (single : Bool) (next : List ℕ) → ends_before single next ≡ true → element_of single (quote_of single) next ≡ None = λ a next ends. grind arith in
-      grind (arith, nat_tests, quote_ends)
+  closed_judged s p next ends fit none = grind (arith, nat_tests, eqb-true, ends_before, element_of, quote_of)
 
   -- Nothing but a marker is wrong where a body stands whose lines are indented, and its closing quote.
   pub not_closed : (s : LineStand) (p : Position) (body next : List ℕ) (es : List Element) → ends_before single next ≡ true → elements (element_of single) 0 body ≡ Some es → all_stand least s p.col (es ++ before_quote (past_elements s es)) ≡ true

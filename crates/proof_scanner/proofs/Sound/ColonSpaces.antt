@@ -3,7 +3,7 @@ use Rattle.proof_scanner.proofs.Common.{arith, Bool, Held, Holds, List, Ok, Scan
 use Rattle.yaml_chars.specs.Class.{is_alpha}
 use Rattle.defs_text.specs.Classes as classes
 use Rattle.proof_scanner.proofs.Sound.Blanks.{line_rest_cut, line_rest_fills, line_rest_in_line, past_rest, rest_read}
-use Rattle.proof_scanner.proofs.Cut.Fetched.{begins_here}
+use Rattle.proof_scanner.proofs.Cut.Dispatch.{begins_here}
 
 -- what is read after a colon, and the text after that
 abbrev pub colon_gap : List ℕ → List ℕ

@@ -1,10 +1,9 @@
 -- Commas and closing brackets: what holds where they begin holds between two fetches after them. Outside flow they close nothing.
 use Rattle.proof_scanner.proofs.Common.{[], adjacent_in_flow, another, ap, append_assoc, AreLevels, arith, Arrives, before_by, before_past, begin_flow, begins_with, blanks_and_comment, Bool, Collection, columns, end_entry, end_flow, ends_spaces, entries_by, Entry, eqb-true, false, fetch_flow_collection_end, fetch_flow_collection_start, fetch_flow_entry, first_entry, flow_collection, flow_end, flow_level, flow_start, FlowLevel, free, gives_closing, gives_comma, gives_node, has_no_nul, has_open_level, Held, Holds, if◌then◌else◌, in_block, in_flow, increase_flow_level, Indent, is_blank, is_empty, is_required, IsAdjacent, IsPairOf, Key, least_for, length, level_of, Line, List, map, Mapping, nat_le, nat_lt, no_nul_after, no_pair, None, not, on_held, Option, other, pair_end, past, past_blanks_and_comment, past_line_rest, Position, position_after, position_in_line, Previous, previous_by, push, put, refl, refused, remove_implicit_key, roll_one_col_indent, ScannerState, seen, Site, site_here, site_in, Some, subst, suc, sym, taken, Tok, Token, top_key, true, went, with_top, Yes, ℕ, ◌++◌, ◌∙◌, ◌∷◌, ◌≡◌, ◌⊎◌, kind_of, length-map, inr, is_break, append-nil}
-use Rattle.proof_scanner.proofs.Cut.FlowEnds.{adjacent_collection, closed_tokens, ended_is, ended_now, ends_by_comma, ends_mapping, ends_sequence, entry_is, entry_now, IsEndOf}
+use Rattle.proof_scanner.proofs.Cut.FlowEnds.{adjacent_collection, closed_tokens, ended_is, ended_now, ends_by_comma, ends_mapping, ends_sequence, entry_is, entry_now, IsEndOf, IsOpeningOf, opening_mapping, opening_sequence}
 use Rattle.proof_scanner.proofs.Sound.Steps.{exactly, held_exactly, Onward, adjacent_kept, ArrivesBy, by_sides, deep_for, indicator_end, indicator_passed, is_clear, IsDeep, IsRead, IsToken, key_gone, keyless, keyless_tokens, keys_along, line_rest_cut, line_rest_fills, line_rest_in_line, low_enough, many_around, node_read, numbered_then, past_it, past_rest_is_clear, past_step, quiet_before, read_outside, reads_before_none, reads_in_line, same_has_break, saved_is, saved_keys, site_of, site_then, steps_in_flow, tokens_before, with_entries, goes_inside, line_taken, Reads}
 use Rattle.model_scanner.specs.State.{after}
 use Rattle.model_scanner.specs.declared.level.FlowLevel.TheVariants.{Entry as InEntry}
-use Rattle.proof_scanner.proofs.Cut.Flows.{IsOpeningOf, opening_mapping, opening_sequence}
 
 -- what the last piece was, after one
 abbrev pub previous_of : (closes : Bool) → Previous
@@ -124,21 +123,15 @@ module _ (text more : List ℕ) (tok : Tok) (c : ℕ) (i : IsCloser true tok c) 
   closer_stands =
       let q = quiet_before (previous_by tok) end gap left (inr i.previous) (line_rest_in_line more) in
       let far = adjacent_kept t (record past_closer { held = record past_closer.held { adjacent_value_at = t.held.adjacent_value_at } }) other (c ∷ []) more gap refl (indicator_end t.held.position c more i.is_end.in_line) a.was_adjacent refl refl in
-      steps_in_flow text t past_closer f fs k ks e es a (c ∷ []) more tok ks es fs gap
+      steps_in_flow text t past_closer f fs k ks e es a (c ∷ []) more tok ks es (λ _. false) (λ cs. cs) (λ _. false) fs gap
       (reads_in_line t past_closer _ (c ∷ []) more gap refl cut (line_rest_cut more) (line_rest_fills more) (line_rest_in_line more) (indicator_end t.held.position c more i.is_end.in_line) refl (inr i.previous) a.blocks_are
       (i.awaits true x.blocks x.awaits more ∙ a.awaits_is) a.are_levels adjacent_after (grind arith) (refl, refl))
-      (grind (arith, q, line_taken text t f fs k ks e es a, numbered_then a.tokens past_closer.held.tokens k ks own_tokens (sym tokens_are) a.are_numbered)) (record {
-        is_piece = rw (i.shown x (c ∷ []) more) (i.is_end.piece (seen (with_entries a.site a.line (e ∷ es)) x a.separation) more None refl);
-        stands = rw (a.is_indented (ap is_empty cut), deep_for true tok x (i.least x) (low_enough text t f fs (k ∷ ks) (e ∷ es) a deep), i.lines (least_for tok x) (c ∷ []), i.precedes true x.blocks (c ∷ []) more, hash) refl;
-        choice = λ cs. false;
-        outer = λ cs. cs;
-        bit = λ cs. false;
-        entry_past = λ cs. rw i.act (grind arith);
-        tokens_are = λ cs l ws last h.
-            let along = keys_along (λ n. suc n) (λ n. n) (λ n. refl) (λ n. refl) 0 a.site.position (past_step a.site.position (keyless a.separation (c ∷ []) tok) ws last)
-            (keyless a.separation (c ∷ []) tok) ws last (λ n. rw i.act refl) a.site.blocks l (entries_by cs ks es) ks in
-            grind (arith, keyless_tokens text t f fs k ks e es a (c ∷ []) more tok cut l (entries_by cs ks es) ws last h, tokens_are, i, along);
-      })
+      (grind (arith, q, line_taken text t f fs k ks e es a, numbered_then a.tokens past_closer.held.tokens k ks own_tokens (sym tokens_are) a.are_numbered))
+      (let low = low_enough text t f fs (k ∷ ks) (e ∷ es) a deep in let piece = i.is_end.piece (seen (with_entries a.site a.line (e ∷ es)) x a.separation) more None refl in
+      grind (arith, i, a.is_indented (ap is_empty cut), deep_for, low, hash, piece)) (λ cs l ws last h.
+      let along = keys_along (λ n. suc n) (λ n. n) (λ n. refl) (λ n. refl) 0 a.site.position (past_step a.site.position (keyless a.separation (c ∷ []) tok) ws last)
+      (keyless a.separation (c ∷ []) tok) ws last (λ n. rw i.act refl) a.site.blocks l (entries_by cs ks es) ks in
+      grind (arith, keyless_tokens text t f fs k ks e es a (c ∷ []) more tok cut l (entries_by cs ks es) ws last h, tokens_are, i, along))
 
 -- ---- the functions of the model that read commas and closing brackets keep what holds where they begin
 

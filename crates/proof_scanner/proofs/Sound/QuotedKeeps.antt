@@ -5,7 +5,7 @@ use Rattle.proof_lexers.specs.PlainEnds as plains
 use Rattle.proof_lexers.proofs.Quoted.ScanEnds.{scans_end}
 use Rattle.proof_scanner.proofs.Cut.Pieces.Quoted.{some_chars}
 use Rattle.proof_scanner.proofs.Sound.Steps.{ArrivesBy, Checked, Cleared, Exact, IsAt, IsDeep, IsRead, IsToken, Onward, break_append, deep_for, ends_in_line, exact, least_is, node_read, not_before_after, on_one_line, quoted_checked, same_has_break, saved_is, saved_keys, separation_append, site_of, site_then, skip_clears, some_levels, unbroken}
-use Rattle.proof_scanner.proofs.Cut.Scalars.{adjacent_quoted}
+use Rattle.proof_scanner.proofs.Cut.Stoods.{adjacent_quoted}
 use Rattle.proof_lexers.proofs.Bridges.{or_false}
 use Rattle.proof_scanner.proofs.Sound.QuotedBreaks.{same_limit}
 use Rattle.proof_scanner.proofs.Refusals.QuotedLines.{body_read}

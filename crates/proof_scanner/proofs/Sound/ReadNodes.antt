@@ -177,23 +177,20 @@ module _ (text : List ℕ) (t u : ScannerState) (level : Option FlowLevel) (f : 
       let place = here_is text t u level (f ∷ fs) (k ∷ ks) (e ∷ es) a tok piece gap r in
       let own = numbered_inside t a.tokens k ks shown_token (tokens_before text t f fs k ks e es a) a.are_numbered t.held.key_allowed in
       let numbered = begun_numbered level (length (t.held.tokens ++ (shown_token ∷ []))) (key_past ∷ ks) own in
-      steps_in_flow text t u f fs k ks e es a piece (gap ++ u.rest) tok (with_no_key level (key_past ∷ ks)) (with_begun level (n ∷ es)) (levels_by level (f ∷ fs)) gap r.reads
+      steps_in_flow text t u f fs k ks e es a piece (gap ++ u.rest) tok (with_no_key level (key_past ∷ ks)) (with_begun level (n ∷ es))
+      (λ cs. choice_before t.held.key_allowed (first_choice (choices_around level cs))) (λ cs. pop (choices_around level cs)) (λ cs. bit_of t.held.key_allowed (first_choice (choices_around level cs))) (levels_by level (f ∷ fs)) gap r.reads
       (grind (arith, keys_saved t k ks keys, r, entries_then level r.is_begun r.allowed_is, line_taken text t f fs k ks e es a, r.one_line, numbered)) (record {
         is_piece = rw (r.shown (site_of t (f ∷ fs) a.site)) r.is_piece;
         stands = stands_here text t u level (f ∷ fs) (k ∷ ks) (e ∷ es) a tok piece gap r;
-        choice = λ cs. choice_before t.held.key_allowed (first_choice (choices_around level cs));
-        outer = λ cs. pop (choices_around level cs);
-        bit = λ cs. bit_of t.held.key_allowed (first_choice (choices_around level cs));
         entry_past = λ cs. rw (r.act, r.begun) (node_in_entry (is_renewed a.site.before a.separation) t.held.key_allowed (first_choice (choices_around level cs)) k (new_key t) e t.held.position (with_begun level []) (entries_by (pop (choices_around level cs)) ks es) a.are_entries.1 refl ∙
             ap (λ xs. Some xs) (grind arith));
-        tokens_are = λ cs l ws last h.
-            let c : Bool = first_choice (choices_around level cs) in
-            let xs : List Entry = entries_by (pop (choices_around level cs)) ks es in
-            node_tokens level a.site a.separation piece (gap ++ u.rest) tok t.held.key_allowed c k (new_key t) e xs ks t.held.position a.tokens u.held.tokens l ws last r.act r.begun (grind arith)
-            (ap length (tokens_before text t f fs k ks e es a)) (among (length a.tokens) (k ∷ ks) a.are_numbered) h place (r.shown (site_of t (f ∷ fs) a.site)) refl
-            (r.tokens_are ∙ ap (λ ts. ts ++ (shown_token ∷ [])) (tokens_before text t f fs k ks e es a)) ∙
-            ap (λ ys. with_keys 0 (past_step a.site.position (record { separation = a.separation; piece = piece; shown = tok; key = bit_of t.held.key_allowed c }) ws last) ws last a.site.blocks l ys (with_no_key level (key_past ∷ ks)) u.held.tokens) (grind arith);
-      })
+      }) (λ cs l ws last h.
+      let c : Bool = first_choice (choices_around level cs) in
+      let xs : List Entry = entries_by (pop (choices_around level cs)) ks es in
+      node_tokens level a.site a.separation piece (gap ++ u.rest) tok t.held.key_allowed c k (new_key t) e xs ks t.held.position a.tokens u.held.tokens l ws last r.act r.begun (grind arith)
+      (ap length (tokens_before text t f fs k ks e es a)) (among (length a.tokens) (k ∷ ks) a.are_numbered) h place (r.shown (site_of t (f ∷ fs) a.site)) refl
+      (r.tokens_are ∙ ap (λ ts. ts ++ (shown_token ∷ [])) (tokens_before text t f fs k ks e es a)) ∙
+      ap (λ ys. with_keys 0 (past_step a.site.position (record { separation = a.separation; piece = piece; shown = tok; key = bit_of t.held.key_allowed c }) ws last) ws last a.site.blocks l ys (with_no_key level (key_past ∷ ks)) u.held.tokens) (grind arith))
 
 -- ---- both
 

@@ -1,5 +1,21 @@
--- Where a block collection begins, and where the value of an entry is awaited: the levels of indentation, and the columns of the block collections.
-use Rattle.proof_scanner.proofs.Common.{AreCollections, AreLevels, Held, Indent, IsNotRight, List, Option, Position, Tok, Token, [], arith, columns, deepen, drop_open, drop_open_level, false, has_open_level, if◌then◌else◌, in_block, in_flow, innermost, is_deeper, is_empty, nat_le, nat_lt, opened, placed, refl, roll_indent, roll_one_col_indent, sym, token, top_needs_block_end, true, ℕ, ◌+◌, ◌∷◌, ◌≡◌, ◌≤◌, eqb-true, nat_tests, nat_tests}
+-- The levels of indentation: without those at the top that open no collection; where a block collection begins; and where the value of an entry is awaited.
+use Rattle.proof_scanner.proofs.Common.{[], AreCollections, AreLevels, arith, columns, deepen, drop_open, drop_open_level, eqb-true, false, has_open_level, Held, if◌then◌else◌, in_block, in_flow, Indent, innermost, is_deeper, is_empty, IsNotRight, Levels, List, nat_le, nat_lt, nat_tests, opened, Option, placed, Position, refl, roll_indent, roll_one_col_indent, sym, Tok, Token, token, top_needs_block_end, true, without_open, ℕ, ◌+◌, ◌∷◌, ◌≡◌, ◌≤◌}
+use Rattle.proof_scanner.proofs.Sound.BlockEnds.{IsLeast}
+
+-- What is known of these levels.
+pub record AreClosed (i : ℕ) (ds : List Indent) (ts : List Token) (u : Levels) : Type 0 where
+  pub same_tokens : u.tokens ≡ ts
+  pub same_columns : columns i ds ≡ columns u.indent u.indents
+  pub are_levels : AreLevels u.indent u.indents
+  pub not_deeper : u.indent ≤ i
+  pub none_open : has_open_level u.indents ≡ false
+  pub is_least : IsLeast u.indent (columns u.indent u.indents)
+
+pub without_is : (i : ℕ) (ds : List Indent) (ts : List Token) → AreLevels i ds → AreClosed i ds ts (without_open i ds ts)
+unfolding without_open
+without_is i a ts b = grind arith
+
+-- ---- where a block collection begins
 
 -- a column is deeper than the innermost collection just where it is deeper than its level
 pub deeper_is : (col i : ℕ) (ds : List Indent) → AreCollections i ds → is_deeper col (columns i ds) ≡ nat_lt i (col + 1)

@@ -1,7 +1,11 @@
 -- Keys that are too far back are dropped: what holds between two fetches still holds, without them.
-use Rattle.proof_scanner.proofs.Common.{Account, AreEntries, Bool, Entry, FlowLevel, Held, Holds, IsCarriedOn, IsCutUpTo, IsNear, Key, List, MayChoose, None, Option, ScannerState, SoFar, Some, Stands, Step, Token, [], ap, arith, chosen, drop_stale, either, false, have_no_key, in_flow, is_empty, is_far, is_waiting, length, not-false, refl, refused, stale, subst, suc, tokens_from, tokens_up_to, true, went, ℕ, ◌++◌, ◌∙◌, ◌∷◌, ◌≡◌, StandsWith}
+use Rattle.proof_scanner.proofs.Common.{[], Account, ap, append_assoc, AreEntries, arith, Arrives, Bool, chosen, drop_stale, either, Entry, false, first_position, FlowLevel, have_no_key, Held, Holds, in_flow, is_empty, is_far, is_renewed, is_waiting, IsCarriedOn, IsCutUpTo, IsNear, IsPositionIn, Key, length, List, MayChoose, None, not-false, Option, Position, position_after, position_append, refl, refused, ScannerState, SoFar, Some, stale, Stands, StandsWith, Step, subst, suc, sym, Token, tokens_from, tokens_up_to, true, up_to_nul, went, ℕ, ◌++◌, ◌∙◌, ◌∷◌, ◌≡◌}
 use Rattle.proof_scanner.proofs.Known.Steps.{known_far}
-use Rattle.proof_scanner.proofs.Sound.Common.{with_entries, may_be_no_key, none_chosen, none_put, stands_by}
+use Rattle.proof_scanner.proofs.Sound.Common.{may_be_no_key, none_chosen, none_put, stands_by, with_entries}
+use Rattle.defs_token.specs.Account.{first_account}
+use Rattle.defs_token.specs.Cut.{spelled}
+use Rattle.proof_scanner.proofs.Cut.Positions.{row_position, spelled_before}
+use Rattle.proof_scanner.proofs.Sound.StreamEnds.{entries_no_key}
 
 -- rows are completed alike by tokens that are alike
 pub completes_alike : (strict : Bool) (text after : List ℕ) (a : Account) (T U : List Step → List ℕ → List Token) → ((ws : List Step) (last : List ℕ) → T ws last ≡ U ws last) → SoFar strict text after a T → SoFar strict text after a U
@@ -53,3 +57,25 @@ stale_stands text u s = grind (arith, either, went, not-false, one_key, key_drop
 pub keys_only : (s : Held) → Holds (λ h. h ≡ record s { keys = h.keys }) (stale s)
 unfolding stale
 keys_only s = either (in_flow s) (λ _. went refl) (λ _. (grind (arith, went, refused)))
+
+-- ---- the tokens so far are a cut of the text up to the last piece, and the position is that after the text that was passed
+
+-- between two fetches
+pub stands_cut : (text : List ℕ) (t : ScannerState) → (s : Stands text t) → IsCutUpTo text (s.separation ++ t.rest) s.base t.held.tokens
+stands_cut text t s =
+    (none_completes false text (s.separation ++ t.rest) s.base t.held.keys t.held.tokens s.no_key (entries_no_key t.held.key_allowed (is_renewed s.base.site.before s.separation) t.held.flow t.held.keys s.base.entries s.are_entries)
+    (s.completes false false [] (grind arith))).1 [] (s.separation ++ t.rest) refl
+
+-- where a piece begins, or at the text's end
+pub arrives_cut : (text : List ℕ) (t : ScannerState) → (a : Arrives text t) → IsCutUpTo text (a.separation ++ t.rest) a.base a.tokens
+arrives_cut text t a =
+    (none_completes false text (a.separation ++ t.rest) a.base t.held.keys a.tokens a.no_key (entries_no_key t.held.key_allowed (is_renewed a.base.site.before a.separation) t.held.flow t.held.keys a.base.entries a.are_entries)
+    (a.completes false false [] (grind arith))).1 [] (a.separation ++ t.rest) refl
+
+-- the position after a separation that was read after a cut
+pub cut_position : (text separation rest : List ℕ) (a : Account) (ts : List Token) (p : Position) → up_to_nul text ≡ text → p ≡ position_after a.site.position separation rest → IsCutUpTo text (separation ++ rest) a ts → IsPositionIn text rest p
+cut_position text separation rest a ts p whole e c = record {
+  before = spelled c.row [] ++ separation;
+  is_text = sym whole ∙ sym c.is_text ∙ spelled_before c.row (separation ++ rest) ∙ sym (append_assoc (spelled c.row []) separation rest);
+  is_position = e ∙ ap (λ q. position_after q separation rest) (sym (ap (λ b. b.position) c.is_row.past) ∙ row_position first_account c.row (separation ++ rest)) ∙ sym (position_append first_position (spelled c.row []) separation rest);
+}

@@ -3,8 +3,7 @@ use Rattle.proof_scanner.proofs.Common.{Site, AreEntries, BeginsButForKey, Bool,
 use Rattle.proof_lexers.specs.PlainEnds as plain_ends
 use Rattle.proof_lexers.proofs.Separation.EachSeparation.{no_nul_after}
 use Rattle.proof_scanner.proofs.Sound.Steps.{Cleared, Exact, IsAt, IsIn, Spaced, column_after, exact, free_line_append, goes_on, index_after, known_past, last_whole, least_is, live_before_it, may_before, no_comment_in_last, not_before_after, read_on_append, renewed_alike, same_has_break, separation_append, skip_clears, skip_stays, stands_by, unbroken}
-use Rattle.proof_scanner.proofs.Cut.Heres.{before_both}
-use Rattle.proof_scanner.proofs.Cut.Stoods.{adjacent_filled}
+use Rattle.proof_scanner.proofs.Cut.Stoods.{before_both, adjacent_filled}
 
 -- ---- where the way begins
 

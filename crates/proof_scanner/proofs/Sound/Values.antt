@@ -199,17 +199,10 @@ module _ (text more : List ℕ) (t : ScannerState) (f : FlowLevel) (fs : List Fl
   inner_stands its_line =
       let numbered : AreNumbered (length inner_after.held.tokens) ks =
       numbered_more (length a.tokens) (length inner_after.held.tokens) ks (grind (arith, key_longer, tokens_before, length-append)) (numbered_around (length a.tokens) (Some k) ks a.are_numbered) in
-      steps_in_flow text t inner_after f fs (Some k) ks x es a (58 ∷ []) more Tok.value (None ∷ ks) (valued_entry x ∷ es) (pair_level InPair f ∷ fs) (colon_gap more)
+      steps_in_flow text t inner_after f fs (Some k) ks x es a (58 ∷ []) more Tok.value (None ∷ ks) (valued_entry x ∷ es) (λ _. true) pop (λ _. false) (pair_level InPair f ∷ fs) (colon_gap more)
       (colon_reads t more t.held.indents t.held.indent (in_pair (opens_pair (f ∷ fs))) false (pair_level InPair f ∷ fs) (None ∷ ks) _ e refl refl a.blocks_are a.awaits_is a.are_levels a.was_adjacent)
-      (grind (arith, single_is, line_taken text t f fs (Some k) ks x es a, numbered)) (record {
-        is_piece = (refl, ind);
-        stands = rw (a.is_indented (ap is_empty e), low_enough text t f fs (Some k ∷ ks) (x ∷ es) a deep, apart) refl;
-        choice = λ cs. true;
-        outer = pop;
-        bit = λ cs. false;
-        entry_past = λ cs. (grind (arith, (single_is f fs (Some k) x a.are_entries.0)));
-        tokens_are = inner_tokens;
-      })
+      (grind (arith, single_is, line_taken text t f fs (Some k) ks x es a, numbered))
+      (let low = low_enough text t f fs (Some k ∷ ks) (x ∷ es) a deep in grind (arith, ind, a.is_indented (ap is_empty e), low, apart, single_is f fs (Some k) x a.are_entries.0)) inner_tokens
 
   pub keyed_inside : k.position.line ≤ t.held.position.line → Holds (Onward text t.rest) (value_by more t (f ∷ fs) (Some k ∷ ks))
   keyed_inside early = exactly _ (held_exactly (record { rest = past_gap more; held = at_value more t (f ∷ fs) (Some k ∷ ks) }) (pair_begun f early)) (λ its_line. went (inner_stands its_line))

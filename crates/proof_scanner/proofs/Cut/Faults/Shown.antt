@@ -3,7 +3,7 @@ use Rattle.proof_scanner.proofs.Common.{[], account_past_separation, ap, arith, 
 use Rattle.defs_token.specs.Account.{Account}
 use Rattle.proof_row.proofs.CutPieces.{account_by}
 use Rattle.proof_row.proofs.CutSteps.{somes, with_key, levels_in}
-use Rattle.proof_scanner.proofs.Sound.CutsSoFar.{arrives_cut}
+use Rattle.proof_scanner.proofs.Sound.Stales.{arrives_cut}
 use Rattle.proof_scanner.specs.NoPiece as none
 use Rattle.proof_scanner.specs.Failing as failing
 use Rattle.proof_lexers.specs.DirectiveEnds as directives

@@ -1,5 +1,5 @@
 -- What the scan of a block scalar reads is its piece.
-use Rattle.proof_scanner.proofs.Common.{cases_Bool, [], and_false, ap, arith, begins_with, Block, block, block_position, block_read, BlockIsRead, BlockRead, BlockStyle, collection_column, collection_of, false, folded, further_position, has_no_nul, if◌then◌else◌, indicator_of, inl, inr, is_at_end, is_blank, is_empty, is_literal_style, is_nul, is_past, is_separation, IsBlockRead, IsPiece, List, literal, nat_lt, nat_tests, Ok, Option, past_spaces, Position, position_after, position_past, Read, read_as, ReadAs, refl, scalar, Some, split, Style, subst, Tok, true, whole_block, without_spaces, ℕ, ◌++◌, ◌<◌, ◌==◌, ◌∙◌, ◌∷◌, ◌≡◌, ◌⊎◌, further_is_no_break, line_grows}
+use Rattle.proof_scanner.proofs.Common.{cases_Bool, [], and_false, ap, arith, begins_with, Block, block, block_position, block_read, BlockIsRead, BlockRead, BlockStyle, collection_column, collection_of, false, folded, further_position, has_no_nul, if◌then◌else◌, indicator_of, inl, inr, is_at_end, is_blank, is_empty, is_literal_style, is_nul, is_past, is_separation, IsBlockRead, IsPiece, List, literal, nat_lt, nat_tests, Ok, Option, past_spaces, Position, position_after, position_past, Read, read_as, ReadAs, refl, scalar, Some, split, Style, subst, Tok, true, whole_block, without_spaces, ℕ, ◌++◌, ◌<◌, ◌==◌, ◌∙◌, ◌∷◌, ◌≡◌, ◌⊎◌, further_is_no_break, line_grows, eqb-true}
 use Rattle.model_scanner.specs.declared.kind.BlockStyle.TheVariants.{Literal, Folded}
 use Rattle.defs_text.specs.Classes.{space}
 use Rattle.defs_token.specs.Account.{Account, is_in_flow}
@@ -7,7 +7,7 @@ use Rattle.proof_lexers.specs.BlockScan.{read}
 use Rattle.proof_lexers.proofs.Blocks.Ends.{scans_end}
 use Rattle.proof_lexers.proofs.Separation.EachSeparation.{no_nul_after}
 use Rattle.proof_scanner.proofs.Cut.Pieces.Quoted.{some_chars}
-use Rattle.proof_scanner.proofs.Cut.Pieces.Inserted.{line_ended}
+use Rattle.proof_scanner.proofs.Cut.Positions.{line_ended}
 
 -- ---- the spaces after a piece
 
@@ -42,10 +42,7 @@ pub some_piece : (collection : Option ℕ) (piece next : List ℕ) (b : BlockRea
 some_piece a d e b h = grind arith
 
 pub piece_has_line : (collection : Option ℕ) (piece next : List ℕ) (b : BlockRead) → is_at_end next ≡ false → block_read collection piece next ≡ Some b → (is_empty (split piece).complete ≡ false) × (begins_with 10 next ≡ false)
-piece_has_line collection piece next b e h =
-    -- after the last line stands no line feed
-    let past_text : (column : ℕ) (next : List ℕ) → is_at_end next ≡ false → is_past column next ≡ true → begins_with 10 next ≡ false = λ column next e h. further_is_no_break column next (rw e at h) in
-    grind (arith, past_text)
+piece_has_line collection piece next b e h = grind (arith, nat_tests, eqb-true, is_at_end, is_past, begins_with, further_is_no_break)
 
 -- ---- the piece
 

@@ -1,5 +1,5 @@
 -- What the scan of a directive reads is its piece.
-use Rattle.proof_scanner.proofs.Common.{inr, inl, cases_Bool, [], ap, Directive, DirectiveIsRead, directives_end, drop, false, first_break, has_no_break, is_before_line_feed, is_blank, is_break, is_directive_token, is_separation, IsDirective, IsDirectiveRead, IsPiece, List, Option, position_append, Read, read_as, ReadAs, refl, subst, take, Tok, token_of, true, whole_directive, ℕ, ◌++◌, ◌∙◌, ◌∷◌, ◌≡◌, arith, nat_tests}
+use Rattle.proof_scanner.proofs.Common.{inr, inl, cases_Bool, [], ap, Directive, DirectiveIsRead, directives_end, drop, false, first_break, has_no_break, is_before_line_feed, is_blank, is_break, is_directive_token, is_separation, IsDirective, IsDirectiveRead, IsPiece, List, Option, position_append, Read, read_as, ReadAs, refl, subst, take, Tok, token_of, true, whole_directive, ℕ, ◌++◌, ◌∙◌, ◌∷◌, ◌≡◌, arith, nat_tests, eqb-true}
 use Rattle.defs_token.specs.Account.{Account}
 use Rattle.proof_lexers.specs.DirectiveEnds.{ends_line, next_line}
 
@@ -14,11 +14,7 @@ break_fills c f rest h k = grind (arith, nat_tests)
 
 pub break_is_separation : (next : List ℕ) → ends_line next ≡ true → is_separation false (first_break next) (next_line next) ≡ true
 unfolding is_break
-break_is_separation [] h = refl
-break_is_separation (c ∷ r) h = elim (cases_Bool (is_before_line_feed c r)) [
-  | inl e ↦ rw e (break_fills c (take 1 r) (drop 1 r) h (grind (arith, nat_tests, break_fills, e)))
-  | inr e ↦ rw e (break_fills c [] r h refl)
-]
+break_is_separation a h = grind (arith, nat_tests, eqb-true, is_before_line_feed, break_fills, take, drop)
 
 -- ---- the piece
 
