@@ -1,6 +1,6 @@
 -- What scalars have, and arrays and hashes of trees that have it, every loaded tree has.
 use Rattle.std.proofs.lemmas.List.Elements.{All-nil, All-cons}
-use Rattle.defs_event.proofs.Common.{[], alias, All, ap, AreDistinct, array, documents_of, Ev, hash, integer, item, Items, items_of, List, new_loader, no_items, no_pairs, None, pair, pair_list_of, Pairs, pairs_of, Position, refl, subst, Tree, with_events, ◌∷◌, ◌≡◌}
+use Rattle.defs_event.proofs.Common.{[], alias, All, ap, AreDistinct, array, documents_of, Ev, hash, integer, item, Items, items_of, List, new_loader, no_items, no_pairs, None, pair, pair_list_of, Pairs, pairs_of, Position, refl, subst, Tree, with_events, ◌∷◌, ◌≡◌, arith}
 use Rattle.defs_tree.specs.Valid.{IsDistinct, AllDistinct, AllPairsDistinct, FitsI64, AllFitI64, AllPairsFitI64}
 use Rattle.defs_event.specs.Marks.{Marks}
 use Rattle.defs_event.specs.NoAlias.{HasNoAlias, NoneHasAlias, NoPairHasAlias}
@@ -34,10 +34,7 @@ each_pair P Q none more (p ∷ ps) (m ∷ n ∷ ms) h = more p.0 p.1 (pairs_of p
 each_pair P Q none more ps ms h = absurd h
 
 no_alias_leaf : (t : Tree) → IsLeaf t → HasNoAlias t
-no_alias_leaf (array ts) h = absurd h
-no_alias_leaf (hash ps) h = absurd h
-no_alias_leaf (alias n) h = h
-no_alias_leaf t h = tt
+no_alias_leaf t h = grind arith
 
 pub no_alias_kept : IsKept (OfTree HasNoAlias)
 no_alias_kept = record {
@@ -48,10 +45,7 @@ no_alias_kept = record {
 }
 
 fits_leaf : (t : Tree) → IsLeaf t → FitsI64 t
-fits_leaf (integer z) h = h
-fits_leaf (array ts) h = absurd h
-fits_leaf (hash ps) h = absurd h
-fits_leaf t h = tt
+fits_leaf t h = grind arith
 
 pub fits_kept : IsKept (OfTree FitsI64)
 fits_kept = record {
@@ -66,9 +60,7 @@ pairs_back [] = refl
 pairs_back (p ∷ ps) = ap (λ qs. p ∷ qs) (pairs_back ps)
 
 distinct_leaf : (t : Tree) → IsLeaf t → IsDistinct t
-distinct_leaf (array ts) h = absurd h
-distinct_leaf (hash ps) h = absurd h
-distinct_leaf t h = tt
+distinct_leaf t h = grind arith
 
 pub distinct_kept : IsKept (OfTree IsDistinct)
 distinct_kept = record {

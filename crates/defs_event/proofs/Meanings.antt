@@ -1,5 +1,5 @@
 -- A statement about each row of a table, and the tokens that it is for.
-use Rattle.defs_event.proofs.Common.{[], Bool, Case, false, if◌then◌else◌, List, on, otherwise, refl, Row, row_of, Some, subst, sym, true, ◌||◌, ◌∷◌, ◌≡◌}
+use Rattle.defs_event.proofs.Common.{[], Bool, Case, false, if◌then◌else◌, List, on, otherwise, refl, Row, row_of, Some, subst, sym, true, ◌||◌, ◌∷◌, ◌≡◌, arith}
 
 -- The statement holds of each row and the tokens that it is for: those that its test holds of, or that no test before holds of.
 abbrev pub EachRow : {G T E : Type 0} → (T → Row G E → Type 0) → (tested : T → Bool) → List (Case G T E) → Type 0
@@ -9,8 +9,7 @@ EachRow {T = T} P tested (otherwise r ∷ cs) = (t : T) → tested t ≡ false �
 
 by_test : {G T E : Type 0} (P : T → Row G E → Type 0) (tested : T → Bool) (cs : List (Case G T E)) (t : T) (q r : Row G E) (b c : Bool) → c ≡ b
     → (c ≡ true → P t q) → ((c || tested t) ≡ false → row_of cs t ≡ Some r → P t r) → tested t ≡ false → (if b then Some q else row_of cs t) ≡ Some r → P t r
-by_test P tested cs t q r true c p x y n e = let s : q ≡ r = cc e in subst (λ u. P t u) s (x p)
-by_test P tested cs t q r false c p x y n e = y (subst (λ b. (b || tested t) ≡ false) (sym p) n) e
+by_test P tested cs t q r b c p x y n e = grind arith
 
 pub row_holds : {G T E : Type 0} (P : T → Row G E → Type 0) (tested : T → Bool) (cs : List (Case G T E)) → EachRow P tested cs
     → (t : T) → tested t ≡ false → (r : Row G E) → row_of cs t ≡ Some r → P t r

@@ -1,5 +1,5 @@
 -- The test of nesting holds of nested events and of no others.
-use Rattle.defs_event.proofs.Common.{[], after_node, ap, at_key, at_value, before_node, child_then, closes, Ev, in_sequence, in_stream, is_nested, IsNested, IsTrue, List, Nest, nest, nest_events, nest_pair, nest_pairs_events, nested_alias, nested_document_events, nested_documents_events, nested_mapping, nested_scalar, nested_sequence, nested_stream, NestedDocument, NestPairs, Nests, nests_events, no_nest_pairs, no_nests, None, Open, Option, refl, Some, subst, sym, there_and, true, with_child, with_node, without_node, ◌↔◌, ◌∙◌, ◌∷◌, ◌≡◌}
+use Rattle.defs_event.proofs.Common.{[], after_node, ap, at_key, at_value, before_node, child_then, closes, Ev, in_sequence, in_stream, is_nested, IsNested, IsTrue, List, Nest, nest, nest_events, nest_pair, nest_pairs_events, nested_alias, nested_document_events, nested_documents_events, nested_mapping, nested_scalar, nested_sequence, nested_stream, NestedDocument, NestPairs, Nests, nests_events, no_nest_pairs, no_nests, None, Open, Option, refl, Some, subst, sym, there_and, true, with_child, with_node, without_node, ◌↔◌, ◌∙◌, ◌∷◌, ◌≡◌, arith}
 
 -- ---- nested events pass
 
@@ -58,8 +58,7 @@ filled o o' n os es vs h e f = cc
 
 -- what a node leaves open, where one may stand
 left_open : (c : Option Open) (inner os : List Open) (es : List Ev) → IsTrue (there_and (closes es) (child_then c inner os)) → (o : Open) × (c ≡ Some o) × IsTrue (there_and (closes es) (child_then (Some o) inner os))
-left_open None inner os es h = cc
-left_open (Some o) inner os es h = (o, refl, h)
+left_open c inner os es h = grind arith
 
 fills : (es : List Ev) (os : List Open) → IsTrue (closes es os) → Fills os es
 fills [] [] h = refl
