@@ -122,18 +122,12 @@ module _ (R : Tree → Marks → Type 0) where
         → R t m → AliasesFit anchors marked → AliasesFit (finished a t anchors) (finished_marks a m marked)
     finished_fit a t m anchors marked f h n p = grind (arith, is.of_alias t p m f, h n p)
 
-    root_fits : (u : Unfinished) (x : Marking) (t : Tree) (m : Marks) (root : Option Tree)
-        → Each R u.documents x.documents → AliasesFit u.anchors x.anchors → R t m → StepFits (with_root t u root) (with_part m x [])
-    root_fits u x t m root d a f = grind arith
-
     -- a complete tree, where these collections are open
     tree_fits : (u : Unfinished) (x : Marking) (t : Tree) (m : Marks) (cs : List Opened) (os : List OpenMarks)
         → InStep (record u { opened = cs }) (record x { opened = os }) → R t m → StepFits (with_tree t u cs) (with_part m x os)
-    tree_fits u x t m [] [] h f = root_fits u x t m u.root h.0 h.3 f
-    tree_fits u x t m (opened_sequence a ts ∷ cs) (o ∷ os) h f =
-        (h.0, ((h.1.0.0, one_more ts o.parts t m h.1.0.1 f), h.1.1), h.2, h.3)
-    tree_fits u x t m (opened_mapping a ps None ∷ cs) (o ∷ os) h f =
-        (h.0, ((h.1.0.0, h.1.0.1, with_key ps o.parts t m h.1.0.2 f), h.1.1), h.2, h.3)
+    tree_fits u x t m [] [] h f = grind arith
+    tree_fits u x t m (opened_sequence a ts ∷ cs) (o ∷ os) h f = grind (arith, one_more)
+    tree_fits u x t m (opened_mapping a ps None ∷ cs) (o ∷ os) h f = grind (arith, with_key)
     tree_fits u x t m (opened_mapping a ps (Some k) ∷ cs) (o ∷ os) h f =
         grind (arith, new_key, AreDistinct_insert, with_value ps o.parts k t m h.1.0.2 f)
     tree_fits u x t m cs os h f = absurd h.1
@@ -149,7 +143,7 @@ module _ (R : Tree → Marks → Type 0) where
     node_fits u x a b t m cs os h f e =
         rw (← e)
         (tree_fits (record u { anchors = finished a t u.anchors }) (record x { anchors = finished_marks a m x.anchors }) t m cs os
-        (h.0, h.1, h.2, finished_fit a t m u.anchors x.anchors f h.3) f)
+        (grind (arith, finished_fit a t m u.anchors x.anchors f h.3)) f)
 
     sequence_end_fits : (u : Unfinished) (x : Marking) (cs : List Opened) (os : List OpenMarks)
         → InStep (record u { opened = cs }) (record x { opened = os }) → StepFits (with_sequence_end u cs) (with_close x os)
@@ -165,12 +159,10 @@ module _ (R : Tree → Marks → Type 0) where
         node_fits u x a o.anchor (hash (pairs_of ps)) _ cs os (h.0, h.1.1, h.2, h.3) (is.of_hash ps o.start o.parts h.1.0.1 h.1.0.2) h.1.0.0
     mapping_end_fits u x cs os h = tt
 
-    perhaps_root : (t : Option Tree) (m : Option Marks) (p : Position) → RootFits t m → R (unwrap_or t bad_value) (unwrap_or m (leaf p))
-    perhaps_root t m p h = grind (arith, is.of_leaf bad_value p tt)
-
     document_end_fits : (u : Unfinished) (x : Marking) (p : Position) (cs : List Opened) → InStep u x
         → StepFits (with_document_end u cs) (with_event_marked x Ev.document_end p)
-    document_end_fits u x p [] h = (one_more u.documents x.documents _ _ h.0 (perhaps_root u.root x.root p h.2), h.1, tt, h.3)
+    document_end_fits u x p [] h = 
+        (one_more u.documents x.documents _ _ h.0 (grind (arith, is.of_leaf bad_value p tt)), h.1, tt, h.3)
     document_end_fits u x p (c ∷ cs) h = tt
 
     event_fits : (u : Unfinished) (x : Marking) (e : Ev) (p : Position) → InStep u x → StepFits (with_event u e) (with_event_marked x e p)
@@ -195,16 +187,12 @@ module _ (R : Tree → Marks → Type 0) where
     LoaderFits (noted docs key at) x = (ms : List Marks) × Each R docs ms
     LoaderFits (refused docs at) x = (ms : List Marks) × Each R docs ms
 
-    loader_fits : (s : Step) (docs : List Tree) (ms : List Marks) (at : Position) (x : Marking) → StepFits s x → Each R docs ms
-        → LoaderFits (loader_after s docs at) x
-    loader_fits s docs ms at x h d = grind arith
-
     events_fit : (l : Loader) (x : Marking) (es : List (Ev × Position))
         → LoaderFits l x → LoaderFits (with_events l es) (with_events_marked x es)
     events_fit l x [] h = h
     events_fit (at_work u) x (e ∷ es) h =
         events_fit (with_event_at (at_work u) e.0 e.1) (with_event_marked x e.0 e.1) es
-        (loader_fits (with_event u e.0) u.documents x.documents e.1 (with_event_marked x e.0 e.1) (event_fits u x e.0 e.1 h) h.0)
+        (grind (arith, event_fits u x e.0 e.1 h))
     events_fit l x (e ∷ es) h = events_fit l (with_event_marked x e.0 e.1) es h
 
     loaded_fit : (es : List (Ev × Position)) → LoaderFits (with_events new_loader es) (with_events_marked nothing_marked es)

@@ -13,12 +13,9 @@ step_of (at_work u) = reads u
 step_of (noted docs key p) = repeats key
 step_of (refused docs p) = out_of_nesting
 
-step_after : (s : Step) (docs : List Tree) (p : Position) → step_of (loader_after s docs p) ≡ s
-step_after s docs p = grind arith
-
 as_run : (es : List (Ev × Position)) (l : Loader) → step_of (with_events l es) ≡ run (step_of l) (events_of es)
 as_run [] l = grind arith
-as_run (e ∷ es) l = as_run es (with_event_at l e.0 e.1) ∙ grind (arith, step_after)
+as_run (e ∷ es) l = as_run es (with_event_at l e.0 e.1) ∙ grind arith
 
 abbrev state : List Tree → List Opened → Option Tree → Anchors → Unfinished
 state docs opened root anchors = record { documents = docs; opened = opened; root = root; anchors = anchors }
