@@ -12,7 +12,7 @@ piece_is e h = grind (arith, nat_tests, eqb-true, and_parts)
 
 pieces_are : (ps : List Piece) → are_pieces ps ≡ true → are_characters (unescaped ps) ≡ true
 pieces_are [] h = refl
-pieces_are (p ∷ ps) h = let q = and_parts (is_piece p) (are_pieces ps) h in and_from _ _ (piece_is p q.0) (pieces_are ps q.1)
+pieces_are (p ∷ ps) h = grind (arith, and_parts, and_from, piece_is, pieces_are ps)
 
 -- ---- numbers
 
@@ -33,7 +33,7 @@ mutual
   has (json.string ps) h = pieces_are ps h
   has (json.array g es) h = all_have es h.1
   has (json.empty_object g) h = (tt, tt)
-  has (json.object g ms) h = (subst AreDistinct (sym (list_of_pairs (pair_list ms))) h.2, are_members ms h.1)
+  has (json.object g ms) h = (rw (list_of_pairs (pair_list ms)) h.2, are_members ms h.1)
   has v h = tt
 
   all_have : (es : Elements) → AreElements es → AllHaveJson (items es)

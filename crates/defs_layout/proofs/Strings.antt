@@ -49,11 +49,7 @@ written c h =
     λ _. chosen c 10 _ _ _ _ (short_written new_line)
     λ _. chosen c 12 _ _ _ _ (short_written form_feed)
     λ _. chosen c 13 _ _ _ _ (short_written return)
-    λ _. by a b (nat_lt c 32 || (c == 127)) refl
-  where
-    by : (c == 34) ≡ false → (c == 92) ≡ false → (t : Bool) → (nat_lt c 32 || (c == 127)) ≡ t
-        → IsWritten (if t then unicode 48 48 (hexadecimal_digit (c / 16)) (hexadecimal_digit (c % 16)) else itself c) (if t then escaped_code c else c ∷ []) c
-    by a b d e = grind (arith, control, itself_written, or_parts)
+    λ _. grind (arith, nat_tests, control, itself_written, or_parts)
 
 -- ---- a text
 
