@@ -1,5 +1,5 @@
 -- With `multi`, a call of `load` pushes all events of a finished run, each once and in order.
-use Rattle.defs_event.proofs.Common.{[], Answer, ap, arith, before_stream, between, Ev, event, events_of, false, given, inside, length, List, load, load_from, Loaded, Nest, nest, nest_events, nest_pair, nest_pairs_events, nested_alias, nested_document_events, nested_documents_events, nested_mapping, nested_scalar, nested_sequence, nested_stream, NestedDocument, NestPairs, Nests, nests_events, no_nest_pairs, no_nests, Position, push, refl, Standing, subst, suc, sym, true, well, with_node, without_node, zero, ℕ, ◌+◌, ◌∙◌, ◌∷◌, ◌≡◌}
+use Rattle.defs_event.proofs.Common.{[], Answer, arith, before_stream, between, Ev, event, events_of, false, given, inside, length, List, load, load_from, Nest, nest, nest_events, nest_pair, nest_pairs_events, nested_documents_events, nested_mapping, nested_sequence, nested_stream, NestedDocument, NestPairs, Nests, nests_events, no_nest_pairs, no_nests, Position, push, refl, Standing, true, well, with_node, without_node, ◌∷◌, ◌≡◌}
 
 module _ (F : Type 0) where
   -- Where a call stands so, answers of these events are all pushed and taken, whatever their positions.

@@ -1,6 +1,6 @@
 -- After the same events, trees and their marks are related, where leaves, aliases and collections of related parts are.
 -- So marks have the parts of the trees.
-use Rattle.defs_event.proofs.Common.{[], alias, aliased, Anchors, AreDistinct, arith, array, at_work, bad_value, Bool, by_name, bytes_eq, codes, core_prefix, documents_of, Ev, false, false_words, finished, fits_i64, has_key, hash, if◌then◌else◌, insert, integer, is_among, is_decimal, is_real_text, IsTrue, items_of, List, Loader, loader_after, MayStandFor, nat_eq, new_loader, None, noted, OfSome, Opened, opened_mapping, opened_sequence, Option, option_map, pairs_of, Position, reads, refl, refused, repeats, scalar_tree, signed_decimal, signed_number-fits, Some, Step, Style, subst, suc, sym, Tag, Tree, true, true_words, typing, typing_plain, Unfinished, unwrap_or, with_document_end, with_event, with_event_at, with_events, with_mapping_end, with_root, with_sequence_end, with_start, with_tree, without, zero, ℕ, ℤ, ◌++◌, ◌||◌, ◌∷◌, ◌≡◌}
+use Rattle.defs_event.proofs.Common.{[], alias, aliased, Anchors, AreDistinct, arith, array, at_work, bad_value, Bool, by_name, bytes_eq, codes, core_prefix, documents_of, Ev, false, false_words, finished, fits_i64, has_key, hash, if◌then◌else◌, integer, is_among, is_decimal, is_real_text, IsTrue, items_of, List, Loader, MayStandFor, new_loader, None, noted, OfSome, Opened, opened_mapping, opened_sequence, Option, option_map, pairs_of, Position, reads, refl, refused, scalar_tree, signed_decimal, signed_number-fits, Some, Step, Style, subst, Tag, Tree, true, true_words, typing, typing_plain, Unfinished, unwrap_or, with_document_end, with_event, with_event_at, with_events, with_mapping_end, with_sequence_end, with_start, with_tree, without, ℕ, ℤ, ◌++◌, ◌||◌, ◌∷◌, ◌≡◌}
 use Rattle.defs_tree.proofs.PairsLaws.{AreDistinct_insert}
 use Rattle.defs_event.specs.Unfinished.{with_node}
 use Rattle.defs_event.specs.Fits.{Fits, ItemsFit, PairsFit, AllFit}
@@ -161,7 +161,7 @@ module _ (R : Tree → Marks → Type 0) where
 
     document_end_fits : (u : Unfinished) (x : Marking) (p : Position) (cs : List Opened) → InStep u x
         → StepFits (with_document_end u cs) (with_event_marked x Ev.document_end p)
-    document_end_fits u x p [] h = 
+    document_end_fits u x p [] h =
         (one_more u.documents x.documents _ _ h.0 (grind (arith, is.of_leaf bad_value p tt)), h.1, tt, h.3)
     document_end_fits u x p (c ∷ cs) h = tt
 

@@ -1,6 +1,6 @@
 -- What scalars have, and arrays and hashes of trees that have it, every loaded tree has.
 use Rattle.std.proofs.lemmas.List.Elements.{All-nil, All-cons}
-use Rattle.defs_event.proofs.Common.{[], alias, All, ap, AreDistinct, array, documents_of, Ev, hash, integer, item, Items, items_of, List, new_loader, no_items, no_pairs, None, pair, pair_list_of, Pairs, pairs_of, Position, refl, subst, Tree, with_events, ◌∷◌, ◌≡◌, arith}
+use Rattle.defs_event.proofs.Common.{[], All, AreDistinct, array, documents_of, Ev, hash, item, Items, items_of, List, new_loader, no_items, no_pairs, None, pair, Pairs, pairs_of, Position, Tree, with_events, ◌∷◌, arith}
 use Rattle.defs_tree.proofs.OverlayLaws.{list_of_pairs}
 use Rattle.defs_tree.specs.Valid.{IsDistinct, AllDistinct, AllPairsDistinct, FitsI64, AllFitI64, AllPairsFitI64}
 use Rattle.defs_event.specs.Marks.{Marks}

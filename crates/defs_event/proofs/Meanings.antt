@@ -1,5 +1,5 @@
 -- A statement about each row of a table, and the tokens that it is for.
-use Rattle.defs_event.proofs.Common.{[], Bool, Case, false, if◌then◌else◌, List, on, otherwise, refl, Row, row_of, Some, subst, sym, true, ◌||◌, ◌∷◌, ◌≡◌, arith}
+use Rattle.defs_event.proofs.Common.{[], Bool, Case, false, List, on, otherwise, Row, row_of, Some, true, ◌||◌, ◌∷◌, ◌≡◌, arith}
 
 -- The statement holds of each row and the tokens that it is for: those that its test holds of, or that no test before holds of.
 abbrev pub EachRow : {G T E : Type 0} → (T → Row G E → Type 0) → (tested : T → Bool) → List (Case G T E) → Type 0

@@ -1,5 +1,5 @@
 -- The test of nesting holds of nested events and of no others.
-use Rattle.defs_event.proofs.Common.{[], after_node, ap, at_key, at_value, before_node, child_then, closes, Ev, in_sequence, in_stream, is_nested, IsNested, IsTrue, List, Nest, nest, nest_events, nest_pair, nest_pairs_events, nested_alias, nested_document_events, nested_documents_events, nested_mapping, nested_scalar, nested_sequence, nested_stream, NestedDocument, NestPairs, Nests, nests_events, no_nest_pairs, no_nests, None, Open, Option, refl, Some, subst, sym, there_and, true, with_child, with_node, without_node, ◌↔◌, ◌∙◌, ◌∷◌, ◌≡◌, arith}
+use Rattle.defs_event.proofs.Common.{[], after_node, ap, at_key, at_value, before_node, child_then, closes, Ev, in_sequence, in_stream, is_nested, IsNested, IsTrue, List, Nest, nest, nest_events, nest_pair, nest_pairs_events, nested_alias, nested_document_events, nested_documents_events, nested_mapping, nested_scalar, nested_sequence, NestedDocument, NestPairs, Nests, nests_events, no_nest_pairs, no_nests, Open, Option, refl, Some, there_and, with_child, with_node, without_node, ◌↔◌, ◌∙◌, ◌∷◌, ◌≡◌, arith}
 
 -- ---- nested events pass
 

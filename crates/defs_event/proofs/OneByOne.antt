@@ -1,5 +1,5 @@
 -- Nested events, handed in one by one, are read as the recursive reading has them.
-use Rattle.defs_event.proofs.Common.{[], Anchors, ap, array, at_work, Bool, documents_or_key, Err, Ev, events_of, false, finished, has_key, hash, HasRead, if◌then◌else◌, insert, items_of, List, Loader, loader_after, Nest, nest, nest_events, nest_pair, nest_pairs_events, nested_alias, nested_document_events, nested_documents_events, nested_mapping, nested_scalar, nested_sequence, nested_stream, NestedDocument, NestPairs, Nests, nests_events, new_loader, no_nest_pairs, no_nests, None, noted, nothing_read, Ok, Opened, opened_mapping, opened_sequence, Option, out_of_nesting, pairs_of, Position, Read, read_document, read_documents, read_items, read_node, read_pairs, reading, reads, refl, refused, repeats, Some, Step, subst, then_read, Tree, true, Unfinished, with_event, with_event_at, with_events, with_node, with_start, with_tree, without_node, ℕ, ◌++◌, ◌∙◌, ◌∷◌, ◌≡◌, arith}
+use Rattle.defs_event.proofs.Common.{[], Anchors, ap, array, at_work, Bool, documents_or_key, Err, Ev, events_of, finished, has_key, hash, HasRead, if◌then◌else◌, insert, items_of, List, Loader, Nest, nest, nest_events, nest_pair, nest_pairs_events, nested_alias, nested_document_events, nested_documents_events, nested_mapping, nested_scalar, nested_sequence, nested_stream, NestedDocument, NestPairs, Nests, nests_events, new_loader, no_nest_pairs, no_nests, None, noted, nothing_read, Ok, Opened, opened_mapping, opened_sequence, Option, out_of_nesting, pairs_of, Position, Read, read_document, read_documents, read_items, read_node, read_pairs, reading, reads, refl, refused, repeats, Some, Step, then_read, Tree, Unfinished, with_event, with_event_at, with_events, with_node, with_start, with_tree, without_node, ℕ, ◌++◌, ◌∙◌, ◌∷◌, ◌≡◌, arith}
 
 -- ---- all events, whatever their positions
 

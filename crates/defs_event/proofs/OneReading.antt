@@ -1,5 +1,5 @@
 -- By any table, tokens are read in one way only; so a stream has one list of events.
-use Rattle.defs_event.proofs.Common.{[], ap, before, Bool, by_leaving, by_taking, Derives, Ev, grammar, IsStream, List, named, no_names, nothing_left, refl, saying, says, subst, Table, Tok, TokensAreReadInOneWay, whole_stream, Work, ◌∷◌, ◌≡◌}
+use Rattle.defs_event.proofs.Common.{[], ap, before, Bool, by_leaving, by_taking, Derives, Ev, grammar, IsStream, List, named, no_names, nothing_left, refl, saying, says, Table, Tok, TokensAreReadInOneWay, whole_stream, Work, ◌∷◌, ◌≡◌}
 use Rattle.defs_event.specs.Table.{reading}
 
 pub one_reading : {G T E H : Type 0} (a : Table G T E H) (w : List (Work G E H)) (ts : List T) (es fs : List E) → Derives a w ts es → Derives a w ts fs → es ≡ fs

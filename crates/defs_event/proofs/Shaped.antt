@@ -1,5 +1,5 @@
 -- Events with names resolved have the shape of those before: only anchors, tags and numbers differ.
-use Rattle.defs_event.proofs.Common.{[], are_allowed, Bool, Ev, false, if◌then◌else◌, List, named, Names, names_after, None, number, Option, option_map, perhaps_resolved, Raw, resolved_event, Some, Style, subst, sym, Tag, true, under_name, ℕ, ◌∷◌, ◌≡◌, arith, ap, ◌∙◌}
+use Rattle.defs_event.proofs.Common.{[], Bool, Ev, List, named, Names, names_after, None, number, Option, option_map, Raw, resolved_event, Some, Style, Tag, ℕ, ◌∷◌, ◌≡◌, arith}
 use Rattle.defs_event.proofs.NameLemmas.{both_some}
 
 -- the event with no anchor and no tag

@@ -1,6 +1,6 @@
 -- The events that the table says are nested: what each goal's events make of what is open, and that its rows make the same of it.
 use Rattle.std.specs.Option.{option_and, option_and_then}
-use Rattle.defs_event.proofs.Common.{[], after_anchor, after_brace, after_comma, after_node, after_tag, ap, at_key, at_value, before, block_mapping_entries, block_mapping_value, block_sequence_entries, Bool, by_leaving, by_taking, cases, child_then, closes, content, Derives, directives, document_end, documents, Ev, explicit_document, flow_mapping_comma, flow_mapping_entries, flow_mapping_value, flow_mapping_valued, flow_sequence_comma, flow_sequence_entries, flow_value, Goal, grammar, Held, in_block, in_flow, in_pair, in_sequence, in_stream, indentless_sequence_entries, is_nested, IsNested, IsStream, key, leaves, List, no_flow_mapping_value, no_names, node, None, nothing_held, nothing_left, Open, open_after, Option, Part, part_work, Place, Raw, read, refl, Row, row_of, saying, says, show, Side, Some, StreamSays, Style, subst, subst₂, takes, then_in, there_and, Tok, true, value, with_child, Work, ◌∙◌, ◌∷◌, ◌≡◌, arith}
+use Rattle.defs_event.proofs.Common.{[], after_anchor, after_brace, after_comma, after_node, after_tag, ap, at_key, at_value, before, block_mapping_entries, block_mapping_value, block_sequence_entries, Bool, by_leaving, by_taking, cases, child_then, closes, content, Derives, directives, document_end, documents, Ev, explicit_document, flow_mapping_comma, flow_mapping_entries, flow_mapping_value, flow_mapping_valued, flow_sequence_comma, flow_sequence_entries, flow_value, Goal, grammar, Held, in_block, in_flow, in_pair, in_sequence, in_stream, indentless_sequence_entries, is_nested, IsNested, IsStream, key, leaves, List, no_flow_mapping_value, no_names, node, None, nothing_held, nothing_left, Open, open_after, Option, Part, Place, Raw, read, refl, Row, row_of, saying, says, show, Side, Some, StreamSays, Style, takes, then_in, there_and, Tok, true, value, with_child, Work, ◌∙◌, ◌∷◌, ◌≡◌, arith}
 use Rattle.defs_event.specs.Table.{reading}
 use Rattle.defs_event.proofs.Shaped.{shape_of, Shaped, named_shaped}
 use Rattle.defs_event.proofs.NestedTest.{test_is_exact}

@@ -1,5 +1,5 @@
 -- What stands after a basic layout is appended to its text.
-use Rattle.defs_layout.proofs.Common.{[], ap, append_assoc, AreBasicEntries, AreBasicFields, array, Block, codes, comment, comment_line, Document, empty_line, Entries, entry, explicit, Field, field, Fields, GapLine, hash, implicit, Inline, IsBasicBlock, IsBasicField, IsBasicRoot, IsBasicValue, last_entry, last_field, Line, List, next_line, no_comment, refl, spaces, spell_block, spell_document, spell_ending, spell_entries, spell_field, spell_fields, spell_gap, spell_inline, spell_line, spell_lines, spell_literal, spell_scalar, spell_value, suc, Value, zero, ℕ, ◌++◌, ◌+◌, ◌∙◌, ◌∷◌, ◌≡◌, arith}
+use Rattle.defs_layout.proofs.Common.{[], ap, append_assoc, AreBasicEntries, AreBasicFields, array, Block, codes, comment, Document, Entries, entry, explicit, Field, field, Fields, GapLine, hash, implicit, Inline, IsBasicBlock, IsBasicField, IsBasicRoot, IsBasicValue, last_entry, last_field, Line, List, next_line, no_comment, refl, spaces, spell_block, spell_document, spell_ending, spell_entries, spell_field, spell_fields, spell_gap, spell_inline, spell_line, spell_lines, spell_literal, spell_scalar, spell_value, suc, Value, zero, ℕ, ◌++◌, ◌+◌, ◌∙◌, ◌∷◌, ◌≡◌, arith}
 
 -- the text of f goes before what stands after it
 abbrev Appends : (List ℕ → List ℕ) → Type 0

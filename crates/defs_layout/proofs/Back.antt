@@ -1,5 +1,5 @@
 -- The value of a JSON text has a JSON text, and nests as the text does.
-use Rattle.defs_layout.proofs.Common.{[], AllHaveJson, and_from, and_parts, ap, are_characters, are_pieces, AreDistinct, AreElements, AreMembers, arith, Bool, element, element_levels, Elements, exponent, false, fits_i64, fraction, HasJson, if◌then◌else◌, integer, integer_value, is_character, is_number, is_piece, is_unescaped, IsJson, item_nesting, items, Json, last_element, last_member, levels, List, max, member, member_levels, member_nesting, Members, nat_tests, nesting, no_exponent, no_fraction, Number, number, number_tree, pair_list, pairs_of, Piece, real, refl, spell_number, subst, suc, sym, tree_of, true, unescaped, value_of, ValuesHaveJson, ◌∷◌, ◌≡◌, eqb-true}
+use Rattle.defs_layout.proofs.Common.{[], AllHaveJson, and_from, and_parts, ap, are_characters, are_pieces, AreElements, AreMembers, arith, Bool, element, element_levels, Elements, exponent, false, fits_i64, fraction, HasJson, if◌then◌else◌, integer, integer_value, is_character, is_number, is_piece, is_unescaped, IsJson, item_nesting, items, Json, last_element, last_member, levels, List, max, member, member_levels, member_nesting, Members, nat_tests, nesting, no_exponent, no_fraction, Number, number, number_tree, pair_list, pairs_of, Piece, real, refl, spell_number, suc, tree_of, true, unescaped, value_of, ValuesHaveJson, ◌∷◌, ◌≡◌, eqb-true}
 use Rattle.defs_layout.specs.Json as json
 use Rattle.defs_layout.proofs.Numbers.{real_from}
 use Rattle.defs_tree.proofs.OverlayLaws.{list_of_pairs}

@@ -1,5 +1,5 @@
 -- A basic layout is a layout of its one tree, and basic layouts one after another, an LF after each, are a layout of their trees.
-use Rattle.defs_layout.proofs.Common.{[], ap, AreDocuments, AreEmptyLines, codes, comment_line, Document, document, Documents, empty_line, GapLine, IsBasicLayout, IsBasicRoot, IsGap, last_document, List, refl, root_tree, spell_document, spell_documents, spell_ending, spell_gap, sym, Tree, trees_of, true, ℕ, ◌++◌, ◌∙◌, ◌∷◌, ◌≡◌, arith}
+use Rattle.defs_layout.proofs.Common.{[], ap, AreDocuments, AreEmptyLines, codes, Document, document, Documents, empty_line, GapLine, IsBasicLayout, IsBasicRoot, IsGap, last_document, List, refl, root_tree, spell_document, spell_documents, spell_ending, spell_gap, sym, Tree, trees_of, true, ℕ, ◌++◌, ◌∙◌, ◌∷◌, ◌≡◌, arith}
 use Rattle.defs_layout.specs.InTurn.{AreLaidOutInTurn}
 use Rattle.defs_layout.specs.Laws.{BasicLayoutsAreLayouts, LayoutsInTurnAreLayouts}
 use Rattle.defs_layout.proofs.Appended.{document_append}

@@ -2,7 +2,7 @@
 use Rattle.std.specs.Fmt.{signed_decimal}
 use Rattle.std.proofs.lemmas.Fmt.{decimal_is_IsNumeral, decimal_digit, decimal_nonempty, first_decimal}
 use Rattle.std.proofs.lemmas.Str.Parse.{digit_from_value}
-use Rattle.defs_layout.proofs.Common.{[], AllDigits, and_from, and_parts, ap, arith, Bool, decimal, false, fits_i64, get_or, integer, integer_value, is_ascii_digit, is_number, is_whole, length, List, list_all, ltb-true, nat_tests, neg_ℤ, negsuc, no_exponent, no_fraction, Number, number, number_tree, pos, refl, spell_number, suc, true, zero, ℕ, ℤ, ◌++◌, ◌<◌, ◌^◌, ◌∷◌, ◌≡◌, eqb-true}
+use Rattle.defs_layout.proofs.Common.{[], AllDigits, and_from, and_parts, ap, arith, decimal, false, fits_i64, get_or, integer, is_ascii_digit, is_number, is_whole, length, List, list_all, ltb-true, nat_tests, negsuc, no_exponent, no_fraction, Number, number, number_tree, pos, refl, spell_number, suc, true, zero, ℕ, ℤ, ◌++◌, ◌<◌, ◌^◌, ◌∷◌, ◌≡◌, eqb-true}
 
 digits_test : (ds : List ℕ) → AllDigits 10 ds → list_all is_ascii_digit ds ≡ true
 digits_test [] h = refl

@@ -1,5 +1,5 @@
 -- The reals that JSON can write are the texts of its numbers whose value is a real.
-use Rattle.defs_layout.proofs.Common.{[], and_from, and_parts, ap, append-nil, append_assoc, are_digits, arith, at_least_one, begins_in, Bool, cut_from, cut_to, eqb-true, Exponent, exponent, followed_by, followed_by-empty, Fraction, fraction, in_order, integer_value, is_ascii_digit, is_digit, is_exponent, is_exponent_mark, is_frac, is_fraction, is_json_number, is_json_real, is_minus, is_none, is_number, is_sign, is_whole, List, list_all, nat_tests, no_exponent, no_fraction, None, Number, number_tree, one, optional, real, refl, Sign, signed_decimal, spell_exponent, spell_fraction, spell_minus, spell_number, spell_sign, subst, sym, true, ℕ, ◌&&◌, ◌++◌, ◌==◌, ◌∙◌, ◌∷◌, ◌≡◌}
+use Rattle.defs_layout.proofs.Common.{[], and_from, and_parts, ap, append-nil, append_assoc, are_digits, arith, at_least_one, begins_in, Bool, cut_from, cut_to, eqb-true, Exponent, exponent, followed_by, followed_by-empty, Fraction, fraction, in_order, integer_value, is_ascii_digit, is_digit, is_exponent, is_exponent_mark, is_frac, is_fraction, is_json_number, is_json_real, is_minus, is_none, is_number, is_sign, is_whole, List, list_all, nat_tests, no_exponent, no_fraction, None, Number, number_tree, one, optional, real, refl, Sign, signed_decimal, spell_exponent, spell_fraction, spell_minus, spell_number, spell_sign, sym, true, ℕ, ◌&&◌, ◌++◌, ◌∙◌, ◌∷◌, ◌≡◌}
 use Rattle.defs_layout.specs.JsonNumber as json
 use Rattle.defs_layout.proofs.WholeNumbers.{fitted, signed_text, IsOther, no_digits}
 

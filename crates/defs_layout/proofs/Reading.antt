@@ -1,5 +1,5 @@
 -- A JSON number read from left to right: a minus, the whole part, a fraction, an exponent. For code that reads so.
-use Rattle.defs_layout.proofs.Common.{[], after_all, after_one, any-after, any_number, ap, are_digits, arith, at_least-after, at_least_one, begins_in, Bool, empty-followed_by, exponent_read, false, followed_by, followed_by-and, followed_by-or, if◌then◌else◌, in_order, is_ascii_digit, is_empty, is_exponent, is_exponent_mark, is_frac, is_json_number, is_minus, is_whole, List, nat_tests, not, optional, optional-then, optional_one-after, or-false, reads_exponent, refl, Rejects, sym, true, ℕ, ◌&&◌, ◌==◌, ◌||◌, ◌∙◌, ◌∷◌, ◌≡◌}
+use Rattle.defs_layout.proofs.Common.{[], after_all, after_one, any-after, any_number, ap, are_digits, arith, at_least-after, at_least_one, begins_in, Bool, empty-followed_by, exponent_read, false, followed_by, followed_by-and, followed_by-or, if◌then◌else◌, in_order, is_ascii_digit, is_empty, is_exponent, is_exponent_mark, is_frac, is_json_number, is_minus, is_whole, List, nat_tests, not, optional, optional-then, optional_one-after, reads_exponent, refl, Rejects, true, ℕ, ◌&&◌, ◌==◌, ◌||◌, ◌∙◌, ◌∷◌, ◌≡◌}
 
 -- what follows the whole part
 abbrev pub reads_end : List ℕ → Bool

@@ -1,5 +1,5 @@
 -- The trees of JSON texts and of layouts are sound.
-use Rattle.defs_layout.proofs.Common.{[], Anchor, ap, AreDistinct, AreElements, begun, element, Elements, ended, false, is_some, IsJson, IsJsonText, Items, items, Json, last_element, last_member, last_tree, List, member, Members, number, Option, pair_list, Pairs, pairs_of, refl, Some, sym, Tree, tree_of, true, true≢false, with_end, ℕ, ℤ, ◌∙◌, ◌∷◌, ◌≡◌, arith}
+use Rattle.defs_layout.proofs.Common.{[], Anchor, AreDistinct, AreElements, begun, element, Elements, ended, IsJson, IsJsonText, Items, items, Json, last_element, last_member, last_tree, List, member, Members, pair_list, Pairs, pairs_of, Some, Tree, tree_of, with_end, ℕ, ◌∷◌, ◌≡◌, arith}
 use Rattle.defs_tree.proofs.OverlayLaws.{list_of_pairs}
 use Rattle.defs_tree.specs.Valid.{AllDistinct, AllPairsDistinct, AllFitI64, AllPairsFitI64}
 use Rattle.defs_layout.specs.Json.{AreMembers}

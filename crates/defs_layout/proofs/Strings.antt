@@ -1,5 +1,5 @@
 -- The text of a string is a string of JSON, and its value is the string.
-use Rattle.defs_layout.proofs.Common.{[], and_from, and_parts, ap, append_assoc, are_characters, are_pieces, arith, backspace, Bool, character_of, double_quoted, escaped_code, false, form_feed, hexadecimal_digit, if◌then◌else◌, is_character, is_piece, is_unescaped, itself, letter_of, List, nat_lt, nat_tests, new_line, or_parts, Piece, quotation_mark, refl, return, reverse_solidus, Short, short, spell_piece, spell_pieces, spell_string, sym, tabulator, true, unescaped, unicode, value_of, written_character, written_escapes, ℕ, ◌%◌, ◌++◌, ◌+◌, ◌/◌, ◌<◌, ◌==◌, ◌||◌, ◌∙◌, ◌∷◌, ◌≡◌}
+use Rattle.defs_layout.proofs.Common.{[], and_from, and_parts, ap, append_assoc, are_characters, are_pieces, arith, backspace, character_of, double_quoted, escaped_code, false, form_feed, hexadecimal_digit, if◌then◌else◌, is_character, is_piece, is_unescaped, itself, letter_of, List, nat_lt, nat_tests, new_line, or_parts, Piece, quotation_mark, refl, return, reverse_solidus, Short, short, spell_piece, spell_pieces, spell_string, sym, tabulator, true, unescaped, unicode, value_of, written_character, written_escapes, ℕ, ◌%◌, ◌++◌, ◌/◌, ◌<◌, ◌==◌, ◌||◌, ◌∙◌, ◌∷◌, ◌≡◌}
 use Rattle.defs_layout.specs.Marks.{backslash}
 
 -- how a character is written

@@ -1,5 +1,5 @@
 -- Whole numbers of JSON as integers: what the text of one stands for, and what does not follow its digits.
-use Rattle.defs_layout.proofs.Common.{[], arith, at_least_one, begins_in, Bool, false, fits_i64, if◌then◌else◌, integer_value, is_ascii_digit, is_digit, List, list_all, None, Option, option_and_then, refl, signed_decimal, Some, spell_minus, true, ℕ, ℤ, ◌++◌, ◌==◌, ◌∷◌, ◌≡◌}
+use Rattle.defs_layout.proofs.Common.{[], arith, at_least_one, begins_in, Bool, false, fits_i64, if◌then◌else◌, integer_value, is_ascii_digit, is_digit, List, list_all, None, Option, option_and_then, signed_decimal, Some, spell_minus, true, ℕ, ℤ, ◌++◌, ◌∷◌, ◌≡◌}
 
 -- the integer of a text, from whether it is all digits, and its value
 abbrev pub fitted : Bool → ℤ → Option ℤ

@@ -1,5 +1,5 @@
 -- The JSON text of a tree is JSON with that value, and nests as the tree does.
-use Rattle.defs_layout.proofs.Common.{[], alias, AllHaveJson, ap, append-nil, append_assoc, are_pieces, AreDistinct, AreElements, AreMembers, arith, bad_value, Blank, Bool, boolean, deeper, element, element_levels, Elements, false, HasJson, integer, IsJson, IsJsonGap, IsKey, item, item_nesting, Items, items, Json, json_text, JsonTextsAreJson, key_end, key_text, last_element, last_member, levels, line_feed, List, member, member_levels, member_nesting, Members, more_items, more_members, nesting, no_items, no_pairs, None, null, Option, pair, pair_list, pair_list_of, Pairs, pairs_of, Piece, real, refl, replicate, Some, space, spell, spell_elements, spell_members, spell_string, string, subst, suc, sym, TabsBeginLines, Tree, tree_of, true, unescaped, zero, ℕ, ◌++◌, ◌∙◌, ◌∷◌, ◌≡◌}
+use Rattle.defs_layout.proofs.Common.{[], alias, AllHaveJson, ap, append-nil, append_assoc, are_pieces, AreElements, AreMembers, arith, bad_value, Blank, Bool, boolean, deeper, element, element_levels, Elements, false, HasJson, integer, IsJson, IsJsonGap, IsKey, item, item_nesting, Items, items, Json, json_text, JsonTextsAreJson, key_end, key_text, last_element, last_member, levels, line_feed, List, member, member_levels, member_nesting, Members, more_items, more_members, nesting, no_items, no_pairs, None, null, Option, pair, pair_list, pair_list_of, Pairs, pairs_of, Piece, real, refl, replicate, Some, space, spell, spell_elements, spell_members, spell_string, string, suc, TabsBeginLines, Tree, tree_of, true, unescaped, zero, ℕ, ◌++◌, ◌∙◌, ◌∷◌, ◌≡◌}
 use Rattle.defs_tree.specs.Tree.{array, hash}
 use Rattle.defs_layout.specs.JsonGap.{spell_gap}
 use Rattle.defs_layout.specs.Json
