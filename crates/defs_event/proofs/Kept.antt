@@ -35,7 +35,8 @@ module _ (P : Tree → Type 0) (Q : Items → Type 0) (S : Pairs → Type 0) whe
   each_pair none more (p ∷ ps) (m ∷ n ∷ ms) h = more p.0 p.1 (pairs_of ps) h.0 h.1 (each_pair none more ps ms h.2)
   each_pair none more ps ms h = absurd h
 
-  kept : ((t : Tree) → IsLeaf t → P t) → Q no_items → ((t : Tree) (ts : Items) → P t → Q ts → Q (item t ts)) → ((ts : Items) → Q ts → P (array ts))
+  kept : ((t : Tree) → IsLeaf t → P t) → Q no_items → ((t : Tree) (ts : Items) → P t → Q ts → Q (item t ts))
+      → ((ts : Items) → Q ts → P (array ts))
       → S no_pairs → ((k v : Tree) (ps : Pairs) → P k → P v → S ps → S (pair k v ps))
       → ((ps : List (Tree × Tree)) → AreDistinct ps → S (pairs_of ps) → P (hash (pairs_of ps))) → IsKept (OfTree P)
   kept is_leaf none more of_items no_pair more_pairs of_pairs = record {
@@ -49,7 +50,9 @@ no_alias_leaf : (t : Tree) → IsLeaf t → HasNoAlias t
 no_alias_leaf t h = grind arith
 
 pub no_alias_kept : IsKept (OfTree HasNoAlias)
-no_alias_kept = kept HasNoAlias NoneHasAlias NoPairHasAlias no_alias_leaf tt (λ t us h i. (h, i)) (λ us h. h) tt (λ k v qs h i j. (h, i, j)) (λ ps d h. h)
+no_alias_kept =
+    kept HasNoAlias NoneHasAlias NoPairHasAlias no_alias_leaf tt (λ t us h i. (h, i)) (λ us h. h) tt
+    (λ k v qs h i j. (h, i, j)) (λ ps d h. h)
 
 fits_leaf : (t : Tree) → IsLeaf t → FitsI64 t
 fits_leaf t h = grind arith

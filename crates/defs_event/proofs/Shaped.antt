@@ -45,11 +45,16 @@ first_shaped : (s : Names) (e : Raw) (r : List Raw) (v : Ev) (vs : List Ev) → 
 first_shaped s (Raw.document_start ds) r v vs h k = (vs, grind arith, k)
 first_shaped s (Raw.alias name) r v vs h k = let x = valued Ev.alias _ v vs h in (x.0, vs, x.1, k)
 first_shaped s (Raw.scalar y z a t) r v vs h k = let x = valued (Ev.scalar y z (number s a)) _ v vs h in (number s a, x.0, vs, x.1, k)
-first_shaped s (Raw.empty_scalar a t) r v vs h k = let x = valued (Ev.scalar [] Style.plain (number s a)) _ v vs h in (number s a, x.0, vs, x.1, k)
-first_shaped s (Raw.flow_sequence_start a t) r v vs h k = let x = valued (Ev.sequence_start (number s a)) _ v vs h in (number s a, x.0, vs, x.1, k)
-first_shaped s (Raw.sequence_start a t) r v vs h k = let x = valued (Ev.sequence_start (number s a)) _ v vs h in (number s a, x.0, vs, x.1, k)
-first_shaped s (Raw.indentless_sequence_start a t) r v vs h k = let x = valued (Ev.sequence_start (number s a)) _ v vs h in (number s a, x.0, vs, x.1, k)
-first_shaped s (Raw.flow_mapping_start a t) r v vs h k = let x = valued (Ev.mapping_start (number s a)) _ v vs h in (number s a, x.0, vs, x.1, k)
+first_shaped s (Raw.empty_scalar a t) r v vs h k =
+    let x = valued (Ev.scalar [] Style.plain (number s a)) _ v vs h in (number s a, x.0, vs, x.1, k)
+first_shaped s (Raw.flow_sequence_start a t) r v vs h k =
+    let x = valued (Ev.sequence_start (number s a)) _ v vs h in (number s a, x.0, vs, x.1, k)
+first_shaped s (Raw.sequence_start a t) r v vs h k =
+    let x = valued (Ev.sequence_start (number s a)) _ v vs h in (number s a, x.0, vs, x.1, k)
+first_shaped s (Raw.indentless_sequence_start a t) r v vs h k =
+    let x = valued (Ev.sequence_start (number s a)) _ v vs h in (number s a, x.0, vs, x.1, k)
+first_shaped s (Raw.flow_mapping_start a t) r v vs h k =
+    let x = valued (Ev.mapping_start (number s a)) _ v vs h in (number s a, x.0, vs, x.1, k)
 first_shaped s (Raw.mapping_start a t) r v vs h k = let x = valued (Ev.mapping_start (number s a)) _ v vs h in (number s a, x.0, vs, x.1, k)
 first_shaped s e r v vs h k = (vs, cc, k)
 

@@ -29,9 +29,11 @@ pub found : {read : Anchors} {above : ℕ} {a : List Anchor} {names : List (List
     → Agree read above a names opens → last_tree name a ≡ Some t → Found name names read t
 found name t Agree.none e = cc
 found {read = read} name t (Agree.has_begun {a = a} {names = names} n k less h) e =
-    found_next (bytes_eq n name) name n k names None (last_tree name a) read t (grind (arith, bytes_eq-Decides)) (λ d. cc) (found name t h) e
+    found_next (bytes_eq n name) name n k names None (last_tree name a) read t (grind (arith, bytes_eq-Decides)) (λ d. cc)
+    (found name t h) e
 found {read = read} name t (Agree.has_ended {a = a} {names = names} n k u less is h) e =
-    found_next (bytes_eq n name) name n k names (Some u) (last_tree name a) read t (grind (arith, bytes_eq-Decides)) (λ d. is ∙ cc) (found name t h) e
+    found_next (bytes_eq n name) name n k names (Some u) (last_tree name a) read t (grind (arith, bytes_eq-Decides))
+    (λ d. is ∙ cc) (found name t h) e
 
 -- ---- a node ends
 
