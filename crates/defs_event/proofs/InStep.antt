@@ -1,6 +1,6 @@
 -- After the same events, trees and their marks are related, where leaves, aliases and collections of related parts are.
 -- So marks have the parts of the trees.
-use Rattle.defs_event.proofs.Common.{[], alias, aliased, Anchors, AreDistinct, arith, array, at_work, bad_value, Bool, by_name, bytes_eq, codes, core_prefix, documents_of, Ev, false, false_words, finished, fits_i64, has_key, hash, if◌then◌else◌, insert, integer, is_among, is_decimal, is_real_text, IsTrue, items_of, List, Loader, loader_after, MayStandFor, nat_eq, new_loader, None, noted, OfSome, Opened, opened_mapping, opened_sequence, Option, option_map, pairs_of, Position, reads, refl, refused, repeats, scalar_tree, signed_decimal, signed_number-fits, Some, Step, Style, subst, suc, sym, Tag, Tree, true, true_words, typing, typing_plain, Unfinished, unwrap_or, with_document_end, with_event, with_event_at, with_events, with_mapping_end, with_root, with_sequence_end, with_start, with_tree, without, zero, ℕ, ℤ, ◌++◌, ◌||◌, ◌∷◌, ◌≡◌}
+use Rattle.defs_event.proofs.Common.{[], alias, aliased, Anchors, AreDistinct, arith, array, at_work, bad_value, Bool, by_name, bytes_eq, codes, core_prefix, documents_of, Ev, false, false_words, finished, fits_i64, has_key, hash, if◌then◌else◌, integer, is_among, is_decimal, is_real_text, IsTrue, items_of, List, Loader, MayStandFor, new_loader, None, noted, OfSome, Opened, opened_mapping, opened_sequence, Option, option_map, pairs_of, Position, reads, refl, refused, scalar_tree, signed_decimal, signed_number-fits, Some, Step, Style, subst, Tag, Tree, true, true_words, typing, typing_plain, Unfinished, unwrap_or, with_document_end, with_event, with_event_at, with_events, with_mapping_end, with_sequence_end, with_start, with_tree, without, ℕ, ℤ, ◌++◌, ◌||◌, ◌∷◌, ◌≡◌}
 use Rattle.defs_tree.proofs.PairsLaws.{AreDistinct_insert}
 use Rattle.defs_event.specs.Unfinished.{with_node}
 use Rattle.defs_event.specs.Fits.{Fits, ItemsFit, PairsFit, AllFit}
@@ -23,15 +23,10 @@ either P true h r = h
 either P false h r = r
 
 plain_leaf : (text : List ℕ) (t : Tree) → MayStandFor text t → IsLeaf t
-plain_leaf text (integer z) h = h
-plain_leaf text (array ts) h = h
-plain_leaf text (hash ps) h = h
-plain_leaf text (alias n) h = h
-plain_leaf text t h = tt
+plain_leaf text t h = grind arith
 
 number_leaf : (o : Option ℤ) → OfSome (λ z. IsTrue (fits_i64 z)) o → IsLeaf (unwrap_or (option_map integer o) bad_value)
-number_leaf None h = tt
-number_leaf (Some z) h = h
+number_leaf o h = grind arith
 
 named_leaf : (name text : List ℕ) → IsLeaf (by_name name text)
 named_leaf name text =
@@ -125,52 +120,30 @@ module _ (R : Tree → Marks → Type 0) where
   module _ (is : IsKept R) where
     finished_fit : (a : ℕ) (t : Tree) (m : Marks) (anchors : Anchors) (marked : MarkedAnchors)
         → R t m → AliasesFit anchors marked → AliasesFit (finished a t anchors) (finished_marks a m marked)
-    finished_fit zero t m anchors marked f h n p = h n p
-    finished_fit (suc a) t m anchors marked f h n p = by (nat_eq n (suc a))
-      where
-        by : (b : Bool) → R (if b then t else aliased n anchors) (if b then alias_of p m else aliased_marks n p marked)
-        by true = is.of_alias t p m f
-        by false = h n p
-
-    root_fits : (u : Unfinished) (x : Marking) (t : Tree) (m : Marks) (root : Option Tree)
-        → Each R u.documents x.documents → AliasesFit u.anchors x.anchors → R t m → StepFits (with_root t u root) (with_part m x [])
-    root_fits u x t m None d a f = (d, tt, f, a)
-    root_fits u x t m (Some r) d a f = tt
+    finished_fit a t m anchors marked f h n p = grind (arith, is.of_alias t p m f, h n p)
 
     -- a complete tree, where these collections are open
     tree_fits : (u : Unfinished) (x : Marking) (t : Tree) (m : Marks) (cs : List Opened) (os : List OpenMarks)
         → InStep (record u { opened = cs }) (record x { opened = os }) → R t m → StepFits (with_tree t u cs) (with_part m x os)
-    tree_fits u x t m [] [] h f = root_fits u x t m u.root h.0 h.3 f
-    tree_fits u x t m (opened_sequence a ts ∷ cs) (o ∷ os) h f =
-        (h.0, ((h.1.0.0, one_more ts o.parts t m h.1.0.1 f), h.1.1), h.2, h.3)
-    tree_fits u x t m (opened_mapping a ps None ∷ cs) (o ∷ os) h f =
-        (h.0, ((h.1.0.0, h.1.0.1, with_key ps o.parts t m h.1.0.2 f), h.1.1), h.2, h.3)
-    tree_fits u x t m (opened_mapping a ps (Some k) ∷ cs) (o ∷ os) h f = by (has_key k ps) refl
-      where
-        by : (b : Bool) → has_key k ps ≡ b
-            → StepFits (if b then repeats k else reads (record u { opened = opened_mapping a (insert k t ps) None ∷ cs }))
-            (with_part m x (o ∷ os))
-        by true e = tt
-        by false e =
-            let held : EachPair R (insert k t ps) None (o.parts ++ m ∷ []) =
-            subst (λ qs. EachPair R (qs ++ (k, t) ∷ []) None (o.parts ++ m ∷ [])) (sym (new_key k ps e))
-            (with_value ps o.parts k t m h.1.0.2 f) in
-            (h.0, ((h.1.0.0, AreDistinct_insert k t ps h.1.0.1, held), h.1.1), h.2, h.3)
+    tree_fits u x t m [] [] h f = grind arith
+    tree_fits u x t m (opened_sequence a ts ∷ cs) (o ∷ os) h f = grind (arith, one_more)
+    tree_fits u x t m (opened_mapping a ps None ∷ cs) (o ∷ os) h f = grind (arith, with_key)
+    tree_fits u x t m (opened_mapping a ps (Some k) ∷ cs) (o ∷ os) h f =
+        grind (arith, new_key, AreDistinct_insert, with_value ps o.parts k t m h.1.0.2 f)
     tree_fits u x t m cs os h f = absurd h.1
 
     start_fits : (u : Unfinished) (x : Marking) (c : Opened) (o : OpenMarks) (cs : List Opened) (root : Option Tree)
         → InStep (record u { opened = cs }) x → OpenFit c o → StepFits (with_start c u cs root) (record x { opened = o ∷ x.opened })
-    start_fits u x c o [] (Some r) h f = tt
-    start_fits u x c o cs root h f = (h.0, (f, h.1), h.2, h.3)
+    start_fits u x c o cs root h f = grind arith
 
     -- a complete node with an anchor
     node_fits : (u : Unfinished) (x : Marking) (a b : ℕ) (t : Tree) (m : Marks) (cs : List Opened) (os : List OpenMarks)
         → InStep (record u { opened = cs }) (record x { opened = os }) → R t m → a ≡ b
         → StepFits (with_node a t u cs) (with_anchored b m x os)
     node_fits u x a b t m cs os h f e =
-        subst (λ n. StepFits (with_node a t u cs) (with_anchored n m x os)) e
+        rw (← e)
         (tree_fits (record u { anchors = finished a t u.anchors }) (record x { anchors = finished_marks a m x.anchors }) t m cs os
-        (h.0, h.1, h.2, finished_fit a t m u.anchors x.anchors f h.3) f)
+        (grind (arith, finished_fit a t m u.anchors x.anchors f h.3)) f)
 
     sequence_end_fits : (u : Unfinished) (x : Marking) (cs : List Opened) (os : List OpenMarks)
         → InStep (record u { opened = cs }) (record x { opened = os }) → StepFits (with_sequence_end u cs) (with_close x os)
@@ -186,14 +159,10 @@ module _ (R : Tree → Marks → Type 0) where
         node_fits u x a o.anchor (hash (pairs_of ps)) _ cs os (h.0, h.1.1, h.2, h.3) (is.of_hash ps o.start o.parts h.1.0.1 h.1.0.2) h.1.0.0
     mapping_end_fits u x cs os h = tt
 
-    perhaps_root : (t : Option Tree) (m : Option Marks) (p : Position) → RootFits t m → R (unwrap_or t bad_value) (unwrap_or m (leaf p))
-    perhaps_root None None p h = is.of_leaf bad_value p tt
-    perhaps_root (Some t) (Some m) p h = h
-    perhaps_root t m p h = absurd h
-
     document_end_fits : (u : Unfinished) (x : Marking) (p : Position) (cs : List Opened) → InStep u x
         → StepFits (with_document_end u cs) (with_event_marked x Ev.document_end p)
-    document_end_fits u x p [] h = (one_more u.documents x.documents _ _ h.0 (perhaps_root u.root x.root p h.2), h.1, tt, h.3)
+    document_end_fits u x p [] h =
+        (one_more u.documents x.documents _ _ h.0 (grind (arith, is.of_leaf bad_value p tt)), h.1, tt, h.3)
     document_end_fits u x p (c ∷ cs) h = tt
 
     event_fits : (u : Unfinished) (x : Marking) (e : Ev) (p : Position) → InStep u x → StepFits (with_event u e) (with_event_marked x e p)
@@ -218,17 +187,12 @@ module _ (R : Tree → Marks → Type 0) where
     LoaderFits (noted docs key at) x = (ms : List Marks) × Each R docs ms
     LoaderFits (refused docs at) x = (ms : List Marks) × Each R docs ms
 
-    loader_fits : (s : Step) (docs : List Tree) (ms : List Marks) (at : Position) (x : Marking) → StepFits s x → Each R docs ms
-        → LoaderFits (loader_after s docs at) x
-    loader_fits (reads u) docs ms at x h d = h
-    loader_fits _ docs ms at x h d = (ms, d)
-
     events_fit : (l : Loader) (x : Marking) (es : List (Ev × Position))
         → LoaderFits l x → LoaderFits (with_events l es) (with_events_marked x es)
     events_fit l x [] h = h
     events_fit (at_work u) x (e ∷ es) h =
         events_fit (with_event_at (at_work u) e.0 e.1) (with_event_marked x e.0 e.1) es
-        (loader_fits (with_event u e.0) u.documents x.documents e.1 (with_event_marked x e.0 e.1) (event_fits u x e.0 e.1 h) h.0)
+        (grind (arith, event_fits u x e.0 e.1 h))
     events_fit l x (e ∷ es) h = events_fit l (with_event_marked x e.0 e.1) es h
 
     loaded_fit : (es : List (Ev × Position)) → LoaderFits (with_events new_loader es) (with_events_marked nothing_marked es)
@@ -246,12 +210,10 @@ module _ (R : Tree → Marks → Type 0) where
 -- ---- marks with the parts of their trees
 
 leaf_fits : (t : Tree) (p : Position) → IsLeaf t → Fits t (leaf p)
-leaf_fits (array ts) p h = absurd h
-leaf_fits (hash ps) p h = absurd h
-leaf_fits t p h = refl
+leaf_fits t p h = grind arith
 
 alias_fits : (t : Tree) (p : Position) (m : Marks) → Fits t m → Fits t (alias_of p m)
-alias_fits t p (marks own tree ps) h = h
+alias_fits t p m h = grind arith
 
 items_fit : (ts : List Tree) (p : Position) (ms : List Marks) → Each Fits ts ms → ItemsFit (items_of ts) (parts_of ms)
 items_fit [] p [] h = tt

@@ -1,6 +1,7 @@
 -- What scalars have, and arrays and hashes of trees that have it, every loaded tree has.
 use Rattle.std.proofs.lemmas.List.Elements.{All-nil, All-cons}
-use Rattle.defs_event.proofs.Common.{[], alias, All, ap, AreDistinct, array, documents_of, Ev, hash, integer, item, Items, items_of, List, new_loader, no_items, no_pairs, None, pair, pair_list_of, Pairs, pairs_of, Position, refl, subst, Tree, with_events, ◌∷◌, ◌≡◌}
+use Rattle.defs_event.proofs.Common.{[], All, AreDistinct, array, documents_of, Ev, hash, item, Items, items_of, List, new_loader, no_items, no_pairs, None, pair, Pairs, pairs_of, Position, Tree, with_events, ◌∷◌, arith}
+use Rattle.defs_tree.proofs.OverlayLaws.{list_of_pairs}
 use Rattle.defs_tree.specs.Valid.{IsDistinct, AllDistinct, AllPairsDistinct, FitsI64, AllFitI64, AllPairsFitI64}
 use Rattle.defs_event.specs.Marks.{Marks}
 use Rattle.defs_event.specs.NoAlias.{HasNoAlias, NoneHasAlias, NoPairHasAlias}
@@ -20,61 +21,49 @@ loaded_kept P is es = let h = documents_kept (OfTree P) is es in each_all P (doc
 
 -- ---- what is kept
 
--- what is said of each item, and of each key and value
-each_item : (P : Tree → Type 0) (Q : Items → Type 0) → Q no_items → ((t : Tree) (ts : Items) → P t → Q ts → Q (item t ts))
-    → (ts : List Tree) (ms : List Marks) → Each (OfTree P) ts ms → Q (items_of ts)
-each_item P Q none more [] [] h = none
-each_item P Q none more (t ∷ ts) (m ∷ ms) h = more t (items_of ts) h.0 (each_item P Q none more ts ms h.1)
-each_item P Q none more ts ms h = absurd h
+-- What leaves have, and collections of parts that have it, is kept. Q is said of items, and S of pairs.
+module _ (P : Tree → Type 0) (Q : Items → Type 0) (S : Pairs → Type 0) where
+  each_item : Q no_items → ((t : Tree) (ts : Items) → P t → Q ts → Q (item t ts))
+      → (ts : List Tree) (ms : List Marks) → Each (OfTree P) ts ms → Q (items_of ts)
+  each_item none more [] [] h = none
+  each_item none more (t ∷ ts) (m ∷ ms) h = more t (items_of ts) h.0 (each_item none more ts ms h.1)
+  each_item none more ts ms h = absurd h
 
-each_pair : (P : Tree → Type 0) (Q : Pairs → Type 0) → Q no_pairs → ((k v : Tree) (ps : Pairs) → P k → P v → Q ps → Q (pair k v ps))
-    → (ps : List (Tree × Tree)) (ms : List Marks) → EachPair (OfTree P) ps None ms → Q (pairs_of ps)
-each_pair P Q none more [] [] h = none
-each_pair P Q none more (p ∷ ps) (m ∷ n ∷ ms) h = more p.0 p.1 (pairs_of ps) h.0 h.1 (each_pair P Q none more ps ms h.2)
-each_pair P Q none more ps ms h = absurd h
+  each_pair : S no_pairs → ((k v : Tree) (ps : Pairs) → P k → P v → S ps → S (pair k v ps))
+      → (ps : List (Tree × Tree)) (ms : List Marks) → EachPair (OfTree P) ps None ms → S (pairs_of ps)
+  each_pair none more [] [] h = none
+  each_pair none more (p ∷ ps) (m ∷ n ∷ ms) h = more p.0 p.1 (pairs_of ps) h.0 h.1 (each_pair none more ps ms h.2)
+  each_pair none more ps ms h = absurd h
+
+  kept : ((t : Tree) → IsLeaf t → P t) → Q no_items → ((t : Tree) (ts : Items) → P t → Q ts → Q (item t ts))
+      → ((ts : Items) → Q ts → P (array ts))
+      → S no_pairs → ((k v : Tree) (ps : Pairs) → P k → P v → S ps → S (pair k v ps))
+      → ((ps : List (Tree × Tree)) → AreDistinct ps → S (pairs_of ps) → P (hash (pairs_of ps))) → IsKept (OfTree P)
+  kept is_leaf none more of_items no_pair more_pairs of_pairs = record {
+    of_leaf = λ t p. is_leaf t;
+    of_alias = λ t p m h. h;
+    of_array = λ ts p ms h. of_items (items_of ts) (each_item none more ts ms h);
+    of_hash = λ ps p ms d h. of_pairs ps d (each_pair no_pair more_pairs ps ms h);
+  }
 
 no_alias_leaf : (t : Tree) → IsLeaf t → HasNoAlias t
-no_alias_leaf (array ts) h = absurd h
-no_alias_leaf (hash ps) h = absurd h
-no_alias_leaf (alias n) h = h
-no_alias_leaf t h = tt
+no_alias_leaf t h = grind arith
 
 pub no_alias_kept : IsKept (OfTree HasNoAlias)
-no_alias_kept = record {
-  of_leaf = λ t p. no_alias_leaf t;
-  of_alias = λ t p m h. h;
-  of_array = λ ts p. each_item HasNoAlias NoneHasAlias tt (λ t us h i. (h, i)) ts;
-  of_hash = λ ps p ms d. each_pair HasNoAlias NoPairHasAlias tt (λ k v qs h i j. (h, i, j)) ps ms;
-}
+no_alias_kept =
+    kept HasNoAlias NoneHasAlias NoPairHasAlias no_alias_leaf tt (λ t us h i. (h, i)) (λ us h. h) tt
+    (λ k v qs h i j. (h, i, j)) (λ ps d h. h)
 
 fits_leaf : (t : Tree) → IsLeaf t → FitsI64 t
-fits_leaf (integer z) h = h
-fits_leaf (array ts) h = absurd h
-fits_leaf (hash ps) h = absurd h
-fits_leaf t h = tt
+fits_leaf t h = grind arith
 
 pub fits_kept : IsKept (OfTree FitsI64)
-fits_kept = record {
-  of_leaf = λ t p. fits_leaf t;
-  of_alias = λ t p m h. h;
-  of_array = λ ts p. each_item FitsI64 AllFitI64 tt (λ t us h i. (h, i)) ts;
-  of_hash = λ ps p ms d. each_pair FitsI64 AllPairsFitI64 tt (λ k v qs h i j. (h, i, j)) ps ms;
-}
-
-pairs_back : (ps : List (Tree × Tree)) → ps ≡ pair_list_of (pairs_of ps)
-pairs_back [] = refl
-pairs_back (p ∷ ps) = ap (λ qs. p ∷ qs) (pairs_back ps)
+fits_kept = kept FitsI64 AllFitI64 AllPairsFitI64 fits_leaf tt (λ t us h i. (h, i)) (λ us h. h) tt (λ k v qs h i j. (h, i, j)) (λ ps d h. h)
 
 distinct_leaf : (t : Tree) → IsLeaf t → IsDistinct t
-distinct_leaf (array ts) h = absurd h
-distinct_leaf (hash ps) h = absurd h
-distinct_leaf t h = tt
+distinct_leaf t h = grind arith
 
 pub distinct_kept : IsKept (OfTree IsDistinct)
-distinct_kept = record {
-  of_leaf = λ t p. distinct_leaf t;
-  of_alias = λ t p m h. h;
-  of_array = λ ts p. each_item IsDistinct AllDistinct tt (λ t us h i. (h, i)) ts;
-  of_hash = λ ps p ms d h.
-      (subst AreDistinct (pairs_back ps) d, each_pair IsDistinct AllPairsDistinct tt (λ k v qs h i j. (h, i, j)) ps ms h);
-}
+distinct_kept =
+    kept IsDistinct AllDistinct AllPairsDistinct distinct_leaf tt (λ t us h i. (h, i)) (λ us h. h) tt (λ k v qs h i j. (h, i, j))
+    (λ ps d h. (rw (list_of_pairs ps) d, h))

@@ -1,5 +1,5 @@
 -- A statement about each row of a table, and the tokens that it is for.
-use Rattle.defs_event.proofs.Common.{[], Bool, Case, false, if◌then◌else◌, List, on, otherwise, refl, Row, row_of, Some, subst, sym, true, ◌||◌, ◌∷◌, ◌≡◌}
+use Rattle.defs_event.proofs.Common.{[], Bool, Case, false, List, on, otherwise, Row, row_of, Some, true, ◌||◌, ◌∷◌, ◌≡◌, arith}
 
 -- The statement holds of each row and the tokens that it is for: those that its test holds of, or that no test before holds of.
 abbrev pub EachRow : {G T E : Type 0} → (T → Row G E → Type 0) → (tested : T → Bool) → List (Case G T E) → Type 0
@@ -7,14 +7,8 @@ EachRow P tested [] = Unit {0}
 EachRow {T = T} P tested (on test r ∷ cs) = ((t : T) → test t ≡ true → P t r) × EachRow P (λ t. test t || tested t) cs
 EachRow {T = T} P tested (otherwise r ∷ cs) = (t : T) → tested t ≡ false → P t r
 
-by_test : {G T E : Type 0} (P : T → Row G E → Type 0) (tested : T → Bool) (cs : List (Case G T E)) (t : T) (q r : Row G E) (b c : Bool) → c ≡ b
-    → (c ≡ true → P t q) → ((c || tested t) ≡ false → row_of cs t ≡ Some r → P t r) → tested t ≡ false → (if b then Some q else row_of cs t) ≡ Some r → P t r
-by_test P tested cs t q r true c p x y n e = let s : q ≡ r = cc e in subst (λ u. P t u) s (x p)
-by_test P tested cs t q r false c p x y n e = y (subst (λ b. (b || tested t) ≡ false) (sym p) n) e
-
 pub row_holds : {G T E : Type 0} (P : T → Row G E → Type 0) (tested : T → Bool) (cs : List (Case G T E)) → EachRow P tested cs
     → (t : T) → tested t ≡ false → (r : Row G E) → row_of cs t ≡ Some r → P t r
-row_holds P tested [] x t n r h = absurd (cc h)
-row_holds P tested (on test q ∷ cs) x t n r h =
-    by_test P tested cs t q r (test t) (test t) refl (x.0 t) (λ m e. row_holds P (λ u. test u || tested u) cs x.1 t m r e) n h
-row_holds P tested (otherwise q ∷ cs) x t n r h = let s : q ≡ r = cc h in subst (λ u. P t u) s (x t n)
+row_holds P tested [] x t n r h = cc
+row_holds P tested (on test q ∷ cs) x t n r h = grind (arith, x.0 t, row_holds P (λ u. test u || tested u) cs x.1 t)
+row_holds P tested (otherwise q ∷ cs) x t n r h = let s : q ≡ r = cc in rw (← s) (x t n)

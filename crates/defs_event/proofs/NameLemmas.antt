@@ -42,7 +42,7 @@ named_append keep_tags s (x ∷ xs) ys es h =
 -- and the other way round
 pub append_named : (keep_tags : Bool) (s : Names) (xs ys : List Raw) (es fs : List Ev) → named keep_tags s xs ≡ Some es
     → named keep_tags (names_after_all keep_tags s xs) ys ≡ Some fs → named keep_tags s (xs ++ ys) ≡ Some (es ++ fs)
-append_named keep_tags s [] ys es fs h k = let none : [] ≡ es = cc in k ∙ ap (λ (vs : List Ev). Some (vs ++ fs)) none
+append_named keep_tags s [] ys es fs h k = let none : [] ≡ es = cc in rw (← none) k
 append_named keep_tags s (x ∷ xs) ys es fs h k =
     let s' = names_after keep_tags s x in
     let f = both_some (resolved_event s x) (named keep_tags s' xs) es h in

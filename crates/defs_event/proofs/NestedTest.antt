@@ -1,5 +1,5 @@
 -- The test of nesting holds of nested events and of no others.
-use Rattle.defs_event.proofs.Common.{[], after_node, ap, at_key, at_value, before_node, child_then, closes, Ev, in_sequence, in_stream, is_nested, IsNested, IsTrue, List, Nest, nest, nest_events, nest_pair, nest_pairs_events, nested_alias, nested_document_events, nested_documents_events, nested_mapping, nested_scalar, nested_sequence, nested_stream, NestedDocument, NestPairs, Nests, nests_events, no_nest_pairs, no_nests, None, Open, Option, refl, Some, subst, sym, there_and, true, with_child, with_node, without_node, ◌↔◌, ◌∙◌, ◌∷◌, ◌≡◌}
+use Rattle.defs_event.proofs.Common.{[], after_node, ap, at_key, at_value, before_node, child_then, closes, Ev, in_sequence, in_stream, is_nested, IsNested, IsTrue, List, Nest, nest, nest_events, nest_pair, nest_pairs_events, nested_alias, nested_document_events, nested_documents_events, nested_mapping, nested_scalar, nested_sequence, NestedDocument, NestPairs, Nests, nests_events, no_nest_pairs, no_nests, Open, Option, refl, Some, there_and, with_child, with_node, without_node, ◌↔◌, ◌∙◌, ◌∷◌, ◌≡◌, arith}
 
 -- ---- nested events pass
 
@@ -33,9 +33,7 @@ documents_pass [] r = refl
 documents_pass (d ∷ ds) r = document_passes d [] (nested_documents_events ds r) ∙ documents_pass ds r
 
 nested_pass : (es : List Ev) → IsNested es → IsTrue (is_nested es)
-nested_pass es h =
-    let e : is_nested (nested_stream h.0) ≡ true = documents_pass h.0 (Ev.stream_end ∷ []) in
-    subst (λ vs. IsTrue (is_nested vs)) h.1 e
+nested_pass es h = rw (← h.1) (documents_pass h.0 (Ev.stream_end ∷ []))
 
 -- ---- what passes is nested: the events fill what is open
 
@@ -50,23 +48,22 @@ Fills (at_value ∷ os) es = (v : Nest) × (ps : NestPairs) × (vs : List Ev) ×
 
 -- A node there, and what fills the rest.
 filled : (o o' : Open) (n : Nest) (os : List Open) (es vs : List Ev) → with_child o ≡ Some o' → es ≡ nest_events n vs → Fills (o' ∷ os) vs → Fills (o ∷ os) es
-filled before_node after_node n os es vs h e f = (with_node n, f.0, ap (λ ws. Ev.document_start ∷ ws) (e ∙ ap (nest_events n) f.1), f.2)
-filled in_sequence in_sequence n os es vs h e f = (nest n f.0, f.1, e ∙ ap (nest_events n) f.2, f.3)
-filled at_key at_value n os es vs h e f = (nest_pair n f.0 f.1, f.2, e ∙ ap (nest_events n) f.3, f.4)
-filled at_value at_key n os es vs h e f = (n, f.0, f.1, e ∙ ap (nest_events n) f.2, f.3)
+filled before_node after_node n os es vs h e f = (with_node n, f.0, cc, f.2)
+filled in_sequence in_sequence n os es vs h e f = (nest n f.0, f.1, cc, f.3)
+filled at_key at_value n os es vs h e f = (nest_pair n f.0 f.1, f.2, cc, f.4)
+filled at_value at_key n os es vs h e f = (n, f.0, f.1, cc, f.3)
 filled o o' n os es vs h e f = cc
 
 -- what a node leaves open, where one may stand
 left_open : (c : Option Open) (inner os : List Open) (es : List Ev) → IsTrue (there_and (closes es) (child_then c inner os)) → (o : Open) × (c ≡ Some o) × IsTrue (there_and (closes es) (child_then (Some o) inner os))
-left_open None inner os es h = cc
-left_open (Some o) inner os es h = (o, refl, h)
+left_open c inner os es h = grind arith
 
 fills : (es : List Ev) (os : List Open) → IsTrue (closes es os) → Fills os es
 fills [] [] h = refl
 fills [] (o ∷ os) h = cc
 fills (Ev.document_start ∷ es) (in_stream ∷ os) h =
     let f = fills es (before_node ∷ in_stream ∷ os) h in
-    (f.0 ∷ f.3.0, f.3.1, f.2 ∙ ap (nested_document_events f.0) f.3.2, f.3.3)
+    (f.0 ∷ f.3.0, f.3.1, cc, f.3.3)
 fills (Ev.stream_end ∷ es) (in_stream ∷ os) h = ([], es, refl, fills es os h)
 fills (Ev.document_end ∷ es) (before_node ∷ os) h = (without_node, es, refl, fills es os h)
 fills (Ev.document_end ∷ es) (after_node ∷ os) h = (es, refl, fills es os h)
@@ -81,16 +78,16 @@ fills (Ev.scalar x s a t ∷ es) (o ∷ os) h =
 fills (Ev.sequence_start a t ∷ es) (o ∷ os) h =
     let c = left_open (with_child o) (in_sequence ∷ []) os es h in
     let f = fills es (in_sequence ∷ c.0 ∷ os) c.2 in
-    filled o c.0 (nested_sequence a t f.0) os (Ev.sequence_start a t ∷ es) f.1 c.1 (ap (λ ws. Ev.sequence_start a t ∷ ws) f.2) f.3
+    filled o c.0 (nested_sequence a t f.0) os (Ev.sequence_start a t ∷ es) f.1 c.1 (cc) f.3
 fills (Ev.mapping_start a t ∷ es) (o ∷ os) h =
     let c = left_open (with_child o) (at_key ∷ []) os es h in
     let f = fills es (at_key ∷ c.0 ∷ os) c.2 in
-    filled o c.0 (nested_mapping a t f.0) os (Ev.mapping_start a t ∷ es) f.1 c.1 (ap (λ ws. Ev.mapping_start a t ∷ ws) f.2) f.3
+    filled o c.0 (nested_mapping a t f.0) os (Ev.mapping_start a t ∷ es) f.1 c.1 (cc) f.3
 fills (e ∷ es) os h = cc
 
 pass_nested : (es : List Ev) → IsTrue (is_nested es) → IsNested es
 pass_nested (Ev.stream_start ∷ es) h =
-    let f = fills es (in_stream ∷ []) h in (f.0, sym (ap (λ vs. Ev.stream_start ∷ vs) (f.2 ∙ ap (λ vs. nested_documents_events f.0 (Ev.stream_end ∷ vs)) f.3)))
+    let f = fills es (in_stream ∷ []) h in (f.0, cc)
 pass_nested es h = cc
 
 pub test_is_exact : (es : List Ev) → IsTrue (is_nested es) ↔ IsNested es

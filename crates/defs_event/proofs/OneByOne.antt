@@ -1,5 +1,5 @@
 -- Nested events, handed in one by one, are read as the recursive reading has them.
-use Rattle.defs_event.proofs.Common.{[], Anchors, ap, array, at_work, Bool, documents_or_key, Err, Ev, events_of, false, finished, has_key, hash, HasRead, if◌then◌else◌, insert, items_of, List, Loader, loader_after, Nest, nest, nest_events, nest_pair, nest_pairs_events, nested_alias, nested_document_events, nested_documents_events, nested_mapping, nested_scalar, nested_sequence, nested_stream, NestedDocument, NestPairs, Nests, nests_events, new_loader, no_nest_pairs, no_nests, None, noted, nothing_read, Ok, Opened, opened_mapping, opened_sequence, Option, out_of_nesting, pairs_of, Position, Read, read_document, read_documents, read_items, read_node, read_pairs, reading, reads, refl, refused, repeats, Some, Step, subst, then_read, Tree, true, Unfinished, with_event, with_event_at, with_events, with_node, with_start, with_tree, without_node, ℕ, ◌++◌, ◌∙◌, ◌∷◌, ◌≡◌}
+use Rattle.defs_event.proofs.Common.{[], Anchors, ap, array, at_work, Bool, documents_or_key, Err, Ev, events_of, finished, has_key, hash, HasRead, if◌then◌else◌, insert, items_of, List, Loader, Nest, nest, nest_events, nest_pair, nest_pairs_events, nested_alias, nested_document_events, nested_documents_events, nested_mapping, nested_scalar, nested_sequence, nested_stream, NestedDocument, NestPairs, Nests, nests_events, new_loader, no_nest_pairs, no_nests, None, noted, nothing_read, Ok, Opened, opened_mapping, opened_sequence, Option, out_of_nesting, pairs_of, Position, Read, read_document, read_documents, read_items, read_node, read_pairs, reading, reads, refl, refused, repeats, Some, Step, then_read, Tree, Unfinished, with_event, with_event_at, with_events, with_node, with_start, with_tree, without_node, ℕ, ◌++◌, ◌∙◌, ◌∷◌, ◌≡◌, arith}
 
 -- ---- all events, whatever their positions
 
@@ -13,15 +13,9 @@ step_of (at_work u) = reads u
 step_of (noted docs key p) = repeats key
 step_of (refused docs p) = out_of_nesting
 
-step_after : (s : Step) (docs : List Tree) (p : Position) → step_of (loader_after s docs p) ≡ s
-step_after (reads u) docs p = refl
-step_after s docs p = refl
-
 as_run : (es : List (Ev × Position)) (l : Loader) → step_of (with_events l es) ≡ run (step_of l) (events_of es)
-as_run [] (at_work u) = refl
-as_run [] l = refl
-as_run (e ∷ es) (at_work u) = as_run es (with_event_at (at_work u) e.0 e.1) ∙ ap (λ s. run s (events_of es)) (step_after (with_event u e.0) u.documents e.1)
-as_run (e ∷ es) l = as_run es l
+as_run [] l = grind arith
+as_run (e ∷ es) l = as_run es (with_event_at l e.0 e.1) ∙ grind arith
 
 abbrev state : List Tree → List Opened → Option Tree → Anchors → Unfinished
 state docs opened root anchors = record { documents = docs; opened = opened; root = root; anchors = anchors }
@@ -34,8 +28,7 @@ came (Err key) goal = repeats key
 
 came_then : {A B : Type 0} (x : Read A) (next : A → Anchors → Read B) (goal : A → Anchors → Step) (goal' : B → Anchors → Step) (s : Step)
     → s ≡ came x goal → ((a : A) (more : Anchors) → goal a more ≡ came (next a more) goal') → s ≡ came (then_read x next) goal'
-came_then (Ok x) next goal goal' s h k = h ∙ k x.0 x.1
-came_then (Err key) next goal goal' s h k = h
+came_then x next goal goal' s h k = grind arith
 
 -- a node may begin
 abbrev Room : List Opened → Option Tree → Type 0
@@ -44,14 +37,11 @@ Room outer root = Unit {0}
 
 starts : (c : Opened) (u : Unfinished) (outer : List Opened) (root : Option Tree) → Room outer root
     → with_start c u outer root ≡ reads (record u { opened = c ∷ outer })
-starts c u [] (Some t) h = absurd h
-starts c u outer root h = refl
+starts c u outer root h = grind arith
 
 -- what was open does not count
 ended : (t : Tree) (docs : List Tree) (opened outer : List Opened) (root : Option Tree) (anchors : Anchors) → with_tree t (state docs opened root anchors) outer ≡ with_tree t (state docs outer root anchors) outer
-ended t docs opened [] None anchors = refl
-ended t docs opened (opened_mapping a ps None ∷ outer) root anchors = refl
-ended t docs opened outer root anchors = refl
+ended t docs opened outer root anchors = grind arith
 
 abbrev after_node : List Tree → List Opened → Option Tree → List Ev → Tree → Anchors → Step
 after_node docs outer root r t anchors = run (with_tree t (state docs outer root anchors) outer) r
@@ -65,8 +55,7 @@ after_pairs docs outer root a r ps anchors = run (reads (state docs (opened_mapp
 -- a pair is inserted, or its key was there
 pair_ends : {A : Type 0} (b : Bool) (key : Tree) (z : Read A) (goal : A → Anchors → Step) (u : Unfinished) (r : List Ev)
     → run (reads u) r ≡ came z goal → run (if b then repeats key else reads u) r ≡ came (if b then Err key else z) goal
-pair_ends true key z goal u r h = refl
-pair_ends false key z goal u r h = h
+pair_ends b key z goal u r h = grind arith
 
 mutual
   node_came : (n : Nest) (docs : List Tree) (outer : List Opened) (root : Option Tree) (anchors : Anchors) (r : List Ev) → Room outer root
@@ -121,9 +110,7 @@ documents_came (d ∷ ds) docs anchors r =
     (λ t more. documents_came ds (docs ++ t ∷ []) more r)
 
 has_read : (x : Read (List Tree)) (l : Loader) → step_of l ≡ came x (after_documents (Ev.stream_end ∷ [])) → HasRead (documents_or_key x) l
-has_read (Ok x) (at_work u) h = let e : state x.0 [] None x.1 ≡ u = cc in subst (λ v. HasRead (Ok x.0) (at_work v)) e (refl, refl, refl)
-has_read (Err k) (noted docs key p) h = cc
-has_read x l h = cc
+has_read x l h = grind arith
 
 pub one_by_one : (ds : List NestedDocument) (es : List (Ev × Position)) → events_of es ≡ nested_stream ds → HasRead (reading ds) (with_events new_loader es)
 one_by_one ds es h =

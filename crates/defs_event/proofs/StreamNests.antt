@@ -1,35 +1,11 @@
 -- The events that the table says are nested: what each goal's events make of what is open, and that its rows make the same of it.
 use Rattle.std.specs.Option.{option_and, option_and_then}
-use Rattle.defs_event.proofs.Common.{[], after_anchor, after_brace, after_comma, after_node, after_tag, ap, at_key, at_value, before, block_mapping_entries, block_mapping_value, block_sequence_entries, Bool, by_leaving, by_taking, cases, child_then, closes, content, Derives, directives, document_end, documents, Ev, explicit_document, flow_mapping_comma, flow_mapping_entries, flow_mapping_value, flow_mapping_valued, flow_sequence_comma, flow_sequence_entries, flow_value, Goal, grammar, Held, in_block, in_flow, in_pair, in_sequence, in_stream, indentless_sequence_entries, is_nested, IsNested, IsStream, key, leaves, List, no_flow_mapping_value, no_names, node, None, nothing_held, nothing_left, Open, open_after, Option, Part, part_work, Place, Raw, read, refl, Row, row_of, saying, says, show, Side, Some, StreamSays, Style, subst, subst₂, takes, then_in, there_and, Tok, true, value, with_child, Work, ◌∙◌, ◌∷◌, ◌≡◌}
+use Rattle.defs_event.proofs.Common.{[], after_anchor, after_brace, after_comma, after_node, after_tag, ap, at_key, at_value, before, block_mapping_entries, block_mapping_value, block_sequence_entries, Bool, by_leaving, by_taking, cases, child_then, closes, content, Derives, directives, document_end, documents, Ev, explicit_document, flow_mapping_comma, flow_mapping_entries, flow_mapping_value, flow_mapping_valued, flow_sequence_comma, flow_sequence_entries, flow_value, Goal, grammar, Held, in_block, in_flow, in_pair, in_sequence, in_stream, indentless_sequence_entries, is_nested, IsNested, IsStream, key, leaves, List, no_flow_mapping_value, no_names, node, None, nothing_held, nothing_left, Open, open_after, Option, Part, Place, Raw, read, refl, Row, row_of, saying, says, show, Side, Some, StreamSays, Style, takes, then_in, there_and, Tok, true, value, with_child, Work, ◌∙◌, ◌∷◌, ◌≡◌, arith}
 use Rattle.defs_event.specs.Table.{reading}
-use Rattle.defs_event.proofs.Shaped.{Shaped, named_shaped}
+use Rattle.defs_event.proofs.Shaped.{shape_of, Shaped, named_shaped}
 use Rattle.defs_event.proofs.NestedTest.{test_is_exact}
 
 -- ---- what is open after work, or nothing where the work may not stand
-
--- the event with no anchor and no tag
-abbrev shape_of : Raw → Ev
-shape_of Raw.stream_start = Ev.stream_start
-shape_of Raw.stream_end = Ev.stream_end
-shape_of (Raw.document_start ds) = Ev.document_start
-shape_of Raw.document_end = Ev.document_end
-shape_of (Raw.alias n) = Ev.alias 0
-shape_of (Raw.scalar x s a t) = Ev.scalar x s 0 None
-shape_of (Raw.empty_scalar a t) = Ev.scalar [] Style.plain 0 None
-shape_of (Raw.flow_sequence_start a t) = Ev.sequence_start 0 None
-shape_of (Raw.sequence_start a t) = Ev.sequence_start 0 None
-shape_of (Raw.indentless_sequence_start a t) = Ev.sequence_start 0 None
-shape_of Raw.flow_sequence_end = Ev.sequence_end
-shape_of Raw.sequence_end = Ev.sequence_end
-shape_of Raw.indentless_sequence_end = Ev.sequence_end
-shape_of (Raw.flow_mapping_start a t) = Ev.mapping_start 0 None
-shape_of (Raw.mapping_start a t) = Ev.mapping_start 0 None
-shape_of Raw.pair_start = Ev.mapping_start 0 None
-shape_of Raw.pair_end = Ev.mapping_end
-shape_of Raw.unwritten_value = Ev.scalar [] Style.plain 0 None
-shape_of Raw.flow_mapping_end = Ev.mapping_end
-shape_of Raw.flow_mapping_end_at_comma = Ev.mapping_end
-shape_of Raw.mapping_end = Ev.mapping_end
 
 -- after what comes after a key, or after a value
 abbrev after_side : Side → List Open → Option (List Open)
@@ -87,23 +63,16 @@ by_row None h t os other = other
 by_row (Some r) h t os other = after_all (before grammar h t (parts_of r) []) os
 
 then_too : (p : Place) (h : Held) (t : Tok) (os : List Open) → after_all (before grammar h t (then_in p) []) os ≡ after_place p os
-then_too (in_pair key) h t os = refl
-then_too p h t os = refl
+then_too p h t os = grind arith
 
 same : (x : Option (List Open)) → option_and x (option_and_then (λ os. Some os) x) ≡ x
-same None = refl
-same (Some os) = refl
-
-if_same : (x y : Option (List Open)) → y ≡ x → option_and x y ≡ x
-if_same None y h = refl
-if_same (Some os) y h = h
+same x = grind arith
 
 -- a node, with what it opens
 child : (c : Option Open) (inner os : List Open) (f k : List Open → Option (List Open))
     → ((o : Open) → option_and_then f (child_then (Some o) inner os) ≡ k (o ∷ os))
     → option_and (option_and_then k (child_then c [] os)) (option_and_then f (child_then c inner os)) ≡ option_and_then k (child_then c [] os)
-child None inner os f k h = refl
-child (Some o) inner os f k h = if_same (k (o ∷ os)) (option_and_then f (child_then (Some o) inner os)) (h o)
+child c inner os f k h = grind arith
 
 -- A clause that names `key` has the checker look at each token there. The last clause with its pattern is for the others.
 row_too : (g : Goal) (os : List Open) (t : Tok) (h : Held) → option_and (after_goal g os) (by_row (row_of (cases g) t) h t os (after_goal g os)) ≡ after_goal g os
@@ -156,10 +125,7 @@ bare (Ev.mapping_start a t) = Ev.mapping_start 0 None
 bare e = e
 
 bare_opens : (e : Ev) (os : List Open) → open_after e os ≡ open_after (bare e) os
-bare_opens (Ev.alias n) [] = refl
-bare_opens (Ev.alias n) (o ∷ os) = refl
-bare_opens e [] = refl
-bare_opens e (o ∷ os) = refl
+bare_opens e os = grind arith
 
 -- the first event and those after it
 first_opens : (e : Raw) (r : List Raw) (es : List Ev) → Shaped (e ∷ r) es
@@ -179,21 +145,17 @@ first_opens e r es x = (shape_of e, x.0, x.1, (λ os. refl), x.2)
 over : (h : Held) (t : Tok) (ps : List (Part Goal Raw)) (w : List (Work Goal Raw Held)) (o : Option (List Open))
     → option_and_then (after_all (before grammar h t ps w)) o ≡ option_and_then (after_all w) (option_and_then (after_all (before grammar h t ps [])) o)
 over h t ps w None = refl
-over h t [] w (Some os) = refl
-over h t (p ∷ ps) w (Some os) = over h t ps w (after_work (part_work grammar h t p) os)
+over h t [] w o = refl
+over h t (p ∷ ps) w (Some os) = over h t ps w _
 
 -- A row's parts stand where its goal stands, and leave as much to close.
 goal_parts : (g : Goal) (h : Held) (t : Tok) (r : Row Goal Raw) (w : List (Work Goal Raw Held)) (os new : List Open) → row_of (cases g) t ≡ Some r
     → (x : Option (List Open)) → after_goal g os ≡ x → option_and_then (after_all w) x ≡ Some new → after_all (before grammar h t (parts_of r) w) os ≡ Some new
-goal_parts g h t r w os new p None q e = cc
-goal_parts g h t r w os new p (Some mid) q e =
-    let s : option_and (Some mid) (by_row (Some r) h t os (Some mid)) ≡ Some mid = subst₂ (λ x y. option_and x (by_row y h t os x) ≡ x) q p (row_too g os t h) in
-    over h t (parts_of r) w (Some os) ∙ ap (option_and_then (after_all w)) s ∙ e
+goal_parts g h t r w os new p x q e = grind (arith, row_too g os t h, over h t (parts_of r) w (Some os))
 
 then_closes : (f : List Open → Option (List Open)) (test : List Open → Bool) → ((os : List Open) → f os ≡ Some [] → test os ≡ true) → (x : Option (List Open))
     → option_and_then f x ≡ Some [] → there_and test x ≡ true
-then_closes f test k None h = cc
-then_closes f test k (Some os) h = k os h
+then_closes f test k x h = grind arith
 
 derived_closes : (w : List (Work Goal Raw Held)) (ts : List Tok) (es : List Raw) → Derives grammar w ts es → (vs : List Ev) → Shaped es vs → (os : List Open)
     → after_all w os ≡ Some [] → closes vs os ≡ true
@@ -217,8 +179,7 @@ said_start ts _ events (says {es = es} d) x = ap is_nested x.1 ∙ derived_close
 passes : (tokens : List Tok) (raws : List Raw) (events : List Ev) → StreamSays tokens raws → Shaped raws events → is_nested events ≡ true
 passes [] raws events d x = elim d [ ]
 passes (Tok.stream_start ∷ ts) raws events (by_taking ps p d) x =
-    let e : ps ≡ show ∷ read documents ∷ [] = cc p in
-    said_start ts raws events (subst (λ qs. Derives grammar (before grammar nothing_held Tok.stream_start qs []) ts raws) e d) x
+    let e : ps ≡ show ∷ read documents ∷ [] = cc in said_start ts raws events (rw e at d) x
 passes (t ∷ ts) raws events (by_taking ps p d) x = let none : None ≡ Some (takes ps) = p in cc
 passes (Tok.stream_start ∷ ts) raws events (by_leaving ps p d) x = let other : Some (takes (show ∷ read documents ∷ [])) ≡ Some (leaves ps) = p in cc
 passes (t ∷ ts) raws events (by_leaving ps p d) x = let none : None ≡ Some (leaves ps) = p in cc

@@ -1,5 +1,5 @@
 -- The value of a JSON text has a JSON text, and nests as the text does.
-use Rattle.defs_layout.proofs.Common.{[], AllHaveJson, and_from, and_parts, ap, are_characters, are_pieces, AreDistinct, AreElements, AreMembers, arith, Bool, element, element_levels, Elements, exponent, false, fits_i64, fraction, HasJson, if◌then◌else◌, integer, integer_value, is_character, is_number, is_piece, is_unescaped, IsJson, item_nesting, items, Json, last_element, last_member, levels, List, max, member, member_levels, member_nesting, Members, nat_tests, nesting, no_exponent, no_fraction, Number, number, number_tree, pair_list, pairs_of, Piece, real, refl, spell_number, subst, suc, sym, tree_of, true, unescaped, value_of, ValuesHaveJson, ◌∷◌, ◌≡◌, eqb-true}
+use Rattle.defs_layout.proofs.Common.{[], AllHaveJson, and_from, and_parts, ap, are_characters, are_pieces, AreElements, AreMembers, arith, Bool, element, element_levels, Elements, exponent, false, fits_i64, fraction, HasJson, if◌then◌else◌, integer, integer_value, is_character, is_number, is_piece, is_unescaped, IsJson, item_nesting, items, Json, last_element, last_member, levels, List, max, member, member_levels, member_nesting, Members, nat_tests, nesting, no_exponent, no_fraction, Number, number, number_tree, pair_list, pairs_of, Piece, real, refl, spell_number, suc, tree_of, true, unescaped, value_of, ValuesHaveJson, ◌∷◌, ◌≡◌, eqb-true}
 use Rattle.defs_layout.specs.Json as json
 use Rattle.defs_layout.proofs.Numbers.{real_from}
 use Rattle.defs_tree.proofs.OverlayLaws.{list_of_pairs}
@@ -12,7 +12,7 @@ piece_is e h = grind (arith, nat_tests, eqb-true, and_parts)
 
 pieces_are : (ps : List Piece) → are_pieces ps ≡ true → are_characters (unescaped ps) ≡ true
 pieces_are [] h = refl
-pieces_are (p ∷ ps) h = let q = and_parts (is_piece p) (are_pieces ps) h in and_from _ _ (piece_is p q.0) (pieces_are ps q.1)
+pieces_are (p ∷ ps) h = grind (arith, and_parts, and_from, piece_is, pieces_are ps)
 
 -- ---- numbers
 
@@ -33,7 +33,7 @@ mutual
   has (json.string ps) h = pieces_are ps h
   has (json.array g es) h = all_have es h.1
   has (json.empty_object g) h = (tt, tt)
-  has (json.object g ms) h = (subst AreDistinct (sym (list_of_pairs (pair_list ms))) h.2, are_members ms h.1)
+  has (json.object g ms) h = (rw (list_of_pairs (pair_list ms)) h.2, are_members ms h.1)
   has v h = tt
 
   all_have : (es : Elements) → AreElements es → AllHaveJson (items es)

@@ -1,5 +1,5 @@
 -- A basic layout is a layout of its one tree, and basic layouts one after another, an LF after each, are a layout of their trees.
-use Rattle.defs_layout.proofs.Common.{[], ap, AreDocuments, AreEmptyLines, codes, comment_line, Document, document, Documents, empty_line, GapLine, IsBasicLayout, IsBasicRoot, IsGap, last_document, List, refl, root_tree, spell_document, spell_documents, spell_ending, spell_gap, sym, Tree, trees_of, true, ℕ, ◌++◌, ◌∙◌, ◌∷◌, ◌≡◌, arith}
+use Rattle.defs_layout.proofs.Common.{[], ap, AreDocuments, AreEmptyLines, codes, Document, document, Documents, empty_line, GapLine, IsBasicLayout, IsBasicRoot, IsGap, last_document, List, refl, root_tree, spell_document, spell_documents, spell_ending, spell_gap, sym, Tree, trees_of, true, ℕ, ◌++◌, ◌∙◌, ◌∷◌, ◌≡◌, arith}
 use Rattle.defs_layout.specs.InTurn.{AreLaidOutInTurn}
 use Rattle.defs_layout.specs.Laws.{BasicLayoutsAreLayouts, LayoutsInTurnAreLayouts}
 use Rattle.defs_layout.proofs.Appended.{document_append}
@@ -25,14 +25,12 @@ one t text (w, is, basic, spelt, trees) = grind arith
 -- it ends the last line of what ends the document
 feed_ends : (g : List GapLine) (r : List ℕ) → spell_ending g (10 ∷ r) ≡ 10 ∷ spell_gap g r
 feed_ends [] r = refl
-feed_ends (empty_line ∷ g) r = ap (λ x. 10 ∷ x) (feed_ends g r)
-feed_ends (comment_line text ∷ g) r = ap (λ x. 10 ∷ 35 ∷ (text ++ x)) (feed_ends g r)
+feed_ends (l ∷ g) r = grind (arith, feed_ends g r)
 
 -- or it is an empty line more
 ending_text : (g : List GapLine) → spell_ending (g ++ empty_line ∷ []) [] ≡ spell_ending g (10 ∷ [])
 ending_text [] = refl
-ending_text (empty_line ∷ g) = ap (λ x. 10 ∷ x) (ending_text g)
-ending_text (comment_line text ∷ g) = ap (λ x. 10 ∷ 35 ∷ (text ++ x)) (ending_text g)
+ending_text (l ∷ g) = grind (arith, ending_text g)
 
 ended_gap : (g : List GapLine) → IsGap g → IsGap (g ++ empty_line ∷ [])
 ended_gap [] h = (tt, tt)

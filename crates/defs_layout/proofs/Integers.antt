@@ -2,7 +2,7 @@
 use Rattle.std.specs.Fmt.{signed_decimal}
 use Rattle.std.proofs.lemmas.Fmt.{decimal_is_IsNumeral, decimal_digit, decimal_nonempty, first_decimal}
 use Rattle.std.proofs.lemmas.Str.Parse.{digit_from_value}
-use Rattle.defs_layout.proofs.Common.{[], AllDigits, and_from, and_parts, ap, arith, Bool, decimal, false, fits_i64, get_or, integer, integer_value, is_ascii_digit, is_number, is_whole, length, List, list_all, ltb-true, nat_tests, neg_ℤ, negsuc, no_exponent, no_fraction, Number, number, number_tree, pos, refl, spell_number, suc, true, zero, ℕ, ℤ, ◌++◌, ◌<◌, ◌^◌, ◌∷◌, ◌≡◌, eqb-true}
+use Rattle.defs_layout.proofs.Common.{[], AllDigits, and_from, and_parts, ap, arith, decimal, false, fits_i64, get_or, integer, is_ascii_digit, is_number, is_whole, length, List, list_all, ltb-true, nat_tests, negsuc, no_exponent, no_fraction, Number, number, number_tree, pos, refl, spell_number, suc, true, zero, ℕ, ℤ, ◌++◌, ◌<◌, ◌^◌, ◌∷◌, ◌≡◌, eqb-true}
 
 digits_test : (ds : List ℕ) → AllDigits 10 ds → list_all is_ascii_digit ds ≡ true
 digits_test [] h = refl
@@ -26,9 +26,6 @@ pub record IsInteger (z : ℤ) : Type 0 where
   pub fits : is_number (integer_number z) ≡ true
   pub value : number_tree (integer_number z) ≡ integer z
 
-plain_value : (b : Bool) (w : List ℕ) (z : ℤ) → integer_value b w ≡ z → fits_i64 z ≡ true → number_tree (number b w no_fraction no_exponent) ≡ integer z
-plain_value b w z e h = rw (e, h) refl
-
 pub integer_written : (z : ℤ) → fits_i64 z ≡ true → IsInteger z
 unfolding integer_number
 integer_written (pos n) h =
@@ -36,12 +33,12 @@ integer_written (pos n) h =
     record {
       spelt = λ r. refl;
       fits = and_from _ true (and_from _ true (decimal_whole n (omega arith)) refl) refl;
-      value = plain_value false (decimal n) (pos n) (ap pos (decimal_is_IsNumeral n (omega arith)).1) h;
+      value = rw ((decimal_is_IsNumeral n (omega arith)).1, h) refl;
     }
 integer_written (negsuc n) h =
     let small : n < 2 ^ 63 = ltb-true n (2 ^ 63) h in
     record {
       spelt = λ r. refl;
       fits = and_from _ true (and_from _ true (decimal_whole (suc n) (omega arith)) refl) refl;
-      value = plain_value true (decimal (suc n)) (negsuc n) (ap (λ m. neg_ℤ (pos m)) (decimal_is_IsNumeral (suc n) (omega arith)).1) h;
+      value = rw ((decimal_is_IsNumeral (suc n) (omega arith)).1, h) refl;
     }

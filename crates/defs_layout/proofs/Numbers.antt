@@ -1,5 +1,5 @@
 -- The reals that JSON can write are the texts of its numbers whose value is a real.
-use Rattle.defs_layout.proofs.Common.{[], and_from, and_parts, ap, append-nil, append_assoc, are_digits, arith, at_least_one, begins_in, Bool, cut_from, cut_to, eqb-true, Exponent, exponent, followed_by, followed_by-empty, Fraction, fraction, in_order, integer_value, is_ascii_digit, is_digit, is_exponent, is_exponent_mark, is_frac, is_fraction, is_json_number, is_json_real, is_minus, is_none, is_number, is_sign, is_whole, List, list_all, nat_tests, no_exponent, no_fraction, None, Number, number_tree, one, optional, real, refl, Sign, signed_decimal, spell_exponent, spell_fraction, spell_minus, spell_number, spell_sign, subst, sym, true, ℕ, ◌&&◌, ◌++◌, ◌==◌, ◌∙◌, ◌∷◌, ◌≡◌}
+use Rattle.defs_layout.proofs.Common.{[], and_from, and_parts, ap, append-nil, append_assoc, are_digits, arith, at_least_one, begins_in, Bool, cut_from, cut_to, eqb-true, Exponent, exponent, followed_by, followed_by-empty, Fraction, fraction, in_order, integer_value, is_ascii_digit, is_digit, is_exponent, is_exponent_mark, is_frac, is_fraction, is_json_number, is_json_real, is_minus, is_none, is_number, is_sign, is_whole, List, list_all, nat_tests, no_exponent, no_fraction, None, Number, number_tree, one, optional, real, refl, Sign, signed_decimal, spell_exponent, spell_fraction, spell_minus, spell_number, spell_sign, sym, true, ℕ, ◌&&◌, ◌++◌, ◌∙◌, ◌∷◌, ◌≡◌}
 use Rattle.defs_layout.specs.JsonNumber as json
 use Rattle.defs_layout.proofs.WholeNumbers.{fitted, signed_text, IsOther, no_digits}
 
@@ -9,6 +9,10 @@ record IsPart (P : Type 0) (fits : P → Bool) (spell : P → List ℕ → List 
   part : P
   fit : fits part ≡ true
   spelt : (r : List ℕ) → spell part r ≡ t ++ r
+
+-- what was cut, put together before the rest r
+together : (w x s r : List ℕ) → w ++ x ≡ s → w ++ (x ++ r) ≡ s ++ r
+together w x s r whole = rw (← whole, append_assoc w x r) refl
 
 -- one character of a class
 record IsOne (p : ℕ → Bool) (t : List ℕ) : Type 0 where
@@ -24,9 +28,7 @@ minus_part a h = grind arith
 
 frac_part : (t : List ℕ) → optional is_frac t ≡ true → IsPart Fraction is_fraction spell_fraction t
 frac_part [] h = record { part = no_fraction; fit = refl; spelt = λ r. refl }
-frac_part (c ∷ w) h =
-    let parts = and_parts (c == 46) (are_digits w) h in
-    record { part = fraction w; fit = parts.1; spelt = λ r. ap (λ d. d ∷ (w ++ r)) (sym (eqb-true c 46 parts.0)) }
+frac_part (c ∷ w) h = record { part = fraction w; fit = grind (arith, and_parts); spelt = λ r. grind (arith, and_parts, eqb-true) }
 
 sign_part : (t : List ℕ) → optional (one is_sign) t ≡ true → IsPart Sign (λ s. true) spell_sign t
 sign_part a h = grind arith
@@ -48,10 +50,7 @@ some_exponent t h =
       part = exponent letter.0 sign.part second.after;
       fit = digits;
       spelt = λ r.
-          (λ i. letter.1 i ∷ sign.spelt (second.after ++ r) i)
-          ∙ ap (λ u. mark.character ∷ u) (sym (append_assoc second.before second.after r) ∙ ap (λ u. u ++ r) second.whole)
-          ∙ ap (λ u. u ++ (first.after ++ r)) (sym mark.whole)
-          ∙ sym (append_assoc first.before first.after r) ∙ ap (λ u. u ++ r) first.whole;
+          rw (letter.1, sign.spelt, together _ _ _ r second.whole) (rw mark.whole at (together first.before first.after t r first.whole));
     }
 
 exponent_part : (t : List ℕ) → optional is_exponent t ≡ true → IsPart Exponent json.is_exponent spell_exponent t
@@ -76,21 +75,14 @@ number_text s h =
     record {
       written = json.number m.part b.before f.part e.part;
       fits = and_from _ _ (and_from _ _ b.is_first f.fit) e.fit;
-      spelt = λ r.
-          m.spelt (b.before ++ spell_fraction f.part (spell_exponent e.part r))
-          ∙ ap (λ u. a.before ++ (b.before ++ u)) (f.spelt (spell_exponent e.part r) ∙ ap (λ u. d.before ++ u) (e.spelt r) ∙ sym (append_assoc d.before d.after r) ∙ ap (λ u. u ++ r) d.whole)
-          ∙ ap (λ u. a.before ++ u) (sym (append_assoc b.before b.after r) ∙ ap (λ u. u ++ r) b.whole)
-          ∙ sym (append_assoc a.before a.after r) ∙ ap (λ u. u ++ r) a.whole;
+      spelt = λ r. rw (m.spelt, f.spelt, e.spelt, together _ _ _ r d.whole, together _ _ _ r b.whole) (together _ _ _ r a.whole);
     }
 
 -- ---- as integers
 
-digit_test : (c : ℕ) → is_ascii_digit c ≡ true → is_digit 10 c ≡ true
-digit_test c h = grind (arith, nat_tests)
-
 all_digits : (w : List ℕ) → list_all is_ascii_digit w ≡ true → list_all (is_digit 10) w ≡ true
 all_digits [] h = refl
-all_digits (c ∷ w) h = let q = and_parts (is_ascii_digit c) (list_all is_ascii_digit w) h in and_from _ _ (digit_test c q.0) (all_digits w q.1)
+all_digits (c ∷ w) h = grind (arith, nat_tests, and_parts, and_from, all_digits w)
 
 whole_begins : (w r : List ℕ) → are_digits w ≡ true → begins_in is_ascii_digit (w ++ r) ≡ true
 whole_begins a r h = grind arith
@@ -130,12 +122,8 @@ real_written s h =
     let parts = and_parts (is_json_number s) (is_none (signed_decimal s)) h in
     let n = number_text s parts.0 in
     let whole : spell_number n.written [] ≡ s = n.spelt [] ∙ append-nil s in
-    record {
-      written = n.written;
-      fits = n.fits;
-      spelt = n.spelt;
-      value = real_value n.written n.fits (ap (λ t. is_none (signed_decimal t)) whole ∙ parts.1) ∙ ap real whole;
-    }
+    let value = real_value n.written n.fits (rw whole parts.1) in
+    record { written = n.written; fits = n.fits; spelt = n.spelt; value = rw whole at value }
 
 cut : (f g : List ℕ → Bool) (a b : List ℕ) → f a ≡ true → g b ≡ true → followed_by f g (a ++ b) ≡ true
 cut f g a b h k = cut_to f g (a ++ b) (record { before = a; after = b; whole = refl; is_first = h; is_second = k })
@@ -149,5 +137,4 @@ text_of_number a h = grind (arith, and_parts, followed_by-empty, exponent_text, 
 
 pub real_from : (n : Number) (s : List ℕ) → is_number n ≡ true → number_tree n ≡ real s → is_json_real s ≡ true
 real_from n s h e =
-    let o = no_integer n s h e in
-    subst (λ t. is_json_real t ≡ true) o.1 (and_from _ _ (text_of_number n h) o.0)
+    let o = no_integer n s h e in rw (← o.1) (and_from _ _ (text_of_number n h) o.0)

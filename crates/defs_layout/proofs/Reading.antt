@@ -1,5 +1,5 @@
 -- A JSON number read from left to right: a minus, the whole part, a fraction, an exponent. For code that reads so.
-use Rattle.defs_layout.proofs.Common.{[], after_all, after_one, any-after, any_number, ap, are_digits, arith, at_least-after, at_least_one, begins_in, Bool, empty-followed_by, exponent_read, false, followed_by, followed_by-and, followed_by-or, if◌then◌else◌, in_order, is_ascii_digit, is_empty, is_exponent, is_exponent_mark, is_frac, is_json_number, is_minus, is_whole, List, nat_tests, not, optional, optional-then, optional_one-after, or-false, reads_exponent, refl, Rejects, sym, true, ℕ, ◌&&◌, ◌==◌, ◌||◌, ◌∙◌, ◌∷◌, ◌≡◌}
+use Rattle.defs_layout.proofs.Common.{[], after_all, after_one, any-after, any_number, ap, are_digits, arith, at_least-after, at_least_one, begins_in, Bool, empty-followed_by, exponent_read, false, followed_by, followed_by-and, followed_by-or, if◌then◌else◌, in_order, is_ascii_digit, is_empty, is_exponent, is_exponent_mark, is_frac, is_json_number, is_minus, is_whole, List, nat_tests, not, optional, optional-then, optional_one-after, reads_exponent, refl, Rejects, true, ℕ, ◌&&◌, ◌==◌, ◌||◌, ◌∙◌, ◌∷◌, ◌≡◌}
 
 -- what follows the whole part
 abbrev pub reads_end : List ℕ → Bool
@@ -17,26 +17,14 @@ reads_number t = reads_unsigned (after_one is_minus t)
 
 -- ---- classes
 
-digit_no_mark : (c : ℕ) → is_ascii_digit c ≡ true → is_exponent_mark c ≡ false
-digit_no_mark c h = grind (arith, nat_tests)
-
-digit_no_point : (c : ℕ) → is_ascii_digit c ≡ true → (c == 46) ≡ false
-digit_no_point c h = grind (arith, nat_tests)
-
-minus_no_digit : (c : ℕ) → is_minus c ≡ true → is_ascii_digit c ≡ false
-minus_no_digit c h = grind (arith, nat_tests)
-
-minus_no_zero : (c : ℕ) → is_minus c ≡ true → (c == 48) ≡ false
-minus_no_zero c h = grind (arith, nat_tests)
-
 point_no_mark : (c : ℕ) → (c == 46) ≡ true → is_exponent_mark c ≡ false
 point_no_mark c h = grind (arith, nat_tests)
 
 exponent_rejects_digit : Rejects is_ascii_digit reads_exponent
-exponent_rejects_digit c cs h = rw (digit_no_mark c h) refl
+exponent_rejects_digit c cs h = grind (arith, nat_tests)
 
 end_rejects_digit : Rejects is_ascii_digit reads_end
-end_rejects_digit c cs h = rw (digit_no_point c h, digit_no_mark c h) refl
+end_rejects_digit c cs h = grind (arith, nat_tests)
 
 -- ---- a fraction and an exponent
 
@@ -90,7 +78,7 @@ unsigned_read : (t : List ℕ) → followed_by is_whole end_part t ≡ reads_uns
 unsigned_read t = (λ i. followed_by is_whole (λ b. end_read b i) t) ∙ grind (arith, whole_read, end_rejects_digit)
 
 unsigned_rejects_minus : Rejects is_minus (λ t. followed_by is_whole end_part t)
-unsigned_rejects_minus c cs h = unsigned_read (c ∷ cs) ∙ rw (minus_no_zero c h, minus_no_digit c h) refl
+unsigned_rejects_minus c cs h = unsigned_read (c ∷ cs) ∙ grind (arith, nat_tests)
 
 -- a number is what is read from left to right
 pub is_json_number-read : (t : List ℕ) → is_json_number t ≡ reads_number t

@@ -1,5 +1,5 @@
 -- The trees of JSON texts and of layouts are sound.
-use Rattle.defs_layout.proofs.Common.{[], Anchor, ap, AreDistinct, AreElements, begun, element, Elements, ended, false, is_some, IsJson, IsJsonText, Items, items, Json, last_element, last_member, last_tree, List, member, Members, number, Option, pair_list, Pairs, pairs_of, refl, Some, sym, Tree, tree_of, true, true≢false, with_end, ℕ, ℤ, ◌∙◌, ◌∷◌, ◌≡◌, arith}
+use Rattle.defs_layout.proofs.Common.{[], Anchor, AreDistinct, AreElements, begun, element, Elements, ended, IsJson, IsJsonText, Items, items, Json, last_element, last_member, last_tree, List, member, Members, pair_list, Pairs, pairs_of, Some, Tree, tree_of, with_end, ℕ, ◌∷◌, ◌≡◌, arith}
 use Rattle.defs_tree.proofs.OverlayLaws.{list_of_pairs}
 use Rattle.defs_tree.specs.Valid.{AllDistinct, AllPairsDistinct, AllFitI64, AllPairsFitI64}
 use Rattle.defs_layout.specs.Json.{AreMembers}
@@ -18,14 +18,8 @@ record ArePairsSound (ps : Pairs) : Type 0 where
   fits : AllPairsFitI64 ps
   has_values : AllPairsHaveValues ps
 
-no_items_sound : AreSound Items.no_items
-no_items_sound = record { distinct = tt; fits = tt; has_values = tt }
-
 item_sound : (t : Tree) (ts : Items) → IsSound t → AreSound ts → AreSound (Items.item t ts)
-item_sound t ts h hs = record { distinct = (h.distinct, hs.distinct); fits = (h.fits, hs.fits); has_values = (h.has_values, hs.has_values) }
-
-no_pairs_sound : ArePairsSound Pairs.no_pairs
-no_pairs_sound = record { distinct = tt; fits = tt; has_values = tt }
+item_sound t ts h hs = grind arith
 
 pair_sound : (k v : Tree) (ps : Pairs) → IsSound k → IsSound v → ArePairsSound ps → ArePairsSound (Pairs.pair k v ps)
 pair_sound k v ps h g hs = grind arith
@@ -50,11 +44,11 @@ mutual
   json_sound v h = record { distinct = tt; fits = tt; has_values = tt }
 
   elements_sound : (es : Elements) → AreElements es → AreSound (items es)
-  elements_sound (last_element v a) h = item_sound (tree_of v) Items.no_items (json_sound v h.0) no_items_sound
+  elements_sound (last_element v a) h = item_sound (tree_of v) Items.no_items (json_sound v h.0) (grind arith)
   elements_sound (element v a b es) h = item_sound (tree_of v) (items es) (json_sound v h.0) (elements_sound es h.3)
 
   members_sound : (ms : Members) → AreMembers ms → ArePairsSound (pairs_of (pair_list ms))
-  members_sound (last_member k g q v a) h = pair_sound _ (tree_of v) Pairs.no_pairs (string_sound _) (json_sound v h.3) no_pairs_sound
+  members_sound (last_member k g q v a) h = pair_sound _ (tree_of v) Pairs.no_pairs (string_sound _) (json_sound v h.3) (grind arith)
   members_sound (member k g q v a b ms) h = grind (arith, pair_sound, string_sound, json_sound v h.3, members_sound ms h.6)
 
 pub json_text_sound : (t : Tree) (text : List ℕ) → IsJsonText t text → IsSound t
@@ -73,12 +67,9 @@ with_end_sound t [] h hs = tt
 with_end_sound t (begun n ∷ a) h hs = (h, hs)
 with_end_sound t (ended n u ∷ a) h hs = (hs.0, with_end_sound t a h hs.1)
 
-nothing_differs : (o : Option Tree) (t : Tree) → is_some o ≡ false → o ≡ Some t → ⊥
-nothing_differs o t none e = true≢false (sym (ap is_some e) ∙ none)
-
 last_tree_sound : (name : List ℕ) (a : List Anchor) (t : Tree) → AreAnchorsSound a → last_tree name a ≡ Some t → IsSound t
-last_tree_sound name [] t hs e = absurd (nothing_differs _ t refl e)
-last_tree_sound name (begun n ∷ a) t hs e = grind (arith, nothing_differs, last_tree_sound name a t hs)
+last_tree_sound name [] t hs e = cc
+last_tree_sound name (begun n ∷ a) t hs e = grind (arith, last_tree_sound name a t hs)
 last_tree_sound name (ended n u ∷ a) t hs e = grind (arith, last_tree_sound name a t hs.1)
 
 mutual
@@ -98,26 +89,18 @@ mutual
   value_sound c a (Layout.Value.alias more name t) h hs = (last_tree_sound name a t hs h.1, hs)
 
   entries_sound : (c : ℕ) (a : List Anchor) (es : Layout.Entries) → Layout.AreEntries c a es → AreAnchorsSound a → AreSound (Layout.items es) × AreAnchorsSound (Layout.anchors_after_entries es a)
-  entries_sound c a (Layout.last_entry v) h hs = let k = value_sound c a v h.1 hs in (item_sound _ Items.no_items k.0 no_items_sound, k.1)
-  entries_sound c a (Layout.entry v g es) h hs =
-      let k = value_sound c a v h.1 hs in
-      let l = entries_sound c _ es h.3 k.1 in
-      (item_sound _ _ k.0 l.0, l.1)
+  entries_sound c a (Layout.last_entry v) h hs = let k = value_sound c a v h.1 hs in (item_sound _ Items.no_items k.0 (grind arith), k.1)
+  entries_sound c a (Layout.entry v g es) h hs = grind (arith, item_sound, value_sound c a v h.1 hs, entries_sound c _ es h.3)
 
   field_sound : (c : ℕ) (a : List Anchor) (f : Layout.Field) → Layout.IsField c a f → AreAnchorsSound a
       → (IsSound (Layout.pair_of f).0 × IsSound (Layout.pair_of f).1) × AreAnchorsSound (Layout.anchors_after_field f a)
   field_sound c a (Layout.implicit k v) h hs = let l = value_sound c a v h.2 hs in (((grind arith), l.0), l.1)
   field_sound c a (Layout.explicit k g v) h hs =
-      let m = value_sound c a k h.1 hs in
-      let l = value_sound c _ v h.4 m.1 in
-      ((m.0, l.0), l.1)
+      let m = value_sound c a k h.1 hs in let l = value_sound c _ v h.4 m.1 in ((m.0, l.0), l.1)
 
   fields_sound : (c : ℕ) (a : List Anchor) (fs : Layout.Fields) → Layout.AreFields c a fs → AreAnchorsSound a → ArePairsSound (pairs_of (Layout.pair_list fs)) × AreAnchorsSound (Layout.anchors_after_fields fs a)
-  fields_sound c a (Layout.last_field f) h hs = grind (arith, pair_sound, no_pairs_sound, field_sound c a f h hs)
-  fields_sound c a (Layout.field f g fs) h hs =
-      let k = field_sound c a f h.0 hs in
-      let l = fields_sound c _ fs h.2 k.1 in
-      (pair_sound _ _ _ k.0.0 k.0.1 l.0, l.1)
+  fields_sound c a (Layout.last_field f) h hs = grind (arith, pair_sound, field_sound c a f h hs)
+  fields_sound c a (Layout.field f g fs) h hs = grind (arith, pair_sound, field_sound c a f h.0 hs, fields_sound c _ fs h.2)
 
 root_sound : (x : Layout.Root) → Layout.IsRoot x → IsSound (Layout.root_tree x)
 root_sound a h = grind (arith, block_sound, string_sound)

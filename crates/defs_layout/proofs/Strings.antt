@@ -1,5 +1,5 @@
 -- The text of a string is a string of JSON, and its value is the string.
-use Rattle.defs_layout.proofs.Common.{[], and_from, and_parts, ap, append_assoc, are_characters, are_pieces, arith, backspace, Bool, character_of, double_quoted, escaped_code, false, form_feed, hexadecimal_digit, if◌then◌else◌, is_character, is_piece, is_unescaped, itself, letter_of, List, nat_lt, nat_tests, new_line, or_parts, Piece, quotation_mark, refl, return, reverse_solidus, Short, short, spell_piece, spell_pieces, spell_string, sym, tabulator, true, unescaped, unicode, value_of, written_character, written_escapes, ℕ, ◌%◌, ◌++◌, ◌+◌, ◌/◌, ◌<◌, ◌==◌, ◌||◌, ◌∙◌, ◌∷◌, ◌≡◌}
+use Rattle.defs_layout.proofs.Common.{[], and_from, and_parts, ap, append_assoc, are_characters, are_pieces, arith, backspace, character_of, double_quoted, escaped_code, false, form_feed, hexadecimal_digit, if◌then◌else◌, is_character, is_piece, is_unescaped, itself, letter_of, List, nat_lt, nat_tests, new_line, or_parts, Piece, quotation_mark, refl, return, reverse_solidus, Short, short, spell_piece, spell_pieces, spell_string, sym, tabulator, true, unescaped, unicode, value_of, written_character, written_escapes, ℕ, ◌%◌, ◌++◌, ◌/◌, ◌<◌, ◌==◌, ◌||◌, ◌∙◌, ◌∷◌, ◌≡◌}
 use Rattle.defs_layout.specs.Marks.{backslash}
 
 -- how a character is written
@@ -49,11 +49,7 @@ written c h =
     λ _. chosen c 10 _ _ _ _ (short_written new_line)
     λ _. chosen c 12 _ _ _ _ (short_written form_feed)
     λ _. chosen c 13 _ _ _ _ (short_written return)
-    λ _. by a b (nat_lt c 32 || (c == 127)) refl
-  where
-    by : (c == 34) ≡ false → (c == 92) ≡ false → (t : Bool) → (nat_lt c 32 || (c == 127)) ≡ t
-        → IsWritten (if t then unicode 48 48 (hexadecimal_digit (c / 16)) (hexadecimal_digit (c % 16)) else itself c) (if t then escaped_code c else c ∷ []) c
-    by a b d e = grind (arith, control, itself_written, or_parts)
+    λ _. grind (arith, nat_tests, control, itself_written, or_parts)
 
 -- ---- a text
 

@@ -4,7 +4,7 @@ use Rattle.defs_token.specs.Token.{Tok, Style, stream_start, stream_end, documen
 use Rattle.defs_layout.specs.JsonTokens.{json_text_tokens}
 use Rattle.defs_layout.specs.LayoutTokens.{layout_tokens}
 use Rattle.defs_layout.specs.QuotedText.{single, double, HasQuotedTokens}
-use Rattle.defs_layout.proofs.Common.{[], anchored, are_marks, array, at_key, below, Block, codes, compact, document, Document, element, empty_array, entry, explicit, false, hash, implicit, inline, is_blank, is_break, is_nul, itself, Json, last_document, last_element, last_entry, last_field, last_member, no_comment, plain, quoted, refl, Root, scalar, single_quoted, Tree, true, Value, ◌∷◌, ◌≡◌}
+use Rattle.defs_layout.proofs.Common.{[], anchored, are_marks, array, at_key, below, Block, codes, compact, document, Document, element, entry, explicit, false, hash, implicit, inline, is_blank, is_break, is_nul, itself, Json, last_document, last_element, last_entry, last_field, last_member, no_comment, plain, quoted, refl, Root, scalar, single_quoted, Tree, true, Value, ◌∷◌, ◌≡◌}
 use Rattle.defs_text.specs.FlowScalar.{plain_element, single_quoted_element, double_quoted_element, is_character_code, numeric_escape, escape, begins_with_marker, single_quoted_value, double_quoted_value}
 use Rattle.defs_tree.proofs.TreeWords.{text}
 use Rattle.defs_layout.proofs.RowWords.{one, line, empty}

@@ -1,5 +1,5 @@
 -- The JSON text of a tree is JSON with that value, and nests as the tree does.
-use Rattle.defs_layout.proofs.Common.{[], alias, AllHaveJson, ap, append-nil, append_assoc, are_pieces, AreDistinct, AreElements, AreMembers, arith, bad_value, Blank, Bool, boolean, deeper, element, element_levels, Elements, false, HasJson, integer, IsJson, IsJsonGap, IsKey, item, item_nesting, Items, items, Json, json_text, JsonTextsAreJson, key_end, key_text, last_element, last_member, levels, line_feed, List, member, member_levels, member_nesting, Members, more_items, more_members, nesting, no_items, no_pairs, None, null, Option, pair, pair_list, pair_list_of, Pairs, pairs_of, Piece, real, refl, replicate, Some, space, spell, spell_elements, spell_members, spell_string, string, subst, suc, sym, TabsBeginLines, Tree, tree_of, true, unescaped, zero, ℕ, ◌++◌, ◌∙◌, ◌∷◌, ◌≡◌}
+use Rattle.defs_layout.proofs.Common.{[], alias, AllHaveJson, ap, append-nil, append_assoc, are_pieces, AreElements, AreMembers, arith, bad_value, Blank, Bool, boolean, deeper, element, element_levels, Elements, false, HasJson, integer, IsJson, IsJsonGap, IsKey, item, item_nesting, Items, items, Json, json_text, JsonTextsAreJson, key_end, key_text, last_element, last_member, levels, line_feed, List, member, member_levels, member_nesting, Members, more_items, more_members, nesting, no_items, no_pairs, None, null, Option, pair, pair_list, pair_list_of, Pairs, pairs_of, Piece, real, refl, replicate, Some, space, spell, spell_elements, spell_members, spell_string, string, suc, TabsBeginLines, Tree, tree_of, true, unescaped, zero, ℕ, ◌++◌, ◌∙◌, ◌∷◌, ◌≡◌}
 use Rattle.defs_tree.specs.Tree.{array, hash}
 use Rattle.defs_layout.specs.JsonGap.{spell_gap}
 use Rattle.defs_layout.specs.Json
@@ -80,64 +80,9 @@ record AreWrittenMembers (i : Option ℕ) (m outer : ℕ) (k v : Tree) (ps : Pai
   pairs : pair_list members ≡ pair_list_of (pair k v ps)
   depth : member_levels members ≡ member_nesting (pair k v ps)
 
--- an item and no more, or an item and more
-last_item : (i : Option ℕ) (m outer : ℕ) (t : Tree) → IsWritten i m t → AreWritten i m outer t no_items
-last_item i m outer t w = record {
-  elements = last_element w.value (gap i outer);
-  are = (w.is, gap_fits i outer);
-  spelt = λ r. simp (w.spelt, gap_spelt);
-  trees = ap (λ u. item u no_items) w.tree;
-  depth = omega (arith, w.depth);
-}
-
-next_item : (i : Option ℕ) (m outer : ℕ) (t u : Tree) (us : Items) → IsWritten i m t → AreWritten i m outer u us → AreWritten i m outer t (item u us)
-next_item i m outer t u us w ws = record {
-  elements = element w.value [] (gap i m) ws.elements;
-  are = (w.is, tt, gap_fits i m, ws.are);
-  spelt = λ r. simp (w.spelt, gap_spelt, ws.spelt, append_assoc);
-  trees = (λ j. item (w.tree j) (ws.trees j));
-  depth = omega (arith, w.depth, ws.depth);
-}
-
-last_member_written : (i : Option ℕ) (m outer : ℕ) (k v : Tree) → IsWrittenKey k → IsWritten i m v → AreWrittenMembers i m outer k v no_pairs
-last_member_written i m outer k v q w = record {
-  members = last_member q.pieces [] (colon_gap i) w.value (gap i outer);
-  are = (q.fit, tt, colon_fits i, w.is, gap_fits i outer);
-  spelt = λ r. simp (q.spelt, colon_spelt, w.spelt, gap_spelt);
-  pairs = (λ j. (q.tree j, w.tree j) ∷ []);
-  depth = omega (arith, w.depth);
-}
-
-next_member : (i : Option ℕ) (m outer : ℕ) (k v l u : Tree) (ps : Pairs) → IsWrittenKey k → IsWritten i m v → AreWrittenMembers i m outer l u ps → AreWrittenMembers i m outer k v (pair l u ps)
-next_member i m outer k v l u ps q w ws = record {
-  members = member q.pieces [] (colon_gap i) w.value [] (gap i m) ws.members;
-  are = (q.fit, tt, colon_fits i, w.is, tt, gap_fits i m, ws.are);
-  spelt = λ r. simp (q.spelt, colon_spelt, w.spelt, gap_spelt, ws.spelt, append_assoc);
-  pairs = (λ j. (q.tree j, w.tree j) ∷ ws.pairs j);
-  depth = omega (arith, w.depth, ws.depth);
-}
-
-array_written : (i : Option ℕ) (m : ℕ) (t : Tree) (ts : Items) → AreWritten i (deeper i m) m t ts → IsWritten i m (array (item t ts))
-array_written i m t ts ws = record {
-  value = Json.array (gap i (deeper i m)) ws.elements;
-  is = (gap_fits i (deeper i m), ws.are);
-  spelt = λ r. simp (gap_spelt, ws.spelt, append_assoc);
-  tree = ap array ws.trees;
-  depth = omega (arith, ws.depth);
-}
-
 list_back : (ps : Pairs) → pairs_of (pair_list_of ps) ≡ ps
 list_back no_pairs = refl
 list_back (pair k v ps) = ap (pair k v) (list_back ps)
-
-hash_written : (i : Option ℕ) (m : ℕ) (k v : Tree) (ps : Pairs) → AreDistinct (pair_list_of (pair k v ps)) → AreWrittenMembers i (deeper i m) m k v ps → IsWritten i m (hash (pair k v ps))
-hash_written i m k v ps d ws = record {
-  value = Json.object (gap i (deeper i m)) ws.members;
-  is = (gap_fits i (deeper i m), ws.are, subst AreDistinct (sym ws.pairs) d);
-  spelt = λ r. simp (gap_spelt, ws.spelt, append_assoc);
-  tree = ap (λ qs. hash (pairs_of qs)) ws.pairs ∙ ap hash (list_back (pair k v ps));
-  depth = omega (arith, ws.depth);
-}
 
 mutual
   written : (i : Option ℕ) (m : ℕ) (t : Tree) → HasJson t → IsWritten i m t
@@ -147,23 +92,67 @@ mutual
   written i m (boolean true) h = record { value = Json.true_word; is = tt; spelt = λ r. refl; tree = refl; depth = refl }
   written i m (boolean false) h = record { value = Json.false_word; is = tt; spelt = λ r. refl; tree = refl; depth = refl }
   written i m (array no_items) h = record { value = Json.empty_array []; is = tt; spelt = λ r. refl; tree = refl; depth = refl }
-  written i m (array (item t ts)) h = array_written i m t ts (items_written i (deeper i m) m t ts (written i (deeper i m) t h.0) h.1)
+  written i m (array (item t ts)) h =
+      let ws = items_written i (deeper i m) m t ts (written i (deeper i m) t h.0) h.1 in
+      record {
+        value = Json.array (gap i (deeper i m)) ws.elements;
+        is = (gap_fits i (deeper i m), ws.are);
+        spelt = λ r. simp (gap_spelt, ws.spelt, append_assoc);
+        tree = ap array ws.trees;
+        depth = omega (arith, ws.depth);
+      }
   written i m (hash no_pairs) h = record { value = Json.empty_object []; is = tt; spelt = λ r. refl; tree = refl; depth = refl }
-  written i m (hash (pair k v ps)) h = hash_written i m k v ps h.0 (members_written i (deeper i m) m k v ps h.1.0 (written i (deeper i m) v h.1.1) h.1.2)
+  written i m (hash (pair k v ps)) h =
+      let ws = members_written i (deeper i m) m k v ps (key_written k h.1.0) (written i (deeper i m) v h.1.1) h.1.2 in
+      record {
+        value = Json.object (gap i (deeper i m)) ws.members;
+        is = (gap_fits i (deeper i m), ws.are, rw ws.pairs h.0);
+        spelt = λ r. simp (gap_spelt, ws.spelt, append_assoc);
+        tree = ap (λ qs. hash (pairs_of qs)) ws.pairs ∙ ap hash (list_back (pair k v ps));
+        depth = omega (arith, ws.depth);
+      }
   written i m (alias n) h = absurd h
   written i m null h = record { value = Json.null_word; is = tt; spelt = λ r. refl; tree = refl; depth = refl }
   written i m bad_value h = absurd h
 
   -- after the first item
   items_written : (i : Option ℕ) (m outer : ℕ) (t : Tree) (ts : Items) → IsWritten i m t → AllHaveJson ts → AreWritten i m outer t ts
-  items_written i m outer t no_items w hs = last_item i m outer t w
-  items_written i m outer t (item u us) w hs = next_item i m outer t u us w (items_written i m outer u us (written i m u hs.0) hs.1)
+  items_written i m outer t no_items w hs = record {
+    elements = last_element w.value (gap i outer);
+    are = (w.is, gap_fits i outer);
+    spelt = λ r. simp (w.spelt, gap_spelt);
+    trees = ap (λ u. item u no_items) w.tree;
+    depth = omega (arith, w.depth);
+  }
+  items_written i m outer t (item u us) w hs =
+      let ws = items_written i m outer u us (written i m u hs.0) hs.1 in
+      record {
+        elements = element w.value [] (gap i m) ws.elements;
+        are = (w.is, tt, gap_fits i m, ws.are);
+        spelt = λ r. simp (w.spelt, gap_spelt, ws.spelt, append_assoc);
+        trees = (λ j. item (w.tree j) (ws.trees j));
+        depth = omega (arith, w.depth, ws.depth);
+      }
 
   -- after the first member
-  members_written : (i : Option ℕ) (m outer : ℕ) (k v : Tree) (ps : Pairs) → IsKey k → IsWritten i m v → AreMembers ps → AreWrittenMembers i m outer k v ps
-  members_written i m outer k v no_pairs q w hs = last_member_written i m outer k v (key_written k q) w
+  members_written : (i : Option ℕ) (m outer : ℕ) (k v : Tree) (ps : Pairs) → IsWrittenKey k → IsWritten i m v → AreMembers ps
+      → AreWrittenMembers i m outer k v ps
+  members_written i m outer k v no_pairs q w hs = record {
+    members = last_member q.pieces [] (colon_gap i) w.value (gap i outer);
+    are = (q.fit, tt, colon_fits i, w.is, gap_fits i outer);
+    spelt = λ r. simp (q.spelt, colon_spelt, w.spelt, gap_spelt);
+    pairs = (λ j. (q.tree j, w.tree j) ∷ []);
+    depth = omega (arith, w.depth);
+  }
   members_written i m outer k v (pair l u ps) q w hs =
-      next_member i m outer k v l u ps (key_written k q) w (members_written i m outer l u ps hs.0 (written i m u hs.1) hs.2)
+      let ws = members_written i m outer l u ps (key_written l hs.0) (written i m u hs.1) hs.2 in
+      record {
+        members = member q.pieces [] (colon_gap i) w.value [] (gap i m) ws.members;
+        are = (q.fit, tt, colon_fits i, w.is, tt, gap_fits i m, ws.are);
+        spelt = λ r. simp (q.spelt, colon_spelt, w.spelt, gap_spelt, ws.spelt, append_assoc);
+        pairs = (λ j. (q.tree j, w.tree j) ∷ ws.pairs j);
+        depth = omega (arith, w.depth, ws.depth);
+      }
 
 pub json_texts_are_json : JsonTextsAreJson
 json_texts_are_json i t h low =

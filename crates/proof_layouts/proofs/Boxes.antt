@@ -42,8 +42,7 @@ two_spaces (suc n) r = let e : suc (n + 2) ≡ suc n + 2 = omega arith in ap (λ
 indented_spelt : (column : ℕ) (ls : List (List ℕ)) (r : List ℕ) → spell_box column (indented ls) r ≡ spell_box (column + 2) ls r
 indented_spelt column [] r = refl
 indented_spelt column (l ∷ ls) r =
-    ap (λ x. line_feed ∷ spaces column (space ∷ space ∷ (l ++ x))) (indented_spelt column ls r)
-    ∙ ap (λ x. line_feed ∷ x) (two_spaces column (l ++ spell_box (column + 2) ls r))
+    rw (indented_spelt column ls r, two_spaces column (l ++ spell_box (column + 2) ls r)) refl
 
 -- What stands after equally many spaces in equal texts is equal.
 after_spaces : (n : ℕ) (a b : List ℕ) → spaces n a ≡ spaces n b → a ≡ b

@@ -34,9 +34,6 @@ on_line (Tree.array ts) k f h = cc
 on_line (Tree.hash ps) k f h = cc
 on_line t k f h = plain t h
 
-short_key : (k : Tree) → is_scalar k ≡ true → IsShortKey k → length (spelling k) ≤ 1024
-short_key k e h = grind arith
-
 -- ---- nodes
 
 -- A text may be a literal block as root, or elsewhere.
@@ -150,7 +147,7 @@ field_of {compact = compact} {c = c} {k = k} {v = v} {ls = ls} {ms = ms} f short
         record {
           field = Field.implicit x.scalar y.value;
           basic = (x.basic, y.basic);
-          valid = λ a. ((x.valid, rw (x.spelt [], append-nil) (short_key k e short)), y.stands.1 refl, y.valid a);
+          valid = λ a. ((x.valid, rw (x.spelt [], append-nil) (grind arith)), y.stands.1 refl, y.valid a);
           tree = rw (x.tree, y.tree) refl;
           box = rw e (record {
             spelt = λ r. rw (x.spelt (58 ∷ spell_value c y.value r), ← append_assoc (spelling k) (codes ":")) (y.box.spelt r);
@@ -167,13 +164,9 @@ field_of {compact = compact} {c = c} {k = k} {v = v} {ls = ls} {ms = ms} f short
           box = rw e (one_more x.box y.box);
         }
 
--- The only entry of a collection has its box alone.
-alone : {c : ℕ} {text : List ℕ → List ℕ} {ls : List (List ℕ)} → IsBox c text ls → IsBox c text (ls ++ [])
-alone x = rw append-nil x
-
 pairs_again : (ps : Pairs) → pairs_of (pair_list_of ps) ≡ ps
 pairs_again no_pairs = refl
-pairs_again (pair k v ps) = ap (λ qs. pair k v qs) (pairs_again ps)
+pairs_again (pair k v ps) = ap (pair k v) (pairs_again ps)
 
 mutual
   -- A tree's node.
@@ -211,7 +204,7 @@ mutual
         basic = x.basic;
         valid = λ a. (x.stands.0, x.valid a);
         tree = rw x.tree refl;
-        box = alone x.box;
+        box = rw append-nil x.box;
       }
   entries_of compact multiline c t (item u ts) n d f h =
       let x = place (not compact) (codes "-") n in
@@ -229,7 +222,7 @@ mutual
       → FieldOf compact c k v (box compact multiline false k) (box compact multiline false v)
       → AllPairsDistinct ps → AllPairsFitI64 ps → AllPairsHaveText ps → FieldsOf compact multiline c (pair k v ps)
   fields_of compact multiline c k v no_pairs x d f h =
-      record { fields = Fields.last_field x.field; basic = x.basic; valid = x.valid; tree = rw x.tree refl; box = alone x.box }
+      record { fields = Fields.last_field x.field; basic = x.basic; valid = x.valid; tree = rw x.tree refl; box = rw append-nil x.box }
   fields_of compact multiline c k v (pair l w ps) x d f h =
       let key = node_of compact multiline false (c + 2) l d.0 f.0 h.1 in
       let value = node_of compact multiline false (c + 2) w d.1 f.1 h.2 in

@@ -15,7 +15,7 @@ new_key k v [] after h = (refl, refl)
 new_key k v (q ∷ held) after h =
     let r = new_key k v held after h.1 in
     let other = tree_eq-other k q.0 (λ e. lacks_there q.0 held after (k, v) h.0 (sym e)) in
-    (rw other r.0, rw other (ap (λ qs. q ∷ qs) r.1))
+    (rw other r.0, rw (other, r.1) refl)
 
 -- ---- reading
 

@@ -20,9 +20,6 @@ with_more : (l : Loader) (es fs : List (Ev × Position)) → with_events l (es +
 with_more l [] fs = refl
 with_more l (e ∷ es) fs = with_more (with_event_at l e.0 e.1) es fs
 
-at_work_after : (trees : List Tree) (l : Loader) → HasRead (Ok trees) l → IsAtWork l
-at_work_after trees l h = grind arith
-
 -- events at a position that does not count
 abbrev somewhere : Ev → Ev × Position
 somewhere e = (e, record { index = 0; line = 1; col = 0 })
@@ -36,7 +33,7 @@ not_refused : (ds : List NestedDocument) (trees : List Tree) (events : List (Ev 
     → IsAtWork (with_events new_loader events)
 not_refused ds trees events more reads same =
     let whole = loaded ds trees (events ++ map somewhere more) reads (with_somewhere events more ∙ same) in
-    work_on (with_events new_loader events) (map somewhere more) (rw with_more at (at_work_after trees _ whole))
+    work_on (with_events new_loader events) (map somewhere more) (grind (arith, with_more))
 
 -- ---- streams that are read
 

@@ -18,9 +18,6 @@ pub data Agree (read : Anchors) : (above : ℕ) → List Anchor → List (List �
 abbrev pub Found : (name : List ℕ) → List (List ℕ × ℕ) → Anchors → Tree → Type 0
 Found name names read t = (k : ℕ) × (under_name name names ≡ Some k) × (aliased k read ≡ t)
 
-same_test : (a b : List ℕ) → bytes_eq b a ≡ bytes_eq a b
-same_test a b = grind (arith, bytes_eq-Decides)
-
 -- by the first anchor, or by those after it
 found_next : (b : Bool) (name n : List ℕ) (k : ℕ) (names : List (List ℕ × ℕ)) (first rest : Option Tree) (read : Anchors) (t : Tree)
     → bytes_eq name n ≡ b → (first ≡ Some t → aliased k read ≡ t) → (rest ≡ Some t → Found name names read t)
@@ -32,9 +29,11 @@ pub found : {read : Anchors} {above : ℕ} {a : List Anchor} {names : List (List
     → Agree read above a names opens → last_tree name a ≡ Some t → Found name names read t
 found name t Agree.none e = cc
 found {read = read} name t (Agree.has_begun {a = a} {names = names} n k less h) e =
-    found_next (bytes_eq n name) name n k names None (last_tree name a) read t (same_test n name) (λ d. cc) (found name t h) e
+    found_next (bytes_eq n name) name n k names None (last_tree name a) read t (grind (arith, bytes_eq-Decides)) (λ d. cc)
+    (found name t h) e
 found {read = read} name t (Agree.has_ended {a = a} {names = names} n k u less is h) e =
-    found_next (bytes_eq n name) name n k names (Some u) (last_tree name a) read t (same_test n name) (λ d. is ∙ cc) (found name t h) e
+    found_next (bytes_eq n name) name n k names (Some u) (last_tree name a) read t (grind (arith, bytes_eq-Decides))
+    (λ d. is ∙ cc) (found name t h) e
 
 -- ---- a node ends
 

@@ -12,11 +12,8 @@ use Rattle.defs_layout.proofs.WholeNumbers.{fitted, signed_text, IsOther, no_dig
 
 -- ---- digits
 
-digit_no_sign : (c : ℕ) → is_ascii_digit c ≡ true → is_sign c ≡ false
-digit_no_sign c h = grind (arith, nat_tests)
-
 digits_no_sign : (w r : List ℕ) → are_digits w ≡ true → after_one is_sign (w ++ r) ≡ w ++ r
-digits_no_sign a r h = grind (arith, digit_no_sign)
+digits_no_sign a r h = grind (arith, nat_tests)
 
 digits_first : (w r : List ℕ) → are_digits w ≡ true → begins_in is_ascii_digit (w ++ r) ≡ true
 digits_first a r h = grind arith
@@ -26,7 +23,7 @@ all_digits a h = grind arith
 
 after_digits : (w r : List ℕ) → list_all is_ascii_digit w ≡ true → begins_in is_ascii_digit r ≡ false → after_all is_ascii_digit (w ++ r) ≡ r
 after_digits [] r h stops = grind arith
-after_digits (c ∷ w) r h stops = let q = and_parts (is_ascii_digit c) (list_all is_ascii_digit w) h in rw (q.0) (after_digits w r q.1 stops)
+after_digits (c ∷ w) r h stops = grind (arith, and_parts, after_digits w r)
 
 whole_digits : (w : List ℕ) → is_whole w ≡ true → are_digits w ≡ true
 whole_digits a h = grind (arith, and_from)
@@ -107,12 +104,9 @@ not_whole m w f e h other =
     let r = spell_fraction f (spell_exponent e []) in
     typed m (w ++ r) false (digits_first w r (number_digits m w f e h)) (decimal_number m w f e h) (no_digits w r other)
 
-digit_ten : (c : ℕ) → is_ascii_digit c ≡ true → is_digit 10 c ≡ true
-digit_ten c h = grind (arith, nat_tests)
-
 are_ten : (w : List ℕ) → are_digits w ≡ true → at_least_one (is_digit 10) w ≡ true
 are_ten [] h = cc
-are_ten (c ∷ w) h = list_all-more is_ascii_digit (is_digit 10) digit_ten (c ∷ w) h
+are_ten (c ∷ w) h = list_all-more is_ascii_digit (is_digit 10) (λ d k. grind (arith, nat_tests)) (c ∷ w) h
 
 pub numbers_stand_for_their_trees : JsonNumbersStandForTheirTrees
 numbers_stand_for_their_trees (json.number m w no_fraction no_exponent) h =

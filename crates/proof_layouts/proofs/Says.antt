@@ -111,8 +111,7 @@ block_mapping o (Some side) x =
 entry_taken : (side : Side) (w : Works) (ts : List Tok) (raws : List Raw) → Derives grammar (goal_and (at.indentless_sequence_entries side) w) (Tok.block_entry ∷ ts) raws
     → Derives grammar (goal_and (node in_block) (goal_and (at.indentless_sequence_entries side) w)) ts raws
 entry_taken side w ts raws (by_taking ps row d) =
-    let same : ps ≡ read (node in_block) ∷ read (at.indentless_sequence_entries side) ∷ [] = cc row in
-    subst (λ ps. Derives grammar (before grammar nothing_held Tok.block_entry ps w) ts raws) same d
+    let same : ps ≡ read (node in_block) ∷ read (at.indentless_sequence_entries side) ∷ [] = cc row in rw same at d
 entry_taken side w ts raws (by_leaving ps row d) = cc
 
 pub indentless_sequence : {keep_tags : Bool} {s : Names} {w : Works} {ts : List Tok} {es : List Ev} (side : Side)

@@ -59,5 +59,4 @@ document_said (Documents.document d g ds) h = absurd h
 
 pub tokens_are_a_stream : BasicTokensAreAStream
 tokens_are_a_stream keep_tags w basic =
-    subst (λ b. IsStream keep_tags (Tok.stream_start ∷ marked b (documents_tokens w.documents)) (nested_stream (with_node (document_nest w.documents basic.1) ∷ []))) (sym basic.0)
-    (document_said w.documents basic.1)
+    rw (basic.0) (document_said w.documents basic.1)

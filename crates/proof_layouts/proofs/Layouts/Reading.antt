@@ -11,12 +11,9 @@ use Rattle.proof_layouts.proofs.Layouts.Nodes.{ReadsNode, ReadsItems, ReadsPairs
 
 -- ---- what stands on one line
 
-spelt_plain : (t : Tree) → IsPlain t → IsSpeltPlain t
-spelt_plain t h = grind arith
-
 written_reads : {keep_tags : Bool} {opens : List ℕ} {a : List Anchor} (x : Known opens a) (o : Option (List ℕ)) (p : Place) (v : Scalar)
     → IsScalar v → ReadsNode keep_tags x (ended_by o (scalar_tree v) (begun_by o a)) o p (λ r. scalar_token v ∷ r) (scalar_tree v)
-written_reads x o p (Scalar.plain t) is = scalar_reads x o p Style.plain (spelling t) t (spelling_back t (spelt_plain t is))
+written_reads x o p (Scalar.plain t) is = scalar_reads x o p Style.plain (spelling t) t (spelling_back t (grind arith))
 written_reads x o p (Scalar.quoted text) is = scalar_reads x o p Style.double_quoted text (Tree.string text) refl
 written_reads x o p (Scalar.single_quoted text) is = scalar_reads x o p Style.single_quoted text (Tree.string text) refl
 
@@ -62,12 +59,6 @@ abbrev MayStand : Option Side → Value → Type 0
 MayStand (Some at.value) v = Unit {0}
 MayStand _ v = MayFollowMark v
 
-explicit_stands : (k : Value) → IsExplicitKey k → MayFollowMark k
-explicit_stands k h = grind arith
-
-anchored_stands : (q : Option Side) (v : Value) → MayBeAnchored v → MayStand q v
-anchored_stands q v h = grind arith
-
 -- ---- the entries of an array at p
 
 -- what is read before each entry, and how the last one ends
@@ -112,7 +103,7 @@ mutual
       sequence_reads (λ w r es d. indentless vs r d) (entries_read not_indented (begin None x) c vs is.2)
   value_reads x None _ c (Value.at_key after g vs) is may stands = absurd stands
   value_reads x None q c (Value.anchored more name v) is may stands =
-      anchored_reads (value_reads x (Some name) q c v is.2 is.1 (anchored_stands q v is.1))
+      anchored_reads (value_reads x (Some name) q c v is.2 is.1 (grind arith))
   value_reads x None q c (Value.alias more name t) is may stands = alias_reads x (outside q) more name t c is
   value_reads x (Some n) q c _ is may stands = absurd may
 
@@ -133,7 +124,7 @@ mutual
       let z = value_reads y.after None (Some at.value) c v is.2 tt tt in
       pair_reads y z (others z.after)
   field_reads x c (Field.explicit k g v) is others =
-      let y = value_reads x None (Some at.key) c k is.1 tt (explicit_stands k is.0) in
+      let y = value_reads x None (Some at.key) c k is.1 tt (grind arith) in
       let z = value_reads y.after None (Some at.value) c v is.4 tt tt in
       pair_reads y z (others z.after)
 
