@@ -14,7 +14,7 @@ use crate::runs::{Unfit, run_length};
 
 /// Whether a plain scalar of the text would be read as something else than the text, here or by other
 /// readers of YAML.
-#[tactic(auto, using(crate::proofs::WordLemmas::quoted))]
+#[tactic(auto, using(crate::proofs::WordLemmas::quoted, crate::proofs::WordLemmas::plain_quoted))]
 pub(crate) fn needs_quotes(text: &str) -> bool
     ensures { result ≡ is_quoted (chars text.now) }
 {
