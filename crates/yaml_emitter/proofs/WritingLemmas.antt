@@ -138,6 +138,15 @@ module _ {W : Type 0} {gives : W → List ℕ → W → Type 0} where
       → Stopped gives leaves ⊥ w a v → Stopped gives leaves reason w (a ++ b) v
   stopped_first b p = stopped_early b (stopped_for (λ b. absurd b) p)
 
+-- of a function that ends as a call is refused, where more was to be written
+pub writes_refused : {W E F : Type 0} {gives leaves : W → List ℕ → W → Type 0} {reason : Type 0} {r : Result (Unit {0}) E}
+    {q : Result (Unit {0}) F} {w v : W} {a : List ℕ} (b : List ℕ) → IsErr r → WritesUnless ⊥ gives leaves w q a v → IsErr q
+    → WritesUnless reason gives leaves w r (a ++ b) v
+writes_refused b e p k = writes_err e (stopped_first b (p.err k))
+
+-- one call after another
+pub ruleset calls_in_a_row = (writes_late, writes_refused)
+
 -- a call that is refused
 pub stopped_one : {W : Type 0} {reason : Type 0} (gives leaves : W → List ℕ → W → Type 0) (w v : W) (a : List ℕ) → leaves w a v → Stopped gives leaves reason w a v
 stopped_one gives leaves w v a p = record {

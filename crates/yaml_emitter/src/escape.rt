@@ -54,7 +54,7 @@ fn first_escape(text: &str) -> Option<(&str, char, &str)>
 }
 
 // A quote, a backslash and the control characters are escaped.
-#[tactic(auto, using(crate::proofs::RunLemmas::writes_escape), unfolding(defs_tree::specs::Escapes::written_character))]
+#[tactic(auto, using(crate::proofs::RunLemmas::writes_escape, crate::proofs::RunLemmas::other_character), unfolding(defs_tree::specs::Escapes::written_character))]
 fn write_character<W: Writer>(out: &mut W, c: char) -> fmt::Result
     ensures { Writes W.put_gives W.put_leaves out.old result (written_character c) out.new }
 {

@@ -38,6 +38,7 @@ pub fn start_line<W: Writer>(out: &mut W, count: usize) -> fmt::Result
     put_spaces(out, count - MOST)
 }
 
+#[tactic(auto, using(crate::proofs::LineLemmas::line_of))]
 fn line(count: usize) -> &'static str
     requires { count ≤ 64 }
     ensures { result.now ≡ 10 ∷ replicate count 32 }
@@ -57,6 +58,7 @@ fn put_spaces<W: Writer>(out: &mut W, count: usize) -> fmt::Result
     put_ascii(out, spaces(left))
 }
 
+#[tactic(auto, using(crate::proofs::LineLemmas::break_boundary))]
 fn spaces(count: usize) -> &'static str
     requires { count ≤ 64 }
     ensures { result.now ≡ replicate count 32 }

@@ -115,6 +115,7 @@ fn begins_as_marker(line: &str) -> bool
     begins_with_mark(line, "---") || begins_with_mark(line, "...")
 }
 
+#[tactic(auto, using(crate::proofs::LiteralLemmas::after_mark, crate::proofs::LiteralLemmas::no_mark))]
 fn begins_with_mark(line: &str, mark: &str) -> bool
     requires low { IsTrue (is_low mark.now) }
     requires length { length mark.now ≡ 3 }
@@ -134,6 +135,7 @@ fn begins_blank(text: &str) -> bool
 
 /// Writes the header of a literal block, and its lines at the level.
 #[inline(never)]
+#[tactic(auto, using(crate::proofs::WritingLemmas::calls_in_a_row))]
 pub(crate) fn write_literal<W: Writer>(out: &mut W, level: usize, text: &str) -> fmt::Result
     ensures { Writes W.put_gives W.put_leaves out.old result
         (literal_header (chars text.now) ++ below level (lines_of (chars text.now))) out.new }

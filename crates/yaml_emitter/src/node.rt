@@ -130,6 +130,7 @@ fn write_value<W: Writer>(
 /// A mark, and a space or a new line for a block that goes lower. It is a call of its own, so that a level of a dump takes
 /// less stack.
 #[inline(never)]
+#[tactic(auto, using(crate::proofs::WritingLemmas::calls_in_a_row))]
 pub(crate) fn begin_block<W: Writer>(
     out: &mut W,
     level: usize,
@@ -158,6 +159,7 @@ fn put_mark<W: Writer>(out: &mut W, mark: Mark) -> fmt::Result
 
 /// A mark and a space: for the same reason a call of its own.
 #[inline(never)]
+#[tactic(auto, using(crate::proofs::WritingLemmas::calls_in_a_row))]
 pub(crate) fn put_spaced<W: Writer>(out: &mut W, mark: Mark) -> fmt::Result
     ensures { Writes W.put_gives W.put_leaves out.old result (mark_text mark ++ codes " ") out.new }
 {

@@ -14,7 +14,7 @@ use crate::runs::{Unfit, run_length};
 
 /// Whether a plain scalar of the text would be read as something else than the text, here or by other
 /// readers of YAML.
-#[tactic(auto, using(crate::proofs::WordLemmas::quoted))]
+#[tactic(auto, using(crate::proofs::WordLemmas::quoted, crate::proofs::WordLemmas::plain_quoted))]
 pub(crate) fn needs_quotes(text: &str) -> bool
     ensures { result ≡ is_quoted (chars text.now) }
 {
@@ -35,6 +35,7 @@ fn begins_plainly(text: &[u8]) -> bool
 }
 
 // A letter but `f`, `i`, `n`, `o`, `t` and `y`, in either case.
+#[tactic(auto, using(crate::proofs::WordLemmas::small_letter))]
 fn is_plain_letter(byte: u8) -> bool
     ensures { result ≡ is_plain_letter byte }
 {
@@ -74,6 +75,7 @@ fn is_unfit(text: &str) -> bool
         || has_unfit_character(text)
 }
 
+#[tactic(auto, using(crate::proofs::WordLemmas::empty_text))]
 fn is_empty(text: &str) -> bool
     ensures { result ≡ is_empty (chars text.now) }
 {

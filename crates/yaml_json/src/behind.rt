@@ -94,6 +94,7 @@ fn after_string(text: &[u8]) -> Option<&[u8]>
 }
 
 #[inline(always)]
+#[tactic(auto, using(crate::proofs::Longer::run_within))]
 fn after_run(text: &[u8]) -> &[u8]
     ensures { length result.now ≤ length text.now }
 {

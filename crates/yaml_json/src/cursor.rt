@@ -42,6 +42,7 @@ impl<'a> Cursor<'a> {
     }
 
     /// Whether the text ends here.
+    #[tactic(auto, using(crate::proofs::TextLemmas::nothing_left))]
     pub(crate) fn is_at_end(&self) -> bool
         ensures { IsTrue result → self.now ≡ [] }
     {
@@ -160,6 +161,7 @@ impl<'a> Cursor<'a> {
     }
 
     /// Goes on behind this word of ASCII, if it stands here. The result tells whether it did.
+    #[tactic(auto, using(crate::proofs::TextLemmas::behind_word))]
     pub(crate) fn take_word(&mut self, word: &str) -> bool
         requires { list_all is_ascii word.now ≡ true }
         ensures { TakesWord result word.now self.old self.new }

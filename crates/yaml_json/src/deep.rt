@@ -25,6 +25,7 @@ use yaml_tree::Yaml;
 /// Writes a deep tree, or answers which node has no JSON text. What waits at a level takes memory. There is a place for
 /// each level before anything is written.
 #[inline(never)]
+#[tactic(auto, using(crate::proofs::GivenLemmas::has_json))]
 pub(crate) fn write_deep<W: Writer, S: Spacing>(
     alloc: Global,
     tree: &Yaml,

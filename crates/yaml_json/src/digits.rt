@@ -63,6 +63,7 @@ fn after_sign(text: &[u8]) -> &[u8]
     }
 }
 
+#[tactic(auto, using(crate::proofs::ReadNumberLemmas::digits_read))]
 fn after_some_digits(text: &[u8]) -> Option<&[u8]>
     ensures { IfSome result (λ rest. IsDigits text.now rest.now) }
 {

@@ -169,6 +169,7 @@ enum Looked {
     Faulty(Reason),
 }
 
+#[tactic(auto, unfolding(defs_text::specs::Text::string_chars))]
 fn look(node: &Yaml) -> Looked
     ensures { IsSeen (view node.now) result }
 {
@@ -228,6 +229,7 @@ pub(crate) fn is_string(node: &Yaml) -> bool
 }
 
 // The error that names the last part that was passed in a level, inside those that wait.
+#[tactic(auto, using(crate::proofs::SearchLemmas::is_below))]
 fn no_json(alloc: Global, waiting: Levels<Level<'_>>, level: Level<'_>, reason: Reason) -> JsonError
     ensures { Names (fault_in (level.entry ∷ waiting.entry) (here (reason_view reason))) result }
 {

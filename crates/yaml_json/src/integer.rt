@@ -15,6 +15,7 @@ static PAIRS: [u8; 200] =
 
 /// Writes a number's decimal digits, after `-` where it is negative, as one part.
 #[inline(never)]
+#[tactic(auto, using(yaml_emitter::proofs::ByteLemmas::ascii_low))]
 pub(crate) fn write_integer<W: Writer>(out: &mut W, number: i64) -> fmt::Result
     ensures { Writes W.put_gives W.put_leaves out.old result (signed_decimal number) out.new }
 {

@@ -21,6 +21,7 @@ pub(crate) struct Level<'a> {
 
 impl<'a> Level<'a> {
     /// A node that has parts, of which none was passed.
+    #[tactic(auto, using(crate::proofs::GivenLemmas::given_hash))]
     pub(crate) fn of(node: &'a Yaml) -> Level<'a>
         requires { is_block (view node.now) ≡ true }
         ensures tree { tree_left result ≡ view node.now }

@@ -93,6 +93,7 @@ pub fn write_json_indented<W: Writer>(
 
 // A shallow tree is written by a recursion, which takes no memory. A deep one is written by loops, which take no stack. They
 // also find the first node without a JSON text.
+#[tactic(auto, using(crate::proofs::GivenLemmas::has_json, crate::proofs::ShallowLemmas::shallow, crate::proofs::ShallowLemmas::not_shallow))]
 fn write_laid_out<W: Writer, S: Spacing>(
     alloc: Global,
     tree: &Yaml,

@@ -6,6 +6,7 @@ ghost use Rattle.defs_layout.proofs.Reading.{reads_number, reads_unsigned, reads
 use yaml_tree::decimal::{after_digits, begins_with_digit, is_exponent};
 
 /// Whether the text is a number of JSON that is read back as a real: no integer of 64 bits.
+#[tactic(auto, using(crate::proofs::NumberLemmas::no_real))]
 pub(crate) fn is_json_real(text: &str) -> bool
     ensures { result ≡ is_json_real (chars text.now) }
 {

@@ -23,6 +23,7 @@ pub(crate) enum Open {
 
 /// A key, its colon, and the white space behind each.
 #[inline(always)]
+#[tactic(auto, using(crate::proofs::Collections::key_read))]
 pub(crate) fn read_key(alloc: Global, cursor: &mut Cursor<'_>) -> Result<Yaml, Stop>
     ensures { IfOk result (λ key. IsKey (view key) cursor.old cursor.new) }
 {
@@ -116,6 +117,7 @@ fn put_member(
 
 // A JSON text of the class has no key twice.
 #[inline(never)]
+#[tactic(auto, using(crate::proofs::Collections::pair_added))]
 fn insert_pair(pairs: &mut Hash, key: Yaml, value: Yaml) -> Result<(), Stop>
     ensures { OnOk result (Adds pairs.old (view key) (view value) pairs.new) }
 {

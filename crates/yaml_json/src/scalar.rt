@@ -11,6 +11,7 @@ use yaml_tree::Yaml;
 
 /// The string, the number or the word that stands here.
 #[inline(always)]
+#[tactic(auto, using(crate::proofs::StringLemmas::string_value))]
 pub(crate) fn read_scalar(alloc: Global, cursor: &mut Cursor<'_>) -> Result<Yaml, Stop>
     ensures { IfOk result (λ value. IsValue (view value) 0 cursor.old cursor.new) }
 {
@@ -24,6 +25,7 @@ pub(crate) fn read_scalar(alloc: Global, cursor: &mut Cursor<'_>) -> Result<Yaml
     read_word(cursor)
 }
 
+#[tactic(auto, using(crate::proofs::ReadNumberLemmas::number_value))]
 fn read_number(alloc: Global, cursor: &mut Cursor<'_>) -> Result<Yaml, Stop>
     ensures { IfOk result (λ value. IsValue (view value) 0 cursor.old cursor.new) }
 {

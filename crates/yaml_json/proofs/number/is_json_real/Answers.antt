@@ -1,4 +1,4 @@
-use Rattle.yaml_json.proofs.Answering.{ap, arith, no_real, reads_number, real_is, sym, true, ◌∙◌}
+use Rattle.yaml_json.proofs.Answering.{ap, arith, reads_number, real_is, sym, true, ◌∙◌}
 use Rattle.defs_tree.proofs.Parsing.{parsed_text}
 use Rattle.yaml_json.proofs.number.is_json_real.Goals as goal
 
@@ -7,6 +7,3 @@ returns-then-is_number c =
     let text = c.args.text.now in
     real_is text true c.is_err.result c.parse.result c.utf8.text (sym c.if-is_number.true ∙ c.is_number.ensures ∙ ap reads_number c.as_bytes.ensures.value) c.is_err.ensures.value
     (parsed_text 10 text c.parse.result (omega arith) c.utf8.text c.parse.ensures.value.0)
-
-pub returns-else-is_number : goal.returns-else-is_number
-returns-else-is_number c = no_real c.args.text.now c.is_number.result c.utf8.text (c.is_number.ensures ∙ ap reads_number c.as_bytes.ensures.value) c.if-is_number.false
