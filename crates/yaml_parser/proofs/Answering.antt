@@ -4,7 +4,7 @@ pub use Rattle.yaml_parser.proofs.DocumentArms.{bare_begins, marked_begins, dire
 pub use Rattle.yaml_parser.proofs.Ends.{refuses, refuses_for}
 pub use Rattle.yaml_parser.proofs.Holding.{begun, failed, keeps, pulled}
 pub use Rattle.yaml_parser.proofs.LoadSteps.{begins, end_is_not, end_run, ends_well, faults, goes_on, inside_run, last_run, misplaced_run, misplaces, next_document, no_end, one_document, push_stops, start_run, starts_inside, stays_inside}
-pub use Rattle.yaml_parser.proofs.NameLemmas.{core_is, empty_chars, nonempty_chars, primary_is, put_text, resolved_empty, resolved_nonempty, secondary_is, string_length, undeclared_other, undeclared_primary, undeclared_resolves, undeclared_secondary}
+pub use Rattle.yaml_parser.proofs.NameLemmas.{core_is, empty_chars, nonempty_chars, primary_is, put_text, resolved_empty, resolved_nonempty, secondary_is, undeclared_other, undeclared_primary, undeclared_resolves, undeclared_secondary}
 pub use Rattle.yaml_parser.proofs.Nesting.{directed_outside, explicit_outside, nothing_given, nothing_taken}
 pub use Rattle.yaml_parser.proofs.NodeArms.{alias_taken, alias_text, alias_unknown, anchor_before, anchor_text, bare, block_alone, in_flow, nothing_there, pending_same, properties_left, resolve_fails, scalar_taken, starts, tag_unknown, tag_unknown_after, taken_with, with_number}
 pub use Rattle.yaml_parser.proofs.Openings.{look_fails}

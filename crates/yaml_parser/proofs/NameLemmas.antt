@@ -24,13 +24,16 @@ put_text m n key v u x = btree_map_updates_text (string_bytes key) m n (Some v) 
 
 -- ---- handles
 
-pub empty_chars : (s : String Global) → (length (string_bytes s) == 0) ≡ true → string_chars s ≡ []
-unfolding string_chars
-empty_chars s h = nil_of (chars (string_bytes s)) (is_nil_chars s ∙ h)
+string_length : (s : String Global) → (length (string_bytes s) == 0) ≡ (string_len s == 0)
+string_length s = search rules
 
-pub nonempty_chars : (s : String Global) → (length (string_bytes s) == 0) ≡ false → string_chars s ≢ []
+pub empty_chars : (s : String Global) → (string_len s == 0) ≡ true → string_chars s ≡ []
 unfolding string_chars
-nonempty_chars s h e = let f : true ≡ false = sym (ap is_empty e) ∙ is_nil_chars s ∙ h in cc
+empty_chars s h = nil_of (chars (string_bytes s)) (is_nil_chars s ∙ string_length s ∙ h)
+
+pub nonempty_chars : (s : String Global) → (string_len s == 0) ≡ false → string_chars s ≢ []
+unfolding string_chars
+nonempty_chars s h e = let f : true ≡ false = sym (ap is_empty e) ∙ is_nil_chars s ∙ string_length s ∙ h in cc
 
 pub resolved_empty : (handles : List (List ℕ × List ℕ)) (h x : List ℕ) → h ≡ [] → resolved handles (record { handle = h; suffix = x }) ≡ Some (record { handle = h; suffix = x })
 resolved_empty handles h x e = grind arith
@@ -70,6 +73,3 @@ pub undeclared_resolves : (mark : Position) (names : Names) (h x : List ℕ) (r 
 undeclared_resolves mark names h x (Ok t) a e u = resolved_nonempty names.handles h x None a e ∙ ap (option_map (λ p. record { handle = p; suffix = x })) u.0 ∙ ap (λ y. Some (record { handle = (tag_of t).handle; suffix = y })) (sym u.1)
 undeclared_resolves mark names h x (Err OutOfMemory) a e u = tt
 undeclared_resolves mark names h x (Err (fault.At q m)) a e u = (resolved_nonempty names.handles h x None a e ∙ ap (option_map (λ p. record { handle = p; suffix = x })) u.0, u.1, u.2)
-
-pub string_length : (s : String Global) → (length (string_bytes s) == 0) ≡ (string_len s == 0)
-string_length s = search rules

@@ -24,6 +24,7 @@ use yaml_tokens::{Fault, Problem};
 const CORE_PREFIX: &str = "tag:yaml.org,2002:";
 
 /// Sets the value of a name, and gives its old value. An `Err` changes no value.
+#[tactic(auto, using(crate::proofs::NameLemmas::put_text))]
 fn put<V: Drop>(
     map: &mut BTreeMap<String, V>,
     key: String,
@@ -39,6 +40,7 @@ fn put<V: Drop>(
 }
 
 /// Whether this is a directive other than `%YAML` and `%TAG`.
+#[tactic(auto, using(crate::proofs::NameLemmas::empty_chars, crate::proofs::NameLemmas::nonempty_chars))]
 fn declares_nothing(handle: &String, prefix: &String) -> bool
     ensures yes { result ≡ true → (string_chars handle.now ≡ []) × (string_chars prefix.now ≡ []) }
     ensures no { result ≡ false → string_chars handle.now ≡ [] → string_chars prefix.now ≡ [] → ⊥ }
@@ -167,6 +169,7 @@ impl Names {
     }
 
     /// A tag with its handle's prefix. `mark` is the position of a fault.
+    #[tactic(auto, using(crate::proofs::NameLemmas::empty_chars, crate::proofs::NameLemmas::nonempty_chars, crate::proofs::NameLemmas::resolved_empty, crate::proofs::NameLemmas::resolved_nonempty, crate::proofs::NameLemmas::undeclared_resolves))]
     pub fn resolve(&self, mark: Marker, handle: String, suffix: String) -> Result<Tag, Fault>
         ensures { (names : defs.Names) → IsNamed self.now names → Resolves mark names (record { handle = string_chars handle; suffix = string_chars suffix }) result }
     {
@@ -194,6 +197,7 @@ impl Names {
     }
 
     /// A tag whose handle was not declared.
+    #[tactic(auto, using(crate::proofs::NameLemmas::secondary_is, crate::proofs::NameLemmas::primary_is, crate::proofs::NameLemmas::undeclared_primary, crate::proofs::NameLemmas::core_is))]
     fn undeclared(&self, mark: Marker, handle: String, suffix: String) -> Result<Tag, Fault>
         ensures { IsUndeclared mark (string_chars handle) (string_chars suffix) result }
     {

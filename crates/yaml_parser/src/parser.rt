@@ -124,6 +124,7 @@ impl<T: Characters> Parser<T> {
     ///
     /// Conditions, which a proof must show: the iterator can be asked, comes to an end, and gives fewer than 2^63 characters.
     /// An iterator over a text in memory, such as `text.chars()`, meets them.
+    #[tactic(auto, using(crate::proofs::Parsing::fresh_holds))]
     pub fn new(alloc: Global, src: T) -> Parser<T>
         requires can { T.can_next src }
         requires finite { IsFinite (T.remaining src) }
@@ -151,6 +152,7 @@ impl<T: Characters> Parser<T> {
     /// Sets whether a declared tag handle counts in later documents too. By default it is forgotten at the end of its
     /// document (YAML 1.2, section 6.8.2). A later change counts from the next document's start on: whether the handles
     /// of earlier documents count there. It changes no number of an anchor or an alias.
+    #[tactic(auto, using(crate::proofs::Parsing::settings_hold))]
     pub fn keep_tags(mut self, value: bool) -> Self
         ensures { result ≡ record self { so_far = record (parsed self) { keep_tags = value; steady = stays_steady (parsed self) value } } }
     {
@@ -375,6 +377,7 @@ impl<T: Characters> Parser<T> {
     }
 
     /// Keeps the fault of an event that was given where a document must start.
+    #[tactic(auto, using(crate::proofs::Parsing::misplaced_holds))]
     pub(crate) fn misplace(&mut self, mark: Marker) -> ScanError
         requires none { (parsed self.old).ahead ≡ None }
         requires going { (parsed self.old).ended ≡ false }

@@ -97,6 +97,7 @@ impl<T: Characters> Reader<T> {
 
     /// Takes a `Key` and the plain scalar after it at once, or gives `None` and changes nothing.
     #[inline(always)]
+    #[tactic(auto, using(crate::proofs::Openings::look_fails))]
     pub(crate) fn next_key(&mut self, slot: &mut EventSlot) -> Result<Option<PlainNode>, Failed>
         ensures key { IfOk result (λ o. IfSome o (λ n. TakesBoth self.old.tokens Key n self.new.tokens)) }
         ensures work { IfOk result (λ o. IfSome o (λ n. work self.new + 8 ≤ work self.old)) }
@@ -114,6 +115,7 @@ impl<T: Characters> Reader<T> {
 
     /// Takes a `Value` and the plain scalar after it at once, or gives `None` and changes nothing.
     #[inline(always)]
+    #[tactic(auto, using(crate::proofs::Openings::look_fails))]
     pub(crate) fn next_value(&mut self, slot: &mut EventSlot) -> Result<Option<PlainNode>, Failed>
         ensures value { IfOk result (λ o. IfSome o (λ n. TakesBoth self.old.tokens Value n self.new.tokens)) }
         ensures work { IfOk result (λ o. IfSome o (λ n. work self.new + 8 ≤ work self.old)) }
