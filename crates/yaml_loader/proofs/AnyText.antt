@@ -4,7 +4,7 @@ use Rattle.defs_event.specs.Unfinished as unfinished
 use Rattle.defs_event.proofs.StreamNests.{stream_nests}
 use Rattle.yaml_loader.specs.Gives as given
 use Rattle.yaml_loader.specs.Unread as unread
-use Rattle.yaml_loader.proofs.Finishing.{events_append, refused_stays, was_read, was_noted}
+use Rattle.yaml_loader.proofs.Finishing.{events_append, stays, was_read, was_noted}
 use Rattle.yaml_loader.proofs.LoadLemmas.{with_last, StandsAfter, stands, new_fault, has_documents, has_noted}
 
 -- ---- events with which a stream's begin are not refused
@@ -23,9 +23,9 @@ not_refused keep_tags tokens es p b = by (with_events new_loader es) refl
     by (unfinished.refused documents q) e h =
         let nested = stream_nests keep_tags (toks (tokens ++ b.more_tokens)) (events_of all) (placed_stream keep_tags (tokens ++ b.more_tokens) all b.stream) in
         let read = one_by_one nested.0 all (sym nested.1) in
-        let stays : with_events new_loader all ≡ unfinished.refused documents q =
-        events_append new_loader es b.more_events ∙ ap (λ x. with_events x b.more_events) e ∙ refused_stays documents q b.more_events in
-        never (reading nested.0) documents q (subst (HasRead (reading nested.0)) stays read)
+        let left : with_events new_loader all ≡ unfinished.refused documents q =
+        events_append new_loader es b.more_events ∙ ap (λ x. with_events x b.more_events) e ∙ stays (unfinished.refused documents q) (λ v r. refl) b.more_events in
+        never (reading nested.0) documents q (subst (HasRead (reading nested.0)) left read)
     by x e h = cc
 
 -- ---- how the loader is left

@@ -1,5 +1,6 @@
 -- Where documents begin and end among nested events.
-use Rattle.yaml_loader.proofs.DocumentCommon.{[], after_node, ap, arith, at_key, before_node, Bool, closes, Ev, events_of, false, HasNoEnd, in_sequence, in_stream, is_end, is_nested, IsNested, List, max, new_loader, None, Open, open_after, Option, Position, refl, Some, subst, sym, there_and, true, with_events, ℕ, ◌++◌, ◌<◌, ◌∙◌, ◌∷◌, ◌≡◌, ◌≤◌}
+use Rattle.yaml_loader.proofs.Common.{[], after_node, ap, arith, at_key, before_node, Bool, closes, Ev, events_of, false, HasNoEnd, in_sequence, in_stream, is_end, is_nested, IsNested, List, max, new_loader, None, open_after, Option, Position, refl, Some, subst, sym, there_and, true, with_events, ℕ, ◌++◌, ◌<◌, ◌∙◌, ◌∷◌, ◌≡◌, ◌≤◌}
+use Rattle.defs_event.specs.Nested.{Open}
 use Rattle.std.specs.Prelude.{IfSome}
 use Rattle.defs_event.proofs.NestedTest.{test_is_exact}
 use Rattle.yaml_loader.proofs.Numbers.{low_after, IsOver, AreOwn}
@@ -23,24 +24,21 @@ ordered_after Ev.stream_end (in_stream ∷ os) o = subst IsOrdered (sym o) tt
 ordered_after e (before_node ∷ os) o = assumption
 ordered_after e os o = assumption
 
+-- What goes on to close is open in some way, of which P holds.
+through : (P : List Open → Type 0) (test : List Open → Bool) (x : Option (List Open)) → IfSome x P → there_and test x ≡ true
+    → (r : List Open) × (x ≡ Some r) × P r × (test r ≡ true)
+through P test None i k = cc
+through P test (Some r) i k = (r, refl, i, k)
+
 -- After a document's end that goes on to close, the stream alone is open.
 ends_alone : (es more : List Ev) (os : List Open) → IsOrdered os → closes ((es ++ Ev.document_end ∷ []) ++ more) os ≡ true
     → (fs : List Ev) → closes ((es ++ Ev.document_end ∷ []) ++ fs) os ≡ closes fs (in_stream ∷ [])
 ends_alone [] more (before_node ∷ os) o h fs = ap (closes fs) o
 ends_alone [] more (after_node ∷ os) o h fs = ap (closes fs) o
 ends_alone [] more os o h fs = cc
-ends_alone (e ∷ es) more os o h fs = by (open_after e os) (ordered_after e os o) (λ r i k. ends_alone es more r i k fs) h
-  where
-    by : (x : Option (List Open)) → IfSome x IsOrdered
-        → ((r : List Open) → IsOrdered r → closes ((es ++ Ev.document_end ∷ []) ++ more) r ≡ true → closes ((es ++ Ev.document_end ∷ []) ++ fs) r ≡ closes fs (in_stream ∷ []))
-        → there_and (closes ((es ++ Ev.document_end ∷ []) ++ more)) x ≡ true → there_and (closes ((es ++ Ev.document_end ∷ []) ++ fs)) x ≡ closes fs (in_stream ∷ [])
-    by None i f k = cc
-    by (Some r) i f k = f r i k
-
--- What goes on to close is open in some way, of which P holds.
-through : (P : List Open → Type 0) {Q : Type 0} (test : List Open → Bool) (x : Option (List Open)) → IfSome x P → there_and test x ≡ true → ((r : List Open) → P r → test r ≡ true → Q) → Q
-through P test None i k f = cc
-through P test (Some r) i k f = f r i k
+ends_alone (e ∷ es) more os o h fs =
+    let t = through IsOrdered (closes ((es ++ Ev.document_end ∷ []) ++ more)) (open_after e os) (ordered_after e os o) h in
+    ap (there_and (closes ((es ++ Ev.document_end ∷ []) ++ fs))) t.1 ∙ ends_alone es more t.0 t.2 t.3 fs
 
 -- ---- what follows in the stream
 
@@ -59,10 +57,6 @@ closes_at_start es n = by es ((test_is_exact es).1 n)
     by (Ev.stream_start ∷ es) h = h
     by es h = cc
 
-closes_so : (es : List Ev) → closes es (in_stream ∷ []) ≡ true → ClosesStream es
-closes_so (Ev.stream_start ∷ es) h = cc
-closes_so es h = h
-
 -- all that is nested with a document's end in it
 nested_ends : (es more : List Ev) → IsNested ((es ++ Ev.document_end ∷ []) ++ more)
     → (closes more (in_stream ∷ []) ≡ true) × ((fs : List Ev) → closes fs (in_stream ∷ []) ≡ true → is_nested ((es ++ Ev.document_end ∷ []) ++ fs) ≡ true)
@@ -76,7 +70,11 @@ nested_ends es more n = by es ((test_is_exact ((es ++ Ev.document_end ∷ []) ++
     by es h = cc
 
 pub closes_after : (given es : List Ev) → IsNested ((given ++ Ev.document_end ∷ []) ++ es) → ClosesStream es
-closes_after given es n = closes_so es (nested_ends given es n).0
+closes_after given es n = by es (nested_ends given es n).0
+  where
+    by : (es : List Ev) → closes es (in_stream ∷ []) ≡ true → ClosesStream es
+    by (Ev.stream_start ∷ es) h = cc
+    by es h = h
 
 -- After a document's end the stream may end.
 pub nested_so_far : (es more : List Ev) → IsNested ((es ++ Ev.document_end ∷ []) ++ more) → IsNested ((es ++ Ev.document_end ∷ []) ++ Ev.stream_end ∷ [])
@@ -120,11 +118,10 @@ module _ (floor : ℕ) where
   over_closed : (es : List (Ev × Position)) (more fs : List Ev) (os : List Open) (low high : ℕ) → closes (events_of es ++ more) os ≡ true → floor ≤ high
       → IfOpen (floor ≤ low) os → AreOwn low high (events_of es ++ fs) → AllSuit (Over floor) es
   over_closed [] more fs os low high c m l o = tt
-  over_closed (e ∷ es) more fs os low high c m l o = (
-    suits_over e.0 os low (events_of es ++ more) l c o.0,
-    through (IfOpen (floor ≤ low_after e.0 low high)) (closes (events_of es ++ more)) (open_after e.0 os) (still_open e.0 os low high m l) c
-        (λ r i k. over_closed es more fs r (low_after e.0 low high) (max high (anchor_of e.0)) k (omega arith) i o.1),
-  )
+  over_closed (e ∷ es) more fs os low high c m l o =
+      let t = through (IfOpen (floor ≤ low_after e.0 low high)) (closes (events_of es ++ more)) (open_after e.0 os) (still_open e.0 os low high m l) c in
+      let rest = over_closed es more fs t.0 (low_after e.0 low high) (max high (anchor_of e.0)) t.3 (omega arith) t.2 o.1 in
+      (suits_over e.0 os low (events_of es ++ more) l c o.0, rest)
 
 -- Where a document may begin, each alias has a number over the highest one so far.
 pub over_so_far : (es : List (Ev × Position)) (more fs : List Ev) (low high : ℕ) → ClosesStream (events_of es ++ more) → AreOwn low high (events_of es ++ fs) → AllSuit (Over high) es
@@ -152,7 +149,8 @@ never_ends : (es : List (Ev × Position)) (p : Position) (more : List Ev) (os : 
 never_ends [] p more (in_stream ∷ os) n i h = i
 never_ends [] p more os n i h = cc
 never_ends (e ∷ es) p more os n i h =
-    through IsInside (closes (events_of (es ++ (Ev.stream_end, p) ∷ []) ++ more)) (open_after e.0 os) (still_inside e.0 os n.0 i) h (λ r j k. never_ends es p more r n.1 j k)
+    let t = through IsInside (closes (events_of (es ++ (Ev.stream_end, p) ∷ []) ++ more)) (open_after e.0 os) (still_inside e.0 os n.0 i) h in
+    never_ends es p more t.0 n.1 t.2 t.3
 
 none_begins : (e : Ev) (es : List (Ev × Position)) (p : Position) (more : List Ev) → is_end e ≡ false → HasNoEnd es
     → closes (e ∷ events_of (es ++ (Ev.stream_end, p) ∷ []) ++ more) (in_stream ∷ []) ≡ true → ⊥

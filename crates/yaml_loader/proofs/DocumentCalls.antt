@@ -1,6 +1,6 @@
 -- What a call gives, from what was read.
-use Rattle.yaml_loader.proofs.Common.{CameFrom, characters_are_the_text, HasNoNul, up_to_nul}
-use Rattle.yaml_loader.proofs.DocumentCommon.{ap, Bool, by_key, by_memory, by_parser, Err, ErrorReport, false, finished, List, None, Ok, Option, Parse, Parsed, parsed, Reads, Result, Scans, ScansIn, Some, Stops, subst, sym, true, view, Yaml, ℕ, ◌∙◌, ◌≡◌}
+use Rattle.yaml_loader.proofs.Common.{ap, Bool, by_key, by_memory, by_parser, CameFrom, characters_are_the_text, Err, ErrorReport, false, HasNoNul, List, None, Ok, Option, Parse, Parsed, parsed, Reads, Result, Scans, ScansIn, Some, Stops, subst, sym, true, true≢false, up_to_nul, view, Yaml, ℕ, ◌∙◌, ◌≡◌}
+use Rattle.yaml_loader.specs.OneDocument.{finished}
 use Rattle.yaml_loader.specs.DocumentStream.{Stream, stream_of, is_last, Adds, Says, Gives}
 use Rattle.yaml_loader.proofs.DocumentTexts.{says_document, says_all, says_stop}
 
@@ -9,9 +9,6 @@ abbrev pub answered : {E : Type 0} → Result (Option Yaml) E → Option (Result
 answered (Ok (Some t)) = Some (Ok t)
 answered (Ok None) = None
 answered (Err e) = Some (Err e)
-
-pub not_both : {P : Type 0} → false ≡ true → P
-not_both h = cc
 
 pub fault_adds : {old now : Parsed} (f : ErrorReport) → Stops old f now → f.memory ≡ false → finished now ≡ finished old
 fault_adds f (by_parser why plain same) owned = same
@@ -35,7 +32,7 @@ pub gives : {T : Type 0} (steps : T → Option ℕ → T → Type 0) (old new : 
     → (r : Result (Option Yaml) ErrorReport) (last : Bool) → last ≡ is_last (answered r) → Reads (parsed old) r (parsed new) → Gives steps s (answered r) (stream_of new last)
 gives steps old new came no_nul scans is off start r last over reads = subst (λ z. Gives steps z (answered r) (stream_of new last)) (ap (stream_of old) (sym off) ∙ is) (record {
   start = start;
-  again = λ h. not_both h;
+  again = λ h. absurd (true≢false (sym h));
   over = over;
   adds = adds_so (parsed old) (parsed new) r reads;
   says = λ going all always.

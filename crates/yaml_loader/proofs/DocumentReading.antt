@@ -1,16 +1,18 @@
 -- What the reading of one document does, from what its loader took.
-use Rattle.yaml_loader.proofs.Common.{IsGivenFault, kept_fault, loader_of, Takes, WantsMemory, YamlLoader}
+use Rattle.yaml_loader.proofs.Common.{[], ap, append-nil, append_assoc, arith, BeginsPlaced, by_key, by_memory, by_parser, documents_of, Ended, EndsDocument, Err, ErrorReport, Ev, events_of, false, fault_in, Faults, has_end, HasDocuments, HasNoEnd, HasNoted, HasRead, inl, inr, is_end, is_stream_end, IsBetween, IsGivenFault, IsNested, IsPlain, IsRead, IsSome, items_view, kept_fault, length, length-append, List, Loader, loader_of, map-append, new_loader, None, Ok, Option, option_to_list, Parsed, Position, raws_of, read, Reads, ReadsAll, ReadsOne, refl, refused_at, Refuses, Result, reverse, reverse-append, Some, Stops, subst, sym, Takes, TakesAll, TakesDocument, Token, Tree, true, view, WantsMemory, with_event_at, with_events, Yaml, YamlLoader, ℕ, ◌++◌, ◌<◌, ◌∙◌, ◌∷◌, ◌≡◌, ◌⊎◌}
+use Rattle.yaml_loader.specs.OneDocument.{finished}
+use Rattle.yaml_loader.proofs.LoadLemmas.{has_documents, has_noted, new_fault, stands, with_last}
 use Rattle.std.specs.Result.{IsErrAnd}
-use Rattle.yaml_loader.proofs.DocumentCommon.{[], ap, append-nil, append_assoc, arith, BeginsPlaced, by_key, by_memory, by_parser, documents_of, Ended, EndsDocument, Err, ErrorReport, Ev, events_of, false, fault_in, Faults, finished, has_documents, has_end, has_noted, HasDocuments, HasNoEnd, HasNoted, HasRead, inl, inr, is_end, is_stream_end, IsBetween, IsNested, IsPlain, IsRead, IsSome, items_view, length, List, Loader, map-append, new_fault, new_loader, None, Ok, Option, option_to_list, Parsed, Position, raws_of, read, Reads, ReadsAll, ReadsOne, refl, refused_at, Refuses, Result, Some, stands, Stops, subst, sym, TakesAll, TakesDocument, Token, Tree, true, view, with_event_at, with_events, with_last, Yaml, ℕ, ◌++◌, ◌<◌, ◌∙◌, ◌∷◌, ◌≡◌, ◌⊎◌}
 use Rattle.proof_loads.proofs.Pulled.{read_given, has_end_append}
 use Rattle.yaml_loader.specs.Gives as given
 use Rattle.yaml_loader.specs.declared.one_document.Halt.{Halt}
 use Rattle.yaml_loader.specs.declared.one_document.Halt.TheVariants as halt
-use Rattle.yaml_loader.proofs.Numbers.{highest, AreOwn, stream_own, own_rest, up_to, UpTo}
+use Rattle.yaml_loader.proofs.Numbers.{highest, AreOwn, named_own, own_rest, up_to, UpTo}
 use Rattle.yaml_loader.proofs.Beside.{AllSuit, StandBeside, working, events_beside, beside_read, beside_has, beside_noted, beside_documents, beside_refused, no_more_documents}
 use Rattle.yaml_loader.proofs.Between.{ClosesStream, closes_at_start, closes_after, nothing_began, Over, over_so_far}
 use Rattle.yaml_loader.proofs.Finishing.{events_append, end_stays, read_documents, has_are, was_noted, HasOneOrNone, one_or_none}
 use Rattle.yaml_loader.proofs.AnyText.{new_fault_wants, not_refused}
+use Rattle.yaml_tree.proofs.ItemsLemmas.{items_view_push}
 
 -- ---- what came
 
@@ -63,7 +65,7 @@ module _ {old now : Parsed} (b : IsBetween old) (c : Ended old now) where
   its_aliases_are_over =
       let s = stream_begins b.plain c in
       let more = s.1.more_events in
-      let all = stream_own now.keep_tags (raws_of s.1.stream.raws) (events_of ((old.given ++ all_of c) ++ more)) s.1.stream.has_events in
+      let all = named_own now.keep_tags (record { count = 0; anchors = []; handles = [] }) 0 (raws_of s.1.stream.raws) _ (omega arith) tt s.1.stream.has_events in
       let split : events_of ((old.given ++ all_of c) ++ more) ≡ events_of old.given ++ (events_of (all_of c) ++ events_of more) =
       ap events_of (append_assoc old.given (all_of c) more) ∙ parts old.given (all_of c ++ more) ∙ ap (λ es. events_of old.given ++ es) (parts (all_of c) more) in
       let own = own_rest 0 0 (events_of old.given) (events_of (all_of c) ++ events_of more) (subst (AreOwn 0 0) split all) in
@@ -114,18 +116,21 @@ after_document c e =
 
 -- ---- a document that was read
 
+-- what a list ends with
+pub same_last : {A : Type 0} (xs ys : List A) (a b : A) → xs ++ a ∷ [] ≡ ys ++ b ∷ [] → a ≡ b
+same_last xs ys a b e = let x = reverse-append xs (a ∷ []) in let y = reverse-append ys (b ∷ []) in let same = ap reverse e in cc
+
 -- what a vector of one tree, or of none, gives up
 one_popped : (xs ys : List Yaml) (r : Option Yaml) (t : Tree) → xs ≡ ys ++ option_to_list r → (0 < length xs → IsSome r) → items_view xs ≡ t ∷ [] → (y : Yaml) × (r ≡ Some y) × (view y ≡ t)
-one_popped xs [] (Some y) t e some h = let same : view y ∷ [] ≡ t ∷ [] = ap items_view (sym e) ∙ h in (y, refl, cc)
-one_popped xs (z ∷ []) (Some y) t e some h = let same : view z ∷ view y ∷ [] ≡ t ∷ [] = ap items_view (sym e) ∙ h in cc
-one_popped xs (z ∷ w ∷ ys) (Some y) t e some h = let same : view z ∷ items_view (w ∷ ys ++ y ∷ []) ≡ t ∷ [] = ap items_view (sym e) ∙ h in cc
+one_popped xs ys (Some y) t e some h = (y, refl, same_last (items_view ys) [] (view y) t (sym (items_view_push ys xs y e) ∙ h))
 one_popped [] ys None t e some h = cc
 one_popped (x ∷ xs) ys None t e some h = let no : false ≡ true = some (omega arith) in cc
 
 none_popped : (xs ys : List Yaml) (r : Option Yaml) → xs ≡ ys ++ option_to_list r → items_view xs ≡ [] → r ≡ None
 none_popped xs ys None e h = refl
-none_popped xs [] (Some y) e h = let same : view y ∷ [] ≡ [] = ap items_view (sym e) ∙ h in cc
-none_popped xs (z ∷ ys) (Some y) e h = let same : view z ∷ items_view (ys ++ y ∷ []) ≡ [] = ap items_view (sym e) ∙ h in cc
+none_popped xs ys (Some y) e h =
+    let none = sym (items_view_push ys xs y e) ∙ h in
+    absurd (omega (arith, ap length none, length-append (items_view ys) (view y ∷ [])))
 
 module _ {old now : Parsed} {r s : YamlLoader} (b : IsBetween old) (new : loader_of r ≡ new_loader) (clear : kept_fault r ≡ None) where
   reads_one : (t : TakesAll Takes old r now s) → t.came.last ≡ Ev.document_end → (ds : List Tree) → HasDocuments (with_events new_loader (all_of t.came)) ds

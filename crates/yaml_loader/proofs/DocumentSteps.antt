@@ -1,5 +1,6 @@
 -- The events of one document, one by one.
-use Rattle.yaml_loader.proofs.DocumentCommon.{[], ap, append-nil, append_assoc, arith, Ended, Err, ErrorReport, Ev, false, Faults, Goes, HasNoEnd, if◌then◌else◌, is_end, is_stream_end, IsGoing, List, Ok, Parsed, Position, refl, Refuses, Result, sym, TakesAll, true, ◌++◌, ◌||◌, ◌∙◌, ◌∷◌, ◌≡◌, ◌≢◌}
+use Rattle.yaml_loader.proofs.Common.{[], ap, append-nil, append_assoc, arith, Ended, Err, ErrorReport, Ev, false, Faults, HasNoEnd, is_end, is_stream_end, IsGoing, List, Ok, Parsed, Position, refl, Refuses, Result, sym, TakesAll, true, if◌then◌else◌, ◌++◌, ◌||◌, ◌∙◌, ◌∷◌, ◌≡◌, ◌≢◌}
+use Rattle.yaml_loader.specs.OneDocument.{Goes}
 use Rattle.yaml_parser.specs.Loads.{no_event, one_event}
 use Rattle.yaml_parser.specs.Pulls.{GivesEvent, GivesFault, KeepsSettings}
 

@@ -1,6 +1,7 @@
 -- What the readings of one document say of a text.
-use Rattle.yaml_loader.proofs.Common.{first_position, Means, memory_is_wanted}
-use Rattle.yaml_loader.proofs.DocumentCommon.{[], ap, Bool, by_key, by_memory, by_parser, documents_of, EndsDocument, ErrorReport, Ev, events_of, false, fault_of, finished, Foretells, has_end, HasNoted, HasRead, IsNested, IsRead, IsStream, List, Loader, map, nested_stream, NestedDocument, new_loader, noted, Ok, one_by_one, Parsed, placed_stream, Position, read, reading, ReadsAll, ReadsOne, refl, ScansIn, Stops, stream_nests, subst, sym, toks, Tree, with_events, with_last, ℕ, ◌++◌, ◌∙◌, ◌∷◌, ◌≡◌}
+use Rattle.yaml_loader.proofs.Common.{[], ap, Bool, by_key, by_memory, by_parser, documents_of, EndsDocument, ErrorReport, Ev, events_of, false, fault_of, first_position, Foretells, has_end, HasNoted, HasRead, IsNested, IsRead, IsStream, List, Loader, map, Means, memory_is_wanted, nested_stream, NestedDocument, new_loader, noted, Ok, one_by_one, Parsed, placed_stream, Position, read, reading, ReadsAll, ReadsOne, refl, ScansIn, Stops, stream_nests, subst, sym, toks, Tree, with_events, ℕ, ◌++◌, ◌∙◌, ◌∷◌, ◌≡◌}
+use Rattle.yaml_loader.specs.OneDocument.{finished}
+use Rattle.yaml_loader.proofs.LoadLemmas.{with_last}
 use Rattle.proof_loads.specs.TextEvents.{AreFirst, BeginsEvents, IsFaultOf, wants_memory}
 use Rattle.proof_loads.proofs.StreamEnds.{all_tokens}
 use Rattle.proof_loads.proofs.Texts.{goes_on, first_tokens}
@@ -8,7 +9,7 @@ use Rattle.yaml_loader.specs.FirstDocuments.{BeginsDocuments, BeginsAs, IsStoppe
 use Rattle.yaml_loader.specs.FirstDocuments as first
 use Rattle.yaml_loader.specs.DocumentLaws.{GivenDocumentsAreTheFirst, TextsThatLoadAreNotStopped}
 use Rattle.yaml_loader.proofs.Between.{nested_so_far}
-use Rattle.yaml_loader.proofs.Finishing.{cleared, events_append, end_stays, read_documents, read_has, was_read, was_noted, documents_grow, noted_stays}
+use Rattle.yaml_loader.proofs.Finishing.{cleared, events_append, end_stays, read_documents, read_has, was_read, was_noted, documents_grow, stays}
 use Rattle.yaml_loader.proofs.DocumentReading.{parts, read_is}
 
 -- ---- the text's events begin with those that were read
@@ -118,5 +119,5 @@ only_memory_is_wanted keep_tags text trees all f (first.repeated_key es ds b key
     absurd (by g.0 (with_events new_loader es) has g.1)
   where
     by : (more : List (Ev × Position)) (l : Loader) → HasNoted l key f.position → HasRead (Ok all) (with_events l more) → ⊥
-    by more (noted d k p) h r = subst (HasRead (Ok all)) (noted_stays d k p more) r
+    by more (noted d k p) h r = subst (HasRead (Ok all)) (stays (noted d k p) (λ e q. refl) more) r
     by more l h r = absurd h

@@ -1,5 +1,7 @@
 -- What a loader has before and after the end of a document.
-use Rattle.yaml_loader.proofs.DocumentCommon.{[], ap, append-nil, at_work, bad_value, documents_of, Err, Ev, HasDocuments, HasNoEnd, HasNoted, HasRead, inl, inr, List, Loader, loader_after, new_loader, noted, Ok, Opened, Position, refl, refused, Result, subst, sym, Tree, unwrap_or, with_document_end, with_event_at, with_events, with_last, ◌++◌, ◌∙◌, ◌∷◌, ◌≡◌, ◌⊎◌}
+use Rattle.yaml_loader.proofs.Common.{[], ap, append-nil, at_work, bad_value, documents_of, Err, Ev, HasDocuments, HasNoEnd, HasNoted, HasRead, inl, inr, List, Loader, loader_after, new_loader, noted, Ok, Opened, Position, refl, Result, subst, sym, Tree, unwrap_or, with_document_end, with_event_at, with_events, ◌++◌, ◌∙◌, ◌∷◌, ◌≡◌, ◌⊎◌}
+use Rattle.defs_event.specs.Unfinished.{refused}
+use Rattle.yaml_loader.proofs.LoadLemmas.{with_last}
 use Rattle.yaml_loader.proofs.Beside.{AllSuit, beside_documents, events_beside, may_finish_same, no_more_documents, noting, refusing, Same, StandBeside, state, suits_same, working}
 
 pub events_append : (l : Loader) (es fs : List (Ev × Position)) → with_events l (es ++ fs) ≡ with_events (with_events l es) fs
@@ -11,13 +13,10 @@ pub end_stays : (l : Loader) (p : Position) → with_event_at l Ev.stream_end p 
 end_stays (at_work u) p = refl
 end_stays l p = refl
 
-pub noted_stays : (ds : List Tree) (key : Tree) (p : Position) (es : List (Ev × Position)) → with_events (noted ds key p) es ≡ noted ds key p
-noted_stays ds key p [] = refl
-noted_stays ds key p (e ∷ es) = noted_stays ds key p es
-
-pub refused_stays : (ds : List Tree) (p : Position) (es : List (Ev × Position)) → with_events (refused ds p) es ≡ refused ds p
-refused_stays ds p [] = refl
-refused_stays ds p (e ∷ es) = refused_stays ds p es
+-- A loader that no event changes stays, as one that has noted a key, or refused an event.
+pub stays : (l : Loader) → ((e : Ev) (p : Position) → with_event_at l e p ≡ l) → (es : List (Ev × Position)) → with_events l es ≡ l
+stays l h [] = refl
+stays l h (e ∷ es) = ap (λ x. with_events x es) (h e.0 e.1) ∙ stays l h es
 
 -- ---- events only add documents
 

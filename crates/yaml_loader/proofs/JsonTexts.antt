@@ -7,7 +7,8 @@ use Rattle.defs_layout.specs.JsonNumber.{Number, no_fraction, no_exponent, numbe
 
 -- ---- no alias stands in its tree
 
-either : {A : Type 0} (P : A → Type 0) (b : Bool) (t u : A) → P t → P u → P (if b then t else u)
+-- P of an `if`, from P of both
+pub either : {A : Type 0} (P : A → Type 0) (b : Bool) (t u : A) → P t → P u → P (if b then t else u)
 either P true t u h r = h
 either P false t u h r = r
 

@@ -12,7 +12,7 @@ pub repeated_at : (os : List Open) (last : Open) (o : Opened) → opened_of last
     → (around : List Opened) × (repeated_key (o ∷ around) ≡ repeated_key (all_opened os []))
 repeated_at os last o is some at =
     let i = last_is os (length os) last refl some at in
-    (i.around, sym (ap repeated_key i.before ∙ ap (λ o. repeated_key (o ∷ i.around)) is))
+    (i.0.around, sym (ap repeated_key i.1 ∙ ap (λ o. repeated_key (o ∷ i.0.around)) is))
 
 -- ---- rows: how keys are shown
 

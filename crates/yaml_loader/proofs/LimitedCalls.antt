@@ -1,9 +1,9 @@
 -- What a call gives, from what was read within limits.
-use Rattle.yaml_loader.proofs.Common.{CameFrom, characters_are_the_text, HasNoNul, HasRead, stream_of}
+use Rattle.yaml_loader.proofs.Common.{CameFrom, characters_are_the_text, HasNoNul, HasRead, stream_of, true≢false}
 use Rattle.yaml_loader.proofs.LimitedCommon.{[], ap, Backlog, BeginsEvents, Bool, by_nodes, by_tokens, documents_of, Err, Ev, false, GoesOver, HoldsBack, IfSome, inl, IsBetween, IsRead, IsReady, IsTooLarge, Limits, LimitsError, List, Made, new_loader, None, none_more, Ok, Option, Parse, Parsed, parsed, Position, ReadsWithin, refl, Result, Some, subst, sym, true, up_to_nul, view, Waits, with_events, Yaml, ℕ, ◌++◌, ◌∙◌, ◌∷◌, ◌≡◌}
 use Rattle.yaml_scanner.specs.Scanned.{ScansIn, Scans}
 use Rattle.yaml_loader.specs.OneDocument.{finished}
-use Rattle.yaml_loader.proofs.DocumentCalls.{answered, fault_adds, not_both}
+use Rattle.yaml_loader.proofs.DocumentCalls.{answered, fault_adds}
 use Rattle.yaml_loader.proofs.DocumentTexts.{text_begins, says_document, says_all, says_stop}
 use Rattle.yaml_loader.specs.LimitedOneByOne.{LimitedStream, ComesNext, IsStoppedWithin, stopped, too_deep, too_large, too_many, is_last, Adds, Says, GivesWithin}
 use Rattle.yaml_loader.specs.declared.limits_error.LimitsError.TheVariants as error
@@ -70,7 +70,7 @@ pub gives : {T : Type 0} (steps : T → Option ℕ → T → Type 0) (limits : L
 gives steps limits old new came no_nul scans b is off start r last over reads = subst (λ z. GivesWithin steps z (answered r) (at limits new last)) (ap (at limits old) (sym off) ∙ is) (record {
   start = start;
   limits = refl;
-  again = λ h. not_both h;
+  again = λ h. absurd (true≢false (sym h));
   over = over;
   adds = adds_so limits (parsed new) b r reads;
   says = λ going all always.

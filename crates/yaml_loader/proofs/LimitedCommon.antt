@@ -5,7 +5,7 @@ pub use Rattle.std.specs.Prelude.{bytes_eq, chars, codes, IfErr, IfSome, if◌th
 unfoldable pub use Rattle.defs_text.specs.Text.{string_chars}
 pub use Rattle.defs_tree.specs.Pairs.{has_key, insert, without}
 pub use Rattle.defs_tree.specs.Tree.{alias, array, bad_value, hash, integer, items_of, null, pairs_of, real, string, Tree}
-pub use Rattle.yaml_loader.proofs.DocumentReading.{all_of, is_read, none_more, read_so, refused_by_memory, stops_by_key, stops_by_parser}
+pub use Rattle.yaml_loader.proofs.DocumentReading.{all_of, is_read, none_more, read_so, refused_by_memory, same_last, stops_by_key, stops_by_parser}
 pub use Rattle.yaml_loader.specs.OneDocument.{by_memory, Faults, is_end, IsBetween, IsRead, IsReady, ReadsOne, Refuses, TakesAll}
 pub use Rattle.yaml_loader.specs.Counting.{AreAbove, Counted, Counts, FitsIn, Guards, IsExcess, IsNew, opened_size}
 pub use Rattle.yaml_loader.specs.Extents.{extended, extent_at, scalar_extent, single_node, tag_size}

@@ -1,8 +1,6 @@
 -- What the reading of one document within limits does, from what its guard was handed.
 use Rattle.yaml_loader.proofs.Common.{false_from_ne_true, Gives}
-use Rattle.yaml_loader.proofs.LimitedCommon.{[], all_of, ap, append_assoc, AreWithin, arith, by_memory, by_nodes, by_tokens, Counts, Err, error_by, error_of, ErrorReport, Ev, Excess, false, Faults, GoesOver, Guard, Guards, HasDocuments, HoldsBack, inl, inr, is_end, is_read, IsBetween, IsExcess, IsNew, IsReadWithin, IsSome, IsWithin, items_view, kept_fault, length, Limits, List, loader_of, Made, made, made_by, new_loader, None, none_more, nothing_made, Ok, Option, option_to_list, Parsed, Position, read_so, ReadsOne, ReadsWithin, refl, refused_by_memory, Refuses, Some, stops_by_key, stops_by_parser, subst, sym, Takes, TakesAll, Tree, true, view, with_events, Yaml, YamlLoader, ◌++◌, ◌<◌, ◌∙◌, ◌∷◌, ◌≡◌}
-use Rattle.std.proofs.Common.{reverse}
-use Rattle.std.proofs.lemmas.List.{reverse-append}
+use Rattle.yaml_loader.proofs.LimitedCommon.{[], all_of, ap, append_assoc, AreWithin, arith, by_memory, by_nodes, by_tokens, Counts, Err, error_by, error_of, ErrorReport, Ev, Excess, false, Faults, GoesOver, Guard, Guards, HasDocuments, HoldsBack, inl, inr, is_end, is_read, IsBetween, IsExcess, IsNew, IsReadWithin, IsSome, IsWithin, items_view, kept_fault, length, Limits, List, loader_of, Made, made, made_by, new_loader, None, none_more, nothing_made, Ok, Option, option_to_list, Parsed, Position, read_so, ReadsOne, ReadsWithin, refl, refused_by_memory, Refuses, same_last, Some, stops_by_key, stops_by_parser, subst, sym, Takes, TakesAll, Tree, true, view, with_events, Yaml, YamlLoader, ◌++◌, ◌<◌, ◌∙◌, ◌∷◌, ◌≡◌}
 use Rattle.yaml_tree.proofs.ItemsLemmas.{items_view_push}
 use Rattle.yaml_loader.proofs.LoadLemmas.{stands, has_documents}
 use Rattle.yaml_loader.proofs.DocumentSteps.{no_end_more}
@@ -10,9 +8,6 @@ use Rattle.yaml_loader.specs.declared.count.Excess.TheVariants as excess
 use Rattle.yaml_loader.specs.declared.limits_error.LimitsError.TheVariants as error
 use Rattle.yaml_loader.proofs.HandLemmas.{made_last, took, took_within, took_excess}
 use Rattle.yaml_loader.proofs.LimitedLemmas.{documents_within}
-
-same_last : {A : Type 0} (xs ys : List A) (a b : A) → xs ++ a ∷ [] ≡ ys ++ b ∷ [] → a ≡ b
-same_last xs ys a b e = let x = reverse-append xs (a ∷ []) in let y = reverse-append ys (b ∷ []) in let same = ap reverse e in cc
 
 -- the last of several trees within limits
 last_within : (limits : Limits) (ts : List Tree) (t : Tree) → AreWithin limits (ts ++ t ∷ []) → AreWithin limits (t ∷ [])

@@ -1,7 +1,6 @@
 -- What a load answers, from what its parser did with the loader.
-use Rattle.yaml_loader.proofs.Common.{[], All, ap, AreLoaded, at_work, documents_of, EndsSo, Err, ErrorReport, Ev, Gives, Global, HasDocuments, HasNoAlias, HasNoted, IfErr, IfOk, inl, inr, IsGivenFault, IsLoadFault, IsNewFault, items_view, kept_fault, length, List, LoadedTreesHaveNoAlias, Loader, loader_by, loader_of, Loads, new_loader, no_event, None, Notes, Ok, one_event, OnOk, owned_at, Parsed, Position, PullsAll, Pushes, Receives, refl, repeated_key, Result, StandAlike, String, string_bytes, subst, sym, Takes, TellsBy, TellsKey, TellsNotedKey, Tree, true, unfinished_of, Vec, with_event_at, with_events, Yaml, YamlLoader, ◌++◌, ◌∙◌, ◌∷◌, ◌≡◌}
-use Rattle.defs_event.specs.PulledList.{Answer}
-use Rattle.defs_event.specs.Push.{load}
+use Rattle.yaml_loader.proofs.Common.{[], All, ap, AreLoaded, at_work, documents_of, EndsSo, Err, ErrorReport, Ev, Gives, Global, HasDocuments, HasNoAlias, HasNoted, IfErr, IfOk, inl, inr, IsGivenFault, IsLoadFault, IsNewFault, items_view, kept_fault, List, LoadedTreesHaveNoAlias, Loader, loader_by, loader_of, Loads, new_loader, no_event, None, Notes, Ok, one_event, OnOk, owned_at, Parsed, Position, Pushes, Receives, refl, repeated_key, Result, StandAlike, String, string_bytes, subst, sym, Takes, TellsBy, TellsKey, TellsNotedKey, Tree, true, unfinished_of, Vec, with_event_at, with_events, Yaml, YamlLoader, ◌++◌, ◌∙◌, ◌∷◌, ◌≡◌}
+use Rattle.defs_event.specs.Push.{load, Loaded}
 use Rattle.defs_event.specs.Unfinished as unfinished
 use Rattle.yaml_parser.specs.Loads as loads
 use Rattle.yaml_loader.specs.declared.loader.LoaderState.{LoaderState}
@@ -35,9 +34,10 @@ notes : {l n : YamlLoader} {es : List (Ev × Position)} → Receives Takes l es 
 notes no_event = no_event
 notes (one_event e p h takes) = one_event e p (notes h) refl
 
-pushes : {old after new : Parsed} {answers : List (Answer ErrorReport)} {events : List (Ev × Position)} {result : Result (Unit {0}) ErrorReport}
-    → PullsAll old answers after → (load old.started true answers).taken ≡ length answers → EndsSo Notes [] (load old.started true answers) after result new events → Pushes old events result new
-pushes {old} {after} {new} {answers} pulled taken ends = record { answers = answers; after = after; pulled = pulled; taken = taken; ends = ends }
+-- the same load with such a receiver
+pushes : {l n : YamlLoader} {old new : Parsed} {es : List (Ev × Position)} {result : Result (Unit {0}) ErrorReport} (h : Loads Takes true old l result new n)
+    → EndsSo Notes [] (load old.started true h.answers) h.after result new es → Pushes old es result new
+pushes h ends = record { answers = h.answers; after = h.after; pulled = h.pulled; taken = h.taken; ends = ends }
 
 module _ (l : YamlLoader) (empty : loader_of l ≡ new_loader) (clear : kept_fault l ≡ None) where
   pub stands : {n : YamlLoader} {es : List (Ev × Position)} → Receives Takes l es n → StandsAfter es n
@@ -59,26 +59,23 @@ module _ (l : YamlLoader) (empty : loader_of l ≡ new_loader) (clear : kept_fau
       let same = (show_the_same x y (event_at_alike (with_events new_loader es) (loader_of s) e p before.alike)).1 in
       elim (takes.reason before.clear) [ inl w ↦ inl w | inr w ↦ inr (w.0, same ∙ w.1) ]
 
-  ended_well : {old after new : Parsed} {n : YamlLoader} (answers : List (Answer ErrorReport)) → PullsAll old answers after → (load old.started true answers).taken ≡ length answers
-      → EndsSo Takes l (load old.started true answers) after (Ok tt) new n → Went old new n
-  ended_well {old} answers pulled taken (loads.well ending clear received) =
-      ((load old.started true answers).pushed, pushes pulled taken (loads.well ending clear (notes received)), clear, stands received)
-
-  ended_ill : {old after new : Parsed} {n : YamlLoader} {f : ErrorReport} (answers : List (Answer ErrorReport)) → PullsAll old answers after → (load old.started true answers).taken ≡ length answers
-      → EndsSo Takes l (load old.started true answers) after (Err f) new n → IsLoadFault old f new
-  ended_ill {old} answers pulled taken (loads.faulted ending kept received) =
-      ends.parser_fault (load old.started true answers).pushed (pushes pulled taken (loads.faulted ending kept (notes received))) kept
-  ended_ill {old} answers pulled taken (loads.misplaced p ending received) =
-      ends.parser_fault (load old.started true answers).pushed (pushes pulled taken (loads.misplaced p ending (notes received))) refl
-  ended_ill {old} answers pulled taken (loads.refused {s} {t} {es} e p pushed clear received takes) =
-      ends.refused es e p (pushes pulled taken (loads.refused e p pushed clear (notes received) refl)) clear (new_fault e p received takes)
-
   -- how a load ends, over the loader that is left
+  ended_well : {old after new : Parsed} {n : YamlLoader} (run : Loaded ErrorReport) → ((es : List (Ev × Position)) → EndsSo Notes [] run after (Ok tt) new es → Pushes old es (Ok tt) new)
+      → EndsSo Takes l run after (Ok tt) new n → Went old new n
+  ended_well run push (loads.well ending clear received) = (run.pushed, push _ (loads.well ending clear (notes received)), clear, stands received)
+
+  ended_ill : {old after new : Parsed} {n : YamlLoader} {f : ErrorReport} (run : Loaded ErrorReport) → ((es : List (Ev × Position)) → EndsSo Notes [] run after (Err f) new es → Pushes old es (Err f) new)
+      → EndsSo Takes l run after (Err f) new n → IsLoadFault old f new
+  ended_ill run push (loads.faulted ending kept received) = ends.parser_fault run.pushed (push _ (loads.faulted ending kept (notes received))) kept
+  ended_ill run push (loads.misplaced p ending received) = ends.parser_fault run.pushed (push _ (loads.misplaced p ending (notes received))) refl
+  ended_ill run push (loads.refused {s} {t} {es} e p pushed clear received takes) =
+      ends.refused es e p (push _ (loads.refused e p pushed clear (notes received) refl)) clear (new_fault e p received takes)
+
   pub went_well : {old new : Parsed} {n : YamlLoader} → Loads Takes true old l (Ok tt) new n → Went old new n
-  went_well h = ended_well h.answers h.pulled h.taken h.ends
+  went_well {old} h = ended_well (load old.started true h.answers) (λ es. pushes h) h.ends
 
   pub load_fault : {old new : Parsed} {n : YamlLoader} {f : ErrorReport} → Loads Takes true old l (Err f) new n → IsLoadFault old f new
-  load_fault h = ended_ill h.answers h.pulled h.taken h.ends
+  load_fault {old} h = ended_ill (load old.started true h.answers) (λ es. pushes h) h.ends
 
 -- ---- what the loader gives then
 

@@ -1,14 +1,8 @@
 -- What the marks so far stand for, after each kind of step.
-use Rattle.yaml_loader.proofs.MarkedCommon.{[], alias_mark, alias_of, aliased_marks, AllOpenStand, AnchorsStand, ap, arith, Begun, Bool, drop, Err, Ev, false, finished_marks, Goes, GoesWith, HasStanding, Holds, if◌then◌else◌, IsUnder, leaf, leaf_mark, length, length-drop, List, Mark, mark_under, MarkedAnchors, Marking, Marks, marks, nat_eq, None, Ok, OnOk, OpenMarks, Option, parts_of, PerhapsStands, Position, refl, Result, reverse, reverse-append, reverse-reverse, Some, Stands, subst, suc, sym, take, take-length, true, unwrap_or, Vec, zero, ℕ, ◌++◌, ◌-◌, ◌<◌, ◌∙◌, ◌∷◌, ◌≡◌, ◌≤◌}
+use Rattle.yaml_loader.proofs.Common.{[], alias_mark, alias_of, aliased_marks, AllOpenStand, AnchorsStand, ap, arith, Begun, Bool, drop, Ev, false, finished_marks, Goes, GoesWith, HasStanding, Holds, IsUnder, leaf, leaf_mark, length, length-drop, List, Mark, mark_under, MarkedAnchors, Marking, Marks, marks, nat_eq, None, OpenMarks, Option, parts_of, PerhapsStands, Position, refl, reverse, reverse-append, reverse-reverse, Some, Stands, subst, suc, sym, take, take-length, true, unwrap_or, Vec, zero, ℕ, if◌then◌else◌, ◌++◌, ◌-◌, ◌<◌, ◌∙◌, ◌∷◌, ◌≡◌, ◌≤◌}
 use Rattle.std.specs.declared.alloc.Global.{Global}
 use Rattle.defs_event.specs.Marking as defs
-use Rattle.yaml_loader.proofs.Growing.{grown_parts, grown_perhaps, grown_open, grown_anchors}
-use Rattle.yaml_loader.proofs.Open.{row_and, open_and, closed, last_in_table}
-
--- ---- lists from their end
-
-last_first : {A : Type 0} (xs : List A) (x : A) → reverse (xs ++ x ∷ []) ≡ x ∷ reverse xs
-last_first xs x = reverse-append xs (x ∷ [])
+use Rattle.yaml_loader.proofs.Open.{grown_parts, grown_perhaps, grown_open, grown_anchors, row_and, open_and, closed, last_in_table}
 
 -- ---- a leaf
 
@@ -61,16 +55,6 @@ module _ {table documents : List Mark} {opened : List Begun} {waiting : List Mar
       by (Some m) (Some s) r = r
       by m s r = absurd r
 
-  -- an anchor is finished
-  pub anchor_holds : (a : ℕ) (m : Mark) (s : Marks) (new : List (ℕ × Mark)) → Stands table m s → IsUnder (suc a) m entries new → Holds table documents opened waiting root entries x
-      → Holds table documents opened waiting root new (record x { anchors = finished_marks (suc a) s x.anchors })
-  anchor_holds a m s new stands under h = record {
-    of_documents = h.of_documents;
-    of_opened = h.of_opened;
-    of_root = h.of_root;
-    of_anchors = one_under table entries new x.anchors a m s stands under h.of_anchors;
-  }
-
   -- no collection is open
   pub none_open : opened ≡ [] → Holds table documents opened waiting root entries x → Holds table documents opened waiting root entries (defs.with_close x x.opened)
   none_open none h = by x.opened (subst (λ bs. AllOpenStand table (reverse bs) waiting x.opened) none h.of_opened)
@@ -85,16 +69,19 @@ outer_part s x (o ∷ os) = refl
 
 -- ---- the steps of the code
 
-pub on_ok : {A E : Type 0} {P Q : Type 0} (r : Result A E) → (P → Q) → OnOk r P → OnOk r Q
-on_ok (Ok x) f p = f p
-on_ok (Err e) f p = tt
-
+-- An anchor is finished.
 pub anchored : (a : ℕ) (m : Mark) (old mid new : Marking) → 0 < a → mid ≡ record old { anchors = mid.anchors } → IsUnder a m old.anchors.entries mid.anchors.entries
     → GoesWith m mid (λ s x. defs.with_part s x x.opened) new → GoesWith m old (λ s x. defs.with_anchored a s x x.opened) new
 anchored zero m old mid new some same under goes = absurd (omega arith)
 anchored (suc a) m old mid new some same under goes = λ s x stands h.
     let y : defs.Marking = record x { anchors = finished_marks (suc a) s x.anchors } in
-    goes s y (subst (λ z. Stands z.table.items m s) (sym same) stands) (subst (λ z. HasStanding z y) (sym same) (anchor_holds x a m s mid.anchors.entries stands under h))
+    let holds : HasStanding (record old { anchors = mid.anchors }) y = record {
+      of_documents = h.of_documents;
+      of_opened = h.of_opened;
+      of_root = h.of_root;
+      of_anchors = one_under old.table.items old.anchors.entries mid.anchors.entries x.anchors a m s stands under h.of_anchors;
+    } in
+    goes s y (subst (λ z. Stands z.table.items m s) (sym same) stands) (subst (λ z. HasStanding z y) (sym same) holds)
 
 pub not_anchored : (a : ℕ) (m : Mark) (old new : Marking) → a ≡ 0 → GoesWith m old (λ s x. defs.with_part s x x.opened) new → GoesWith m old (λ s x. defs.with_anchored a s x x.opened) new
 not_anchored a m old new none goes = subst (λ n. GoesWith m old (λ s x. defs.with_anchored n s x x.opened) new) (sym none) goes
@@ -105,7 +92,7 @@ pub closes : (b : Begun) (n : ℕ) (m : Mark) (old new : Marking) (t w : Vec Mar
     → m.own ≡ b.start → m.tree ≡ b.start → m.first ≡ length old.table.items → m.count ≡ length old.waiting.items - n
     → GoesWith m (record old { table = t; waiting = w; opened = cs }) (λ s x. defs.with_anchored b.anchor s x x.opened) new → Goes old (λ x. defs.with_close x x.opened) new
 closes b n m old new t w cs opened before table waiting own tree first count goes x h =
-    by x.opened refl (subst (λ bs. AllOpenStand old.table.items bs old.waiting.items x.opened) (ap reverse opened ∙ last_first cs.items b) h.of_opened)
+    by x.opened refl (subst (λ bs. AllOpenStand old.table.items bs old.waiting.items x.opened) (ap reverse opened ∙ reverse-append cs.items (b ∷ [])) h.of_opened)
   where
     by : (os : List OpenMarks) → x.opened ≡ os → AllOpenStand old.table.items (b ∷ reverse cs.items) old.waiting.items os → HasStanding new (defs.with_close x x.opened)
     by [] e r = absurd r
@@ -118,7 +105,7 @@ closes b n m old new t w cs opened before table waiting own tree first count goe
         let node = marks o.start o.start (parts_of o.parts) in
         let y : defs.Marking = record x { opened = os } in
         let s = last_in_table old.table.items more m (parts_of o.parts) first (omega (arith, count, same, length-drop b.before old.waiting.items)) c.parts in
-        let stands : Stands t.items m node = subst (λ z. Stands z m node) (sym longer) (own ∙ c.start, tree ∙ c.start, s.2, s.3) in
+        let stands : Stands t.items m node = rw longer (own ∙ c.start, tree ∙ c.start, s.2, s.3) in
         let grown : Holds (old.table.items ++ more) old.documents.items cs.items (take b.before old.waiting.items) old.root old.anchors.entries y = record {
           of_documents = grown_parts old.table.items more old.documents.items (parts_of x.documents) h.of_documents;
           of_opened = grown_open old.table.items more (reverse cs.items) (take b.before old.waiting.items) os c.outer;

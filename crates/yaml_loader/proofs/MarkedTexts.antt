@@ -1,6 +1,5 @@
 -- What a load with positions answers of a text.
-use Rattle.yaml_loader.proofs.Common.{AnswersText, at_work, BeginsEvents, ErrorReport, faulted, Gives, Global, HasDocuments, IsFaultOf, Loader, loader_of, LoadsText, MarkedLoader, new_loader, no_event, one_event, Receives, refused, Takes, Unfinished, wants_memory, WantsMemory, whole, with_events}
-use Rattle.yaml_loader.proofs.MarkedCommon.{[], all_shown, AllFit, AllHaveMarks, AreMarksOf, Bool, Err, Ev, false, HasStanding, inl, inr, items_view, List, marked_documents, nothing_marked, Ok, Position, refl, Result, subst, sym, Tree, Vec, with_event_marked, with_events_marked, Yaml, ℕ, ◌++◌, ◌∷◌, ◌≡◌}
+use Rattle.yaml_loader.proofs.Common.{[], all_shown, AllFit, AllHaveMarks, AnswersText, AreMarksOf, at_work, BeginsEvents, Bool, Err, ErrorReport, Ev, false, faulted, Gives, Global, HasDocuments, HasStanding, inl, inr, IsFaultOf, items_view, List, Loader, loader_of, LoadsText, marked_documents, MarkedLoader, new_loader, no_event, nothing_marked, Ok, one_event, Position, Receives, refl, refused, Result, subst, sym, Takes, Tree, Unfinished, Vec, wants_memory, WantsMemory, whole, with_event_marked, with_events, with_events_marked, Yaml, ℕ, ◌++◌, ◌∷◌, ◌≡◌}
 use Rattle.defs_event.specs.Marking as defs
 use Rattle.yaml_loader.specs.Laws.{EventsAreReadAsDefined, RefusedTextsWantMemory, TakenTextsAreLoaded}
 use Rattle.defs_event.specs.MarkLaws.{MarksFitTheirTrees}

@@ -1,10 +1,10 @@
 -- In the events of a stream, each alias has a higher number than all anchors of earlier documents.
-use Rattle.yaml_loader.proofs.Common.{bad_value, events_of, Position, Tree}
-use Rattle.yaml_loader.proofs.DocumentCommon.{[], ap, arith, Bool, bytes_eq, Ev, false, if◌then◌else◌, List, max, None, Option, option_map, refl, Some, subst, sym, true, ℕ, ◌++◌, ◌+◌, ◌<◌, ◌∙◌, ◌∷◌, ◌≡◌, ◌≤◌}
+use Rattle.yaml_loader.proofs.Common.{[], ap, arith, bad_value, Bool, bytes_eq, Ev, events_of, false, List, max, None, Option, option_map, Position, refl, Some, subst, sym, Tree, true, ℕ, if◌then◌else◌, ◌++◌, ◌<◌, ◌∙◌, ◌∷◌, ◌≡◌, ◌≤◌}
 use Rattle.defs_event.specs.Raw.{Raw}
 use Rattle.defs_event.specs.Names.{Names, under_name, are_allowed, perhaps_resolved, number, with_anchor, named, names_after, resolved_event}
 use Rattle.defs_event.proofs.NameLemmas.{both_some}
 use Rattle.yaml_loader.proofs.Beside.{AllSuit, anchor_of, Suits}
+use Rattle.yaml_loader.proofs.JsonTexts.{either}
 
 -- the highest number of an anchor after these events, where it was this one before them
 abbrev pub highest : ℕ → List Ev → ℕ
@@ -37,11 +37,9 @@ AllOver low (p ∷ ps) = (low < p.1) × AllOver low ps
 -- a name that is known has such a number
 under_over : (low : ℕ) (name : List ℕ) (ps : List (List ℕ × ℕ)) (n : ℕ) → under_name name ps ≡ Some n → AllOver low ps → low < n
 under_over low name [] n h o = cc
-under_over low name (p ∷ ps) n h o = by (bytes_eq name p.0) h (λ e. under_over low name ps n e o.1)
-  where
-    by : (b : Bool) → (if b then Some p.1 else under_name name ps) ≡ Some n → (under_name name ps ≡ Some n → low < n) → low < n
-    by true e k = subst (λ k. low < k) (some_is e) o.0
-    by false e k = k e
+under_over low name (p ∷ ps) n h o =
+    either (λ x. x ≡ Some n → low < n) (bytes_eq name p.0) (Some p.1) (under_name name ps)
+    (λ e. subst (λ k. low < k) (some_is e) o.0) (λ e. under_over low name ps n e o.1) h
 
 -- what one more event leaves
 record Leaves (keep_tags : Bool) (s : Names) (low : ℕ) (e : Raw) (v : Ev) : Type 0 where
@@ -68,11 +66,11 @@ module _ (keep_tags : Bool) (s : Names) (low : ℕ) (h : low ≤ s.count) (o : A
         under = subst (λ l. l ≤ (names_after keep_tags s e).count) (sym stays) (subst (λ x. low ≤ x.count) (sym names) one.2);
       }
 
-  -- an event of a node, whose tag is resolved
+  -- an event that comes of what is resolved: a node's tag, or the number of an alias
   of_node : (a : Option (List ℕ)) (e : Raw) {T : Type 0} (f : T → Ev) (t : Option T) (v : Ev) → option_map f t ≡ Some v → names_after keep_tags s e ≡ with_anchor s a
-      → ((u : T) → IsOver low (f u) × (anchor_of (f u) ≡ number s a) × (low_after (f u) low s.count ≡ low)) → Leaves keep_tags s low e v
+      → ((u : T) → t ≡ Some u → IsOver low (f u) × (anchor_of (f u) ≡ number s a) × (low_after (f u) low s.count ≡ low)) → Leaves keep_tags s low e v
   of_node a e f None v r names h = cc
-  of_node a e f (Some t) v r names h = let x = h t in subst (Leaves keep_tags s low e) (some_is r) (anchored a e (f t) names x.0 x.1 x.2)
+  of_node a e f (Some t) v r names h = let x = h t refl in subst (Leaves keep_tags s low e) (some_is r) (anchored a e (f t) names x.0 x.1 x.2)
 
   leaves : (e : Raw) (v : Ev) → resolved_event s e ≡ Some v → Leaves keep_tags s low e v
   leaves (Raw.document_start ds) v r = by (are_allowed ds) r
@@ -80,22 +78,18 @@ module _ (keep_tags : Bool) (s : Names) (low : ℕ) (h : low ≤ s.count) (o : A
       by : (b : Bool) → (if b then Some Ev.document_start else None) ≡ Some v → Leaves keep_tags s low (Raw.document_start ds) v
       by true e = subst (Leaves keep_tags s low (Raw.document_start ds)) (some_is e) (record { over = tt; anchors = tt; count = omega arith; under = omega arith })
       by false e = cc
-  leaves (Raw.alias name) v r = by (under_name name s.anchors) refl r
-    where
-      by : (x : Option ℕ) → under_name name s.anchors ≡ x → option_map Ev.alias x ≡ Some v → Leaves keep_tags s low (Raw.alias name) v
-      by None e k = cc
-      by (Some n) e k =
-          subst (Leaves keep_tags s low (Raw.alias name)) (some_is k) (anchored None (Raw.alias name) (Ev.alias n) refl (under_over low name s.anchors n e o) refl refl)
-  leaves (Raw.scalar text style a t) v r = of_node a _ _ (perhaps_resolved s.handles t) v r refl (λ u. (tt, refl, refl))
-  leaves (Raw.empty_scalar a t) v r = of_node a _ _ (perhaps_resolved s.handles t) v r refl (λ u. (tt, refl, refl))
-  leaves (Raw.flow_sequence_start a t) v r = of_node a _ _ (perhaps_resolved s.handles t) v r refl (λ u. (tt, refl, refl))
-  leaves (Raw.sequence_start a t) v r = of_node a _ _ (perhaps_resolved s.handles t) v r refl (λ u. (tt, refl, refl))
-  leaves (Raw.indentless_sequence_start a t) v r = of_node a _ _ (perhaps_resolved s.handles t) v r refl (λ u. (tt, refl, refl))
-  leaves (Raw.flow_mapping_start a t) v r = of_node a _ _ (perhaps_resolved s.handles t) v r refl (λ u. (tt, refl, refl))
-  leaves (Raw.mapping_start a t) v r = of_node a _ _ (perhaps_resolved s.handles t) v r refl (λ u. (tt, refl, refl))
+  leaves (Raw.alias name) v r = of_node None _ Ev.alias (under_name name s.anchors) v r refl (λ n e. (under_over low name s.anchors n e o, refl, refl))
+  leaves (Raw.scalar text style a t) v r = of_node a _ _ (perhaps_resolved s.handles t) v r refl (λ u e. (tt, refl, refl))
+  leaves (Raw.empty_scalar a t) v r = of_node a _ _ (perhaps_resolved s.handles t) v r refl (λ u e. (tt, refl, refl))
+  leaves (Raw.flow_sequence_start a t) v r = of_node a _ _ (perhaps_resolved s.handles t) v r refl (λ u e. (tt, refl, refl))
+  leaves (Raw.sequence_start a t) v r = of_node a _ _ (perhaps_resolved s.handles t) v r refl (λ u e. (tt, refl, refl))
+  leaves (Raw.indentless_sequence_start a t) v r = of_node a _ _ (perhaps_resolved s.handles t) v r refl (λ u e. (tt, refl, refl))
+  leaves (Raw.flow_mapping_start a t) v r = of_node a _ _ (perhaps_resolved s.handles t) v r refl (λ u e. (tt, refl, refl))
+  leaves (Raw.mapping_start a t) v r = of_node a _ _ (perhaps_resolved s.handles t) v r refl (λ u e. (tt, refl, refl))
   leaves e v r = subst (Leaves keep_tags s low e) (some_is r) (anchored None e _ refl tt refl refl)
 
-named_own : (keep_tags : Bool) (s : Names) (low : ℕ) (rs : List Raw) (es : List Ev) → low ≤ s.count → AllOver low s.anchors → named keep_tags s rs ≡ Some es → AreOwn low s.count es
+-- the events of a stream, by what its tokens say
+pub named_own : (keep_tags : Bool) (s : Names) (low : ℕ) (rs : List Raw) (es : List Ev) → low ≤ s.count → AllOver low s.anchors → named keep_tags s rs ≡ Some es → AreOwn low s.count es
 named_own keep_tags s low [] es h o r = subst (AreOwn low s.count) (some_is r) tt
 named_own keep_tags s low (e ∷ rs) es h o r =
     let s' = names_after keep_tags s e in
@@ -103,10 +97,6 @@ named_own keep_tags s low (e ∷ rs) es h o r =
     let l = leaves keep_tags s low h o e f.event f.is_first in
     let more = named_own keep_tags s' (low_after f.event low s.count) rs f.more l.under l.anchors f.are_more in
     subst (AreOwn low s.count) (sym f.whole) (l.over, subst (λ k. AreOwn (low_after f.event low s.count) k f.more) (sym l.count) more)
-
--- the events of a stream, by what its tokens say
-pub stream_own : (keep_tags : Bool) (rs : List Raw) (es : List Ev) → named keep_tags (record { count = 0; anchors = []; handles = [] }) rs ≡ Some es → AreOwn 0 0 es
-stream_own keep_tags rs es r = named_own keep_tags (record { count = 0; anchors = []; handles = [] }) 0 rs es (omega arith) tt r
 
 -- the events that follow
 pub own_rest : (low high : ℕ) (es fs : List Ev) → AreOwn low high (es ++ fs) → (l : ℕ) × AreOwn l (highest high es) fs

@@ -1,11 +1,12 @@
 -- Extents that are no larger than others.
 use Rattle.yaml_loader.proofs.Common.{core_prefix, is_among}
-use Rattle.yaml_loader.proofs.LimitedCommon.{[], arith, array, Bool, by_name, bytes_eq, codes, cond, extended, Extent, false, hash, if◌then◌else◌, insert, integer, items_extent, items_of, List, None, null, Option, option_map, pairs_extent, pairs_of, real, scalar_extent, scalar_tree, single_node, Some, string, subst, sym, Tag, Tree, tree_extent, true, unwrap_or, without, bad_value, ℕ, ℤ, ◌++◌, ◌||◌, ◌∷◌, ◌≤◌}
+use Rattle.yaml_loader.proofs.LimitedCommon.{[], arith, array, Bool, by_name, bytes_eq, codes, cond, extended, Extent, false, hash, insert, integer, items_extent, items_of, List, None, Option, option_map, pairs_extent, pairs_of, real, scalar_extent, scalar_tree, single_node, Some, string, subst, sym, Tag, Tree, tree_extent, true, unwrap_or, without, bad_value, ℕ, ℤ, ◌++◌, ◌||◌, ◌∷◌, ◌≤◌}
 use Rattle.defs_tree.specs.Typing.{typing, signed_decimal, is_decimal, is_real_text, true_words, false_words}
 use Rattle.defs_tree.specs.Order.{tree_eq}
 use Rattle.defs_tree.specs.Laws.{MayStandFor}
 use Rattle.defs_tree.proofs.TypingLaws.{typing_plain}
 use Rattle.defs_token.specs.Token.{Style}
+use Rattle.yaml_loader.proofs.JsonTexts.{either}
 
 pub record IsNoMore (x y : Extent) : Type 0 where
   pub size : x.size ≤ y.size
@@ -53,10 +54,6 @@ Fits text t = IsNoMore (tree_extent t) (scalar_extent text)
 single : (text : List ℕ) → IsNoMore single_node (scalar_extent text)
 single text = record { size = omega arith; levels = omega arith }
 
-either : (text : List ℕ) (b : Bool) (t u : Tree) → Fits text t → Fits text u → Fits text (if b then t else u)
-either text true t u h r = h
-either text false t u h r = r
-
 of_plain : (text : List ℕ) (t : Tree) → MayStandFor text t → Fits text t
 of_plain text (real s) h = subst (λ s. Fits text (real s)) (sym h) (same (scalar_extent text))
 of_plain text (string s) h = subst (λ s. Fits text (string s)) (sym h) (same (scalar_extent text))
@@ -70,14 +67,14 @@ of_number text (Some z) = single text
 
 of_name : (name text : List ℕ) → Fits text (by_name name text)
 of_name name text =
-    either text (bytes_eq name (codes "bool")) _ _
-    (either text (is_among true_words text) _ _ (single text) (either text (is_among false_words text) _ _ (single text) (single text)))
-    (either text (bytes_eq name (codes "int")) _ _ (of_number text (signed_decimal text))
-    (either text (bytes_eq name (codes "float")) _ _ (either text (is_real_text text || is_decimal text) _ _ (same (scalar_extent text)) (single text))
-    (either text (bytes_eq name (codes "null")) _ _ (either text (is_among (codes "~" ∷ codes "null" ∷ []) text) _ _ (single text) (single text))
+    either (Fits text) (bytes_eq name (codes "bool")) _ _
+    (either (Fits text) (is_among true_words text) _ _ (single text) (either (Fits text) (is_among false_words text) _ _ (single text) (single text)))
+    (either (Fits text) (bytes_eq name (codes "int")) _ _ (of_number text (signed_decimal text))
+    (either (Fits text) (bytes_eq name (codes "float")) _ _ (either (Fits text) (is_real_text text || is_decimal text) _ _ (same (scalar_extent text)) (single text))
+    (either (Fits text) (bytes_eq name (codes "null")) _ _ (either (Fits text) (is_among (codes "~" ∷ codes "null" ∷ []) text) _ _ (single text) (single text))
     (same (scalar_extent text)))))
 
 pub of_scalar : (text : List ℕ) (style : Style) (tag : Option Tag) → IsNoMore (tree_extent (scalar_tree text style tag)) (scalar_extent text)
 of_scalar text Style.plain None = of_plain text (typing text) (typing_plain text)
-of_scalar text Style.plain (Some t) = either text (bytes_eq t.handle core_prefix) _ _ (of_name t.suffix text) (same (scalar_extent text))
+of_scalar text Style.plain (Some t) = either (Fits text) (bytes_eq t.handle core_prefix) _ _ (of_name t.suffix text) (same (scalar_extent text))
 of_scalar text _ tag = same (scalar_extent text)

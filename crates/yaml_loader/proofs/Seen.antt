@@ -1,9 +1,8 @@
 -- Marks that stand for those of a tree are seen so along the tree.
-use Rattle.yaml_loader.proofs.Common.{bytes_eq-Decides, chars, encode_utf8_all, encodes-chars, IsUtf8, IsUtf8-string_bytes, Option}
+use Rattle.yaml_loader.proofs.Common.{[], all_shown, AllFit, AllHaveMarks, AllStand, ap, arith, array, beside, bytes_eq, bytes_eq-Decides, chars, encode_utf8_all, encodes-chars, Fits, get_or, hash, HasMarks, IsUtf8, IsUtf8-string_bytes, item, item_marks, Items, items_of, items_view, ItemsFit, ItemsHaveMarks, length, List, list_of_parts, Mark, marked_items, marked_pairs, Marks, marks, no_items, no_pairs, no_parts, node_at_place, None, Option, option_and_then, option_map, pair, Pairs, pairs_beside, pairs_marks, pairs_of, pairs_shown, PairsFit, PairsHaveMarks, part, Parts, parts_at, PartsStand, refl, same_from_decides, shown_marks, slice_get, Some, Stands, String, string, string_bytes, subst, suc, sym, Tree, tree_eq, view, Yaml, zero, ℕ, ◌+◌, ◌<◌, ◌∙◌, ◌∷◌, ◌≡◌, ◌≤◌}
 use Rattle.defs_text.specs.Text.{string_chars}
 use Rattle.defs_tree.proofs.OrderLaws.{tree_eq_decides}
 use Rattle.std.proofs.lemmas.Option.{slice_get_past, slice_get_read}
-use Rattle.yaml_loader.proofs.MarkedCommon.{[], all_shown, AllFit, AllHaveMarks, AllStand, ap, arith, array, beside, bytes_eq, Fits, get_or, hash, HasMarks, item, item_marks, Items, items_of, items_view, ItemsFit, ItemsHaveMarks, length, List, list_of_parts, Mark, marked_items, marked_pairs, Marks, marks, no_items, no_pairs, no_parts, node_at_place, None, option_and_then, option_map, pair, Pairs, pairs_beside, pairs_marks, pairs_of, pairs_shown, PairsFit, PairsHaveMarks, part, Parts, parts_at, PartsStand, refl, same_from_decides, shown_marks, slice_get, Some, Stands, String, string, string_bytes, subst, suc, sym, Tree, tree_eq, view, Yaml, zero, ℕ, ◌+◌, ◌<◌, ◌∙◌, ◌∷◌, ◌≡◌, ◌≤◌}
 use Rattle.yaml_tree.proofs.ItemsLemmas.{get_items_view, list_of_items, pair_list_of_pairs}
 
 module _ (table : List Mark) where

@@ -1,9 +1,10 @@
 -- The trees that a loader makes of events are no larger than what was made.
-use Rattle.yaml_loader.proofs.LimitedCommon.{[], alias, AreAbove, AreNoDeeper, arith, array, at_work, bad_value, Bool, document_extent, documents_size, Ev, extended, Extent, extent_at, false, has_key, HasDocuments, hash, if◌then◌else◌, insert, items_extent, items_of, length, List, Loader, loader_after, Made, made, made_by, made_from, max, nat_eq, new_loader, None, nothing_made, Opened, opened_mapping, opened_sequence, opened_size, Option, pairs_extent, pairs_of, Position, reads, refl, repeats, scalar_extent, scalar_tree, single_node, Some, Step, subst, suc, sym, Tag, tag_size, Tree, tree_extent, true, Unfinished, unwrap_or, with_document_end, with_end, with_event, with_event_at, with_events, with_kept, with_mapping_end, with_node, with_part, with_root, with_sequence_end, with_start, with_tag, with_tree, zero, ℕ, ◌++◌, ◌+◌, ◌∷◌, ◌≡◌, ◌≤◌}
+use Rattle.yaml_loader.proofs.LimitedCommon.{[], alias, AreAbove, AreNoDeeper, arith, array, at_work, bad_value, Bool, document_extent, documents_size, Ev, extended, Extent, extent_at, false, has_key, HasDocuments, hash, if◌then◌else◌, insert, items_extent, items_of, length, List, Loader, loader_after, Made, made, made_by, made_from, max, nat_eq, new_loader, None, nothing_made, Opened, opened_mapping, opened_sequence, opened_size, Option, pairs_extent, pairs_of, Position, reads, refl, scalar_extent, scalar_tree, single_node, Some, Step, subst, suc, sym, Tag, tag_size, Tree, tree_extent, true, Unfinished, unwrap_or, with_document_end, with_end, with_event, with_event_at, with_events, with_kept, with_mapping_end, with_node, with_part, with_root, with_sequence_end, with_start, with_tag, with_tree, zero, ℕ, ◌++◌, ◌+◌, ◌∷◌, ◌≡◌, ◌≤◌}
 use Rattle.defs_event.specs.Anchors as trees
 use Rattle.defs_event.specs.Anchors.{aliased}
 use Rattle.defs_event.specs.Unfinished as reading
 use Rattle.yaml_loader.proofs.CountLemmas.{above_more, part_above}
+use Rattle.yaml_loader.proofs.JsonTexts.{either}
 use Rattle.yaml_loader.proofs.Parts.{IsNoMore, same, last_item, inserted, of_scalar}
 
 -- ---- what is open, and the anchors
@@ -36,13 +37,10 @@ abbrev root_extent : Option Tree → Extent
 root_extent None = record { size = 0; levels = 0 }
 root_extent (Some t) = tree_extent t
 
-of_document : (t : Tree) → IsNoMore (document_extent t) (tree_extent t)
-of_document bad_value = record { size = omega arith; levels = omega arith }
-of_document t = same (tree_extent t)
-
 of_root : (root : Option Tree) → IsNoMore (document_extent (unwrap_or root bad_value)) (root_extent root)
 of_root None = same (record { size = 0; levels = 0 })
-of_root (Some t) = of_document t
+of_root (Some bad_value) = record { size = omega arith; levels = omega arith }
+of_root (Some t) = same (tree_extent t)
 
 last_document : (ts : List Tree) (t : Tree) → documents_size (ts ++ t ∷ []) ≡ documents_size ts + (document_extent t).size
 last_document [] t = omega arith
@@ -87,13 +85,6 @@ module _ {u : Unfinished} {outer : List reading.Opened} {opened : List Opened} {
     above = above_more opened levels new_levels l h.above;
   }
 
-  -- a collection begins
-  begun : (c : reading.Opened) (a : ℕ) → IsHeld c (record { anchor = a; extent = single_node })
-      → IsMade (record u { opened = c ∷ outer }) (with_start a (record { size = size; levels = levels; opened = opened; anchors = anchors }))
-  begun c a is =
-      let b = more (size + 1) (max levels (length opened + 1)) (omega arith) (omega arith) in
-      record { held = (is, b.held); kept = b.kept; size_is = omega arith; deep = b.deep; root_deep = b.root_deep; above = (omega arith, b.above) }
-
 -- A node of this extent comes into these open collections.
 module _ (t : Tree) (x : Extent) (no_more : IsNoMore (tree_extent t) x) (size levels : ℕ) where
   put_in : {u : Unfinished} {o : reading.Opened} {outer : List reading.Opened} {c : Opened} {opened : List Opened} {anchors : List (ℕ × Extent)} {s : ℕ}
@@ -119,17 +110,12 @@ module _ (t : Tree) (x : Extent) (no_more : IsNoMore (tree_extent t) x) (size le
   put {u = u} {outer = opened_mapping a ps None ∷ outer} {opened = c ∷ opened} h fits deep =
       let old = h.held.0.1 in
       put_in h fits deep (opened_mapping a ps (Some t)) (h.held.0.0, record { size = omega arith; levels = omega arith })
-  put {u = u} {outer = opened_mapping a ps (Some k) ∷ outer} {opened = c ∷ opened} {anchors = anchors} h fits deep = by (has_key k ps)
-    where
-      by : (b : Bool) → OfStep (if b then repeats k else reads (record u { opened = opened_mapping a (insert k t ps) None ∷ outer }))
-          (record { size = size; levels = levels; opened = with_part x (c ∷ opened); anchors = anchors })
-      by true = tt
-      by false =
-          let last = inserted k t ps in
-          let old = h.held.0.1 in
-          put_in h fits deep (opened_mapping a (insert k t ps) None) (h.held.0.0, record { size = omega arith; levels = omega arith })
-  put {outer = []} {opened = c ∷ opened} h fits deep = absurd h.held
-  put {outer = o ∷ outer} {opened = []} h fits deep = absurd h.held
+  put {u = u} {outer = opened_mapping a ps (Some k) ∷ outer} {opened = c ∷ opened} {anchors = anchors} h fits deep =
+      let last = inserted k t ps in
+      let old = h.held.0.1 in
+      either (λ s. OfStep s (record { size = size; levels = levels; opened = with_part x (c ∷ opened); anchors = anchors })) (has_key k ps) _ _ tt
+      (put_in h fits deep (opened_mapping a (insert k t ps) None) (h.held.0.0, record { size = omega arith; levels = omega arith }))
+  put h fits deep = absurd h.held
 
 -- the same, and the node is kept where it has an anchor
 put_kept : (a : ℕ) (t : Tree) (x : Extent) (size levels : ℕ) → IsNoMore (tree_extent t) x
@@ -151,10 +137,13 @@ module _ (u : Unfinished) (m : Made) where
   tagged None h = h
   tagged (Some t) h = more h (m.size + tag_size t) m.levels (omega arith) (omega arith)
 
+  -- a collection begins
   start : (c : reading.Opened) (a : ℕ) (outer : List reading.Opened) (root : Option Tree) → IsHeld c (record { anchor = a; extent = single_node })
       → Holds u outer m.opened m.anchors m.size m.levels → OfStep (reading.with_start c u outer root) (with_start a m)
   start c a [] (Some root) is h = tt
-  start c a outer root is h = begun h c a is
+  start c a outer root is h =
+      let b = more h (m.size + 1) (max m.levels (length m.opened + 1)) (omega arith) (omega arith) in
+      record { held = (is, b.held); kept = b.kept; size_is = omega arith; deep = b.deep; root_deep = b.root_deep; above = (omega arith, b.above) }
 
   -- the innermost collection is a node of the next one
   ended : (a : ℕ) (t : Tree) (o : reading.Opened) (outer : List reading.Opened) (c : Opened) (opened : List Opened) → a ≡ c.anchor → IsNoMore (tree_extent t) c.extent

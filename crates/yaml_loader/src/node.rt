@@ -271,7 +271,7 @@ impl Open {
 
 // Not a call of its own, which would copy both nodes once more.
 #[inline(always)]
-#[tactic(auto, using(crate::proofs::LastPair::last_of_push))]
+#[tactic(auto, using(crate::proofs::OpenedLemmas::last_of_push))]
 fn insert_pair(pairs: &mut Hash, key: Yaml, value: Yaml) -> Result<(), Refusal>
     ensures ok { OnOk result ((n : ℕ) → Inserts (opened_mapping n pairs.old (Some (view key))) (view value) (opened_mapping n pairs.new None)) }
     ensures err { IfErr result (λ r. (n : ℕ) → IsNoInsert r (opened_mapping n pairs.old (Some (view key))) (view value) (opened_mapping n pairs.new None)) }

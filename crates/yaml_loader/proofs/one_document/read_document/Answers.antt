@@ -1,4 +1,4 @@
-use Rattle.yaml_loader.proofs.DocumentCommon.{arith, fault_in}
+use Rattle.yaml_loader.proofs.Common.{arith, fault_in}
 use Rattle.yaml_loader.proofs.DocumentReading.{read_so, stops_by_key, stops_so, reads_err}
 use Rattle.yaml_loader.proofs.one_document.read_document.Goals as goal
 

@@ -1,4 +1,4 @@
-use Rattle.yaml_loader.proofs.DocumentCommon.{Ev, false, is_end, parsed, refl, sym, true, ◌∙◌, ◌≡◌}
+use Rattle.yaml_loader.proofs.Common.{Ev, false, is_end, parsed, refl, sym, true, ◌∙◌, ◌≡◌}
 use Rattle.yaml_parser.specs.Shown.{ev_of}
 use Rattle.yaml_loader.proofs.DocumentSteps.{is_not_end, begins, goes_on, takes_all, faults, refuses}
 use Rattle.yaml_loader.proofs.one_document.take_document.Goals as goal

@@ -1,4 +1,5 @@
-use Rattle.yaml_loader.proofs.DocumentCommon.{Goes, IsGoing, parsed, ◌≡◌}
+use Rattle.yaml_loader.proofs.Common.{IsGoing, parsed, ◌≡◌}
+use Rattle.yaml_loader.specs.OneDocument.{Goes}
 use Rattle.yaml_loader.proofs.one_document.take_document.Given as goal
 
 abbrev pub invariant-events : goal.invariant-events

@@ -1,5 +1,5 @@
 use Rattle.yaml_loader.proofs.Common.{ap, bad_value, chars, false, if◌then◌else◌, is_decimal, is_real_text, real, string_chars, sym, true, ◌||◌, ◌∙◌, ◌≡◌}
-use Rattle.yaml_loader.proofs.Reals.{real_by_bytes}
+use Rattle.yaml_loader.proofs.Tags.{real_by_bytes}
 use Rattle.yaml_loader.proofs.scalar.real_of.Goals as goal
 
 pub returns-then-is_real : goal.returns-then-is_real

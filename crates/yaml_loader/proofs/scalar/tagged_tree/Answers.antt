@@ -1,39 +1,38 @@
 use Rattle.yaml_loader.proofs.Common.{ap, as_boolean, as_integer, as_null, by_name, chars, string_chars, sym, ◌∙◌}
-use Rattle.yaml_parser.specs.Shown.{tag_of}
 use Rattle.yaml_loader.proofs.Tags.{other_tag, core_tag, other_name}
 use Rattle.yaml_loader.proofs.scalar.tagged_tree.Goals as goal
 
 pub returns-then-ne : goal.returns-then-ne
 unfolding string_chars
 returns-then-ne c =
-    other_tag (tag_of c.args.tag.now) c.as_str.result.now (string_chars c.args.text) c.ne.result (sym (ap chars c.as_str.ensures.value)) c.as_str.utf8 c.ne.ensures c.if-ne.true
+    other_tag c.args.tag.now c.as_str.result.now (string_chars c.args.text) c.ne.result c.as_str.ensures.value c.ne.ensures c.if-ne.true
 
 pub returns-in-bool : goal.returns-in-bool
 unfolding string_chars
 returns-in-bool c =
     let text = string_chars c.args.text in
-    let e = core_tag (tag_of c.args.tag.now) c.as_str.result.now c.as_str-2.result.now text c.ne.result (sym (ap chars c.as_str.ensures.value)) c.as_str.utf8 c.ne.ensures c.if-ne.false (sym (ap chars c.as_str-2.ensures.value)) c.as_str-2.utf8 in
+    let e = core_tag c.args.tag.now _ _ text c.ne.result c.as_str.ensures.value c.ne.ensures c.if-ne.false c.as_str-2.ensures.value in
     c.boolean_of.ensures ∙ ap (λ b. as_boolean (chars b)) c.as_str-in-bool.ensures.value ∙ sym (e ∙ ap (λ n. by_name n text) c.in-bool.is)
 
 pub returns-in-int : goal.returns-in-int
 unfolding string_chars
 returns-in-int c =
     let text = string_chars c.args.text in
-    let e = core_tag (tag_of c.args.tag.now) c.as_str.result.now c.as_str-2.result.now text c.ne.result (sym (ap chars c.as_str.ensures.value)) c.as_str.utf8 c.ne.ensures c.if-ne.false (sym (ap chars c.as_str-2.ensures.value)) c.as_str-2.utf8 in
+    let e = core_tag c.args.tag.now _ _ text c.ne.result c.as_str.ensures.value c.ne.ensures c.if-ne.false c.as_str-2.ensures.value in
     c.integer_of.ensures ∙ ap (λ b. as_integer (chars b)) c.as_str-in-int.ensures.value ∙ sym (e ∙ ap (λ n. by_name n text) c.in-int.is)
 
 pub returns-in-float : goal.returns-in-float
 unfolding string_chars
 returns-in-float c =
     let text = string_chars c.args.text in
-    let e = core_tag (tag_of c.args.tag.now) c.as_str.result.now c.as_str-2.result.now text c.ne.result (sym (ap chars c.as_str.ensures.value)) c.as_str.utf8 c.ne.ensures c.if-ne.false (sym (ap chars c.as_str-2.ensures.value)) c.as_str-2.utf8 in
+    let e = core_tag c.args.tag.now _ _ text c.ne.result c.as_str.ensures.value c.ne.ensures c.if-ne.false c.as_str-2.ensures.value in
     c.real_of.ensures ∙ sym (e ∙ ap (λ n. by_name n text) c.in-float.is)
 
 pub returns-in-null : goal.returns-in-null
 unfolding string_chars
 returns-in-null c =
     let text = string_chars c.args.text in
-    let e = core_tag (tag_of c.args.tag.now) c.as_str.result.now c.as_str-2.result.now text c.ne.result (sym (ap chars c.as_str.ensures.value)) c.as_str.utf8 c.ne.ensures c.if-ne.false (sym (ap chars c.as_str-2.ensures.value)) c.as_str-2.utf8 in
+    let e = core_tag c.args.tag.now _ _ text c.ne.result c.as_str.ensures.value c.ne.ensures c.if-ne.false c.as_str-2.ensures.value in
     c.null_of.ensures ∙ ap (λ b. as_null (chars b)) c.as_str-in-null.ensures.value ∙ sym (e ∙ ap (λ n. by_name n text) c.in-null.is)
 
 pub returns-in_default : goal.returns-in_default
@@ -41,5 +40,5 @@ unfolding string_chars
 returns-in_default c =
     let text = string_chars c.args.text in
     let d = c.in_default in
-    let e = core_tag (tag_of c.args.tag.now) c.as_str.result.now c.as_str-2.result.now text c.ne.result (sym (ap chars c.as_str.ensures.value)) c.as_str.utf8 c.ne.ensures c.if-ne.false (sym (ap chars c.as_str-2.ensures.value)) c.as_str-2.utf8 in
+    let e = core_tag c.args.tag.now _ _ text c.ne.result c.as_str.ensures.value c.ne.ensures c.if-ne.false c.as_str-2.ensures.value in
     other_name c.as_str-2.result.now text (d.not-bool, (d.not-int, (d.not-float, (d.not-null, tt)))) ∙ sym e

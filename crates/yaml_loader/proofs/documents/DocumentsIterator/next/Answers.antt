@@ -1,4 +1,4 @@
-use Rattle.yaml_loader.proofs.DocumentCommon.{Err, None, Ok, refl, Some, true}
+use Rattle.yaml_loader.proofs.Common.{Err, None, Ok, refl, Some, true}
 use Rattle.yaml_loader.proofs.DocumentCalls.{gives}
 use Rattle.yaml_loader.proofs.documents.DocumentsIterator.next.Goals as goal
 

@@ -1,4 +1,4 @@
-use Rattle.yaml_loader.proofs.MarkedCommon.{ap, marks_of, option_map, refl, ◌∙◌}
+use Rattle.yaml_loader.proofs.Common.{ap, marks_of, option_map, refl, ◌∙◌}
 use Rattle.yaml_loader.proofs.Seen.{no_document, unmarked_document, found_document}
 use Rattle.yaml_loader.proofs.marked_documents.MarkedDocuments.get.Goals as goal
 

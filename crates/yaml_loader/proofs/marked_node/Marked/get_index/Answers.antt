@@ -1,4 +1,4 @@
-use Rattle.yaml_loader.proofs.MarkedCommon.{ap, node_of, option_map, view, ◌∙◌}
+use Rattle.yaml_loader.proofs.Common.{ap, node_of, option_map, view, ◌∙◌}
 use Rattle.yaml_loader.proofs.Seen.{no_node_tree, no_node_mark, node_found}
 use Rattle.yaml_loader.proofs.marked_node.Marked.get_index.Goals as goal
 

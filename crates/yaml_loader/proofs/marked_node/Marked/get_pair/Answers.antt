@@ -1,4 +1,4 @@
-use Rattle.yaml_loader.proofs.MarkedCommon.{ap, chars, cond, option_and_then, pair_of, pair_with, pairs_left, Some, string, sym, ◌∙◌}
+use Rattle.yaml_loader.proofs.Common.{ap, chars, cond, option_and_then, pair_of, pair_with, pairs_left, Some, string, sym, ◌∙◌}
 use Rattle.yaml_loader.proofs.marked_node.Marked.get_pair.Goals as goal
 
 pub pairs-init : goal.pairs-init

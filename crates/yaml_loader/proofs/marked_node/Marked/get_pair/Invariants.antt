@@ -1,4 +1,5 @@
-use Rattle.yaml_loader.proofs.MarkedCommon.{chars, marks_of, pair_at_text, pair_with, pairs_left, string, tree_of, ◌≡◌}
+use Rattle.yaml_loader.proofs.Common.{chars, marks_of, pair_at_text, pair_with, pairs_left, string, ◌≡◌}
+use Rattle.yaml_loader.specs.MarkedNode.{tree_of}
 use Rattle.yaml_loader.proofs.marked_node.Marked.get_pair.Given as goal
 
 abbrev pub invariant-pairs : goal.invariant-pairs

@@ -1,4 +1,4 @@
-use Rattle.yaml_loader.proofs.MarkedCommon.{ap, bytes_eq, chars, string, sym, tree_eq, view, ◌∙◌}
+use Rattle.yaml_loader.proofs.Common.{ap, bytes_eq, chars, string, sym, tree_eq, view, ◌∙◌}
 use Rattle.yaml_loader.proofs.Seen.{text_is}
 use Rattle.yaml_loader.proofs.marked_node.Marked.is_text.Goals as goal
 

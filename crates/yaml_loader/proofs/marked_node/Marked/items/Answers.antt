@@ -1,4 +1,4 @@
-use Rattle.yaml_loader.proofs.MarkedCommon.{all_shown, ap, beside, items_view, Some, view, ◌∙◌, ◌≡◌}
+use Rattle.yaml_loader.proofs.Common.{all_shown, ap, beside, items_view, Some, view, ◌∙◌, ◌≡◌}
 use Rattle.yaml_loader.proofs.Seen.{items_are}
 use Rattle.yaml_loader.proofs.marked_node.Marked.items.Goals as goal
 

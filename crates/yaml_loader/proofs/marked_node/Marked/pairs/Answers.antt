@@ -1,4 +1,4 @@
-use Rattle.yaml_loader.proofs.MarkedCommon.{ap, pairs_beside, pairs_shown, Some, view, ◌∙◌}
+use Rattle.yaml_loader.proofs.Common.{ap, pairs_beside, pairs_shown, Some, view, ◌∙◌}
 use Rattle.yaml_loader.proofs.Seen.{pairs_are}
 use Rattle.yaml_loader.proofs.marked_node.Marked.pairs.Goals as goal
 

@@ -1,4 +1,4 @@
-use Rattle.yaml_loader.proofs.MarkedCommon.{items_view}
+use Rattle.yaml_loader.proofs.Common.{items_view}
 use Rattle.yaml_loader.proofs.Seen.{no_items_left}
 use Rattle.yaml_loader.proofs.marked_parts.ItemsIterator.next.Goals as goal
 

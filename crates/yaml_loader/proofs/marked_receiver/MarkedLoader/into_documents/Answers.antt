@@ -1,4 +1,4 @@
-use Rattle.yaml_loader.proofs.MarkedCommon.{err_from_is_err_and}
+use Rattle.yaml_loader.proofs.Common.{err_from_is_err_and}
 use Rattle.yaml_loader.proofs.MarkedTexts.{gives_marks}
 use Rattle.yaml_loader.proofs.marked_receiver.MarkedLoader.into_documents.Goals as goal
 

@@ -1,5 +1,4 @@
-use Rattle.yaml_loader.proofs.Common.{IsAtStart, parsed}
-use Rattle.yaml_loader.proofs.MarkedCommon.{err_from_is_err_and, ◌∙◌}
+use Rattle.yaml_loader.proofs.Common.{err_from_is_err_and, IsAtStart, parsed, ◌∙◌}
 use Rattle.yaml_loader.proofs.TextLemmas.{begins_given}
 use Rattle.yaml_loader.proofs.MarkedTexts.{leaves}
 use Rattle.yaml_loader.proofs.marked_receiver.MarkedLoader.of_source.Goals as goal

@@ -1,5 +1,4 @@
-use Rattle.yaml_loader.proofs.MarkedCommon.{[], ap, arith, Holds, length, nat_tests, subst, sym, ◌++◌, ◌∙◌, ◌∷◌, ◌≡◌}
-use Rattle.defs_event.specs.Marking as defs
+use Rattle.yaml_loader.proofs.Common.{[], ap, arith, length, nat_tests, ◌++◌, ◌∙◌, ◌∷◌, ◌≡◌}
 use Rattle.yaml_loader.proofs.MarkedSteps.{inside_holds}
 use Rattle.yaml_loader.proofs.marking.Marking.insert.Goals as goal
 
@@ -10,4 +9,4 @@ returns c =
     let test = c.is_empty.ensures in
     let some : old.opened.items ≡ [] → ⊥ = λ e. let none : length old.opened.items ≡ 0 = ap length e in grind (arith, nat_tests) in
     let waits : c.push_reserved.new.self.items ≡ old.waiting.items ++ c.args.mark ∷ [] = c.push_reserved.ensures.items ∙ ap (λ w. w ++ c.args.mark ∷ []) (c.in_ok-reserve.ensures {u = tt}).items in
-    λ s x stands h. subst (λ w. Holds old.table.items old.documents.items old.opened.items w old.root old.anchors.entries (defs.with_part s x x.opened)) (sym waits) (inside_holds x c.args.mark s some stands h)
+    λ s x stands h. rw waits (inside_holds x c.args.mark s some stands h)
