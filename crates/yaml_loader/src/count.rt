@@ -132,6 +132,7 @@ impl Count {
     }
 
     // A node, or the copy of one, where it stands.
+    #[tactic(auto, using(crate::proofs::CountLemmas::node_counted))]
     fn take_node(&mut self, extent: Extent) -> Result<(), Excess>
         ensures { Counted self.old (with_node extent) result self.new }
     {
@@ -153,6 +154,7 @@ impl Count {
         Ok(())
     }
 
+    #[tactic(auto, using(crate::proofs::CountLemmas::start_counted))]
     fn open(&mut self, anchor: usize) -> Result<(), Excess>
         ensures { Counted self.old (with_start anchor) result self.new }
     {
@@ -165,6 +167,7 @@ impl Count {
         Ok(())
     }
 
+    #[tactic(auto, using(crate::proofs::CountLemmas::end_counted))]
     fn close(&mut self) -> Result<(), Excess>
         ensures { Counted self.old (λ m. with_end m.opened m) result self.new }
     {
@@ -251,12 +254,14 @@ impl Count {
     }
 }
 
+#[tactic(auto, using(crate::proofs::CountLemmas::content_size))]
 fn tag_size(tag: &Tag) -> usize
     ensures { result ≡ tag_size (tag_of tag.now) }
 {
     tag.handle.as_str().len() + tag.suffix.as_str().len()
 }
 
+#[tactic(auto, using(crate::proofs::CountLemmas::content_size))]
 fn scalar_extent(content: &String) -> Extent
     ensures { result ≡ scalar_extent (string_chars content.now) }
 {
