@@ -132,7 +132,6 @@ impl Count {
     }
 
     // A node, or the copy of one, where it stands.
-    #[tactic(auto, using(crate::proofs::CountLemmas::node_counted))]
     fn take_node(&mut self, extent: Extent) -> Result<(), Excess>
         ensures { Counted self.old (with_node extent) result self.new }
     {
@@ -154,7 +153,6 @@ impl Count {
         Ok(())
     }
 
-    #[tactic(auto, using(crate::proofs::CountLemmas::start_counted))]
     fn open(&mut self, anchor: usize) -> Result<(), Excess>
         ensures { Counted self.old (with_start anchor) result self.new }
     {

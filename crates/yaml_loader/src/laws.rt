@@ -26,7 +26,6 @@ pub fn events_are_read_as_defined()
 {}
 
 /// An empty loader that took all events of a text, each with `Ok`, gives at the end what a load of the text gives.
-#[tactic(auto, using(crate::proofs::AnyText::taken_texts_are_loaded))]
 pub fn taken_texts_are_loaded()
     ensures { TakenTextsAreLoaded }
 {}
@@ -38,7 +37,6 @@ pub fn taken_events_are_read()
 {}
 
 /// An empty loader that is handed the events of a text refuses one only if memory was refused.
-#[tactic(auto, using(crate::proofs::AnyText::refused_texts_want_memory))]
 pub fn refused_texts_want_memory()
     ensures { RefusedTextsWantMemory }
 {}
@@ -70,13 +68,11 @@ pub fn one_list_of_pushed_events<R: MarkedEventReceiver, S: MarkedEventReceiver>
 {}
 
 /// The documents that were given of a text are the first of those that a load of the text gives, if it gives any.
-#[tactic(auto, using(crate::proofs::DocumentTexts::given_are_the_first))]
 pub fn given_documents_are_the_first()
     ensures { GivenDocumentsAreTheFirst }
 {}
 
 /// If a load of the text gives documents, the only fault is refused memory.
-#[tactic(auto, using(crate::proofs::DocumentTexts::only_memory_is_wanted))]
 pub fn texts_that_load_are_not_stopped()
     ensures { TextsThatLoadAreNotStopped }
 {}

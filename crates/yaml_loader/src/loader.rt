@@ -79,7 +79,6 @@ impl YamlLoader {
     /// The fault that is kept. A key that came twice in its mapping is returned here too, as
     /// `String("a"): duplicated key in mapping`, at the position of the key's second value, for a collection that of its
     /// end. The documents are dropped then.
-    #[tactic(auto, using(crate::proofs::LoadLemmas::note_given))]
     pub fn into_documents(self) -> Result<Vec<Yaml>, ScanError>
         ensures { Gives self result }
     {

@@ -84,7 +84,6 @@ impl MarkedLoader {
     }
 
     /// A loader that took all events of a text.
-    #[tactic(auto, using(crate::proofs::InMemory::of_memory))]
     pub(crate) fn of_text(alloc: Global, text: &str) -> Result<MarkedLoader, ScanError>
         ensures { Receives (up_to_nul (chars text.now)) result }
     {
