@@ -165,6 +165,7 @@ impl Count {
         Ok(())
     }
 
+    #[tactic(auto, using(crate::proofs::CountLemmas::end_counted))]
     fn close(&mut self) -> Result<(), Excess>
         ensures { Counted self.old (λ m. with_end m.opened m) result self.new }
     {
@@ -251,12 +252,14 @@ impl Count {
     }
 }
 
+#[tactic(auto, using(crate::proofs::CountLemmas::content_size))]
 fn tag_size(tag: &Tag) -> usize
     ensures { result ≡ tag_size (tag_of tag.now) }
 {
     tag.handle.as_str().len() + tag.suffix.as_str().len()
 }
 
+#[tactic(auto, using(crate::proofs::CountLemmas::content_size))]
 fn scalar_extent(content: &String) -> Extent
     ensures { result ≡ scalar_extent (string_chars content.now) }
 {

@@ -56,6 +56,7 @@ pub fn one_answer()
 {}
 
 /// Two parsers that have read the same text to its end, with the same setting, have read the same events.
+#[tactic(auto, using(crate::proofs::Agreement::one_list_of_pulled_events))]
 pub fn one_list_of_pulled_events()
     ensures { OneListOfPulledEvents }
 {}

@@ -71,6 +71,7 @@ impl<T: Iterator<Item = char>> LimitedDocuments<T> {
     /// The documents of the characters that an iterator gives, up to its first `None` or NUL. It takes no memory.
     ///
     /// Conditions: the iterator may be asked, ends, and gives fewer than 2^63 characters.
+    #[tactic(auto, using(crate::proofs::LimitedCalls::ready_at_start))]
     pub fn from_iter(alloc: Global, source: T, limits: Limits) -> LimitedDocuments<T>
         requires can { T.can_next source }
         requires finite { IsFinite (T.remaining source) }

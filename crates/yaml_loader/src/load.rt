@@ -193,6 +193,7 @@ fn one_document(alloc: Global, tree: Yaml, source: &str) -> Result<Vec<Yaml>, Sc
 // Memory was refused to a text of which so many bytes were read. The fault has the position behind them.
 #[cold]
 #[inline(never)]
+#[tactic(auto, using(crate::proofs::AnyText::wants))]
 fn out_of_memory(source: &str, read: usize) -> ScanError
     ensures { WantsMemory result }
 {

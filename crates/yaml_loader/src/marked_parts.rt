@@ -28,6 +28,7 @@ impl<'a> Iterator for Items<'a> {
 
     ghost remaining = { item_count items_left };
 
+    #[tactic(auto, using(crate::proofs::Seen::no_items_left))]
     fn next(&mut self) -> Option<Marked<'a>> {
         let (mark, marks) = self.marks.split_first()?;
         let (tree, rest) = self.rest.split_first()?;
@@ -61,6 +62,7 @@ impl<'a> Iterator for Pairs<'a> {
 
     ghost remaining = { item_count pairs_left };
 
+    #[tactic(auto, using(crate::proofs::Seen::no_pairs_left))]
     fn next(&mut self) -> Option<(Marked<'a>, Marked<'a>)> {
         let (key_mark, marks) = self.marks.split_first()?;
         let (value_mark, marks) = marks.split_first()?;

@@ -238,6 +238,7 @@ fn text_of_key(alloc: Global, key: &Yaml) -> Result<String, AllocError>
 }
 
 // The key as `Debug` shows it. A string is written here, since no clause says what `Debug` writes.
+#[tactic(auto, using(crate::proofs::KeyText::bytes_again))]
 fn shown_key(alloc: Global, key: &Yaml) -> Result<String, AllocError>
     ensures { IfOk result (λ text. IfSome (shown_key (view key.now)) (λ known. string_bytes text ≡ known)) }
 {
