@@ -1,8 +1,8 @@
 -- A text is stuck at one place, with one kind.
-use Rattle.proof_scanner.proofs.Common.{Account, account_past, ap, Begins, Bool, colon_may_precede, fails, FailsFirst, false, first_account, HasNoKey, inl, inr, is_in_flow, is_taken, is_value_here, IsLike, IsLookedAt, IsPlace, IsStuck, key_waits, List, no_key, no_nul_after, Position, Problem, refl, Some, spelled, Step, subst, sym, true, up_to_nul, ℕ, ◌++◌, ◌∙◌, ◌∷◌, ◌≡◌, ◌⊎◌, arith, eqb-true, nat_tests, ValueNotAllowed, [], act_of, begins_separation, clean_up_to_end, comes_first, Fails, follows_plain, gives_node, has_no_nul, is_empty, is_free_of_tabs, is_indented_by_spaces, is_separation, IsQuoted, position_after, separations, Site, cases_Bool, TabInBlockIndentation}
+use Rattle.proof_scanner.proofs.Common.{Account, account_past, ap, Begins, Bool, colon_may_precede, fails, FailsFirst, false, first_account, HasNoKey, inl, inr, is_in_flow, is_taken, is_value_here, IsLike, IsLookedAt, IsPlace, IsStuck, key_waits, List, no_key, no_nul_after, Position, Problem, refl, Some, spelled, Step, subst, sym, true, up_to_nul, ℕ, ◌++◌, ◌∙◌, ◌∷◌, ◌≡◌, ◌⊎◌, arith, eqb-true, nat_tests, ValueNotAllowed, [], begins_separation, clean_up_to_end, comes_first, Fails, follows_plain, has_no_nul, is_empty, is_free_of_tabs, is_indented_by_spaces, is_separation, IsQuoted, position_after, separations, Site, cases_Bool, TabInBlockIndentation}
 use Rattle.proof_scanner.proofs.Refusals.Common.{leads_on, GivesUp, GoesOn, KeepsOn, LeadsBy, Meet, Same, Way, With, begins_at_start, begins_past, clean_after, ends_before, first_on, gap_is_separation, gives_up_like, like_sym, meet, same_place, second_on, step_here, strict_way, way_but_for_key, way_of}
 use Rattle.proof_scanner.proofs.Refusals.OtherRows.{StepAt, IsClearAfter, IsClearGapAfter, stood, step_from}
-use Rattle.proof_scanner.proofs.Refusals.PiecesRefused.{no_colon_here, node_site_past, node_token, quoted_value, same_quoted_value}
+use Rattle.proof_scanner.proofs.Refusals.PiecesRefused.{no_colon_here, node_site_past, quoted_here}
 use Rattle.proof_scanner.proofs.Refusals.NoRows.{keyless_step, no_step_stands, step_refuted}
 use Rattle.proof_scanner.proofs.Refusals.KeysThatWait.{Together, Apart, together_keeps, apart_keeps, first_together}
 use Rattle.proof_scanner.proofs.First.Reasons.{one_reason, colon_alone}
@@ -80,12 +80,11 @@ module _ (J : Account → Account → Type 0) (same : (x y : Account) → J x y 
     at_quoted : (single : Bool) (piece gap content : List ℕ) → r1 ≡ piece ++ (gap ++ content) → IsQuoted single piece (gap ++ content) → is_separation false gap content ≡ true → begins_separation content ≡ false
         → position_after (position_after h1 piece (gap ++ content)) gap content ≡ h2
     at_quoted single piece gap content e is fills solid =
-        let v = same_quoted_value step single piece (gap ++ content) e is in
-        let cuts = one_gap gap content (sym v.2) fills solid in
-        let act : act_of step.step.shown ≡ gives_node = ap act_of (sym v.1) ∙ (node_token step single (quoted_value step single piece (gap ++ content) is)).0 in
-        let past_is = node_site_past step.account step.step step.next step.past act step.is_past in
+        let v = quoted_here step single piece (gap ++ content) e is in
+        let cuts = one_gap gap content (sym v.next_is) fills solid in
+        let past_is = node_site_past step.account step.step step.next step.past v.act_is step.is_past in
         let past : g.past.site.position ≡ position_after h1 piece (gap ++ content) =
-        ap (λ (x : Site). x.position) past_is ∙ (ap (λ p. position_after p step.step.piece step.next) step.position_is ∙ (ap (λ f. position_after h1 f step.next) (sym v.0) ∙ ap (λ r. position_after h1 piece r) (sym v.2))) in
+        ap (λ (x : Site). x.position) past_is ∙ (ap (λ p. position_after p step.step.piece step.next) step.position_is ∙ (ap (λ f. position_after h1 f step.next) (sym v.piece_is) ∙ ap (λ r. position_after h1 piece r) (sym v.next_is))) in
         ap (λ p. position_after p gap content) (sym past ∙ ap (λ (x : Site). x.position) site_is) ∙ (ap (λ f. position_after b.site.position f content) cuts.0 ∙ (ap (λ r. position_after b.site.position s2 r) cuts.1 ∙ sym q.is_here))
 
   -- Where a way goes on past a place, what fails there first is a TAB after a quoted scalar, which so fails at the next place.

@@ -1,5 +1,5 @@
 -- Faults of quoted scalars: a further line is not indented, or what stands after the scalar may not follow it.
-use Rattle.proof_scanner.proofs.Common.{inr, inl, cases_Bool, [], ap, append-nil, append_assoc, are_indented, AreNotIndented, arith, Arrives, At, begins_separation, begins_with, bodies_are_read, Bool, check_after_quoted, closed_first, content, Context, element_of, ends_before, Err, false, Fault, go_on, has_marker, has_no_nul, held_of, in_flow, is_breakz, is_document_marker, is_empty, IsBadEscape, IsQuoted, IsQuotedFault, lines_first, List, may_follow_quoted, nat_lt, no_quoted, node_start, not-true, off_margin, Ok, on_held, past, past_elements, peek, Position, position_after, Problem, quote_of, quoted, quoted_lines_fit, quoted_may_end, Read, refl, Result, ScannerState, skip_spaces, Some, sym, tab, true, unled, value_of, within, Yes, ℕ, ◌++◌, ◌+◌, ◌-◌, ◌==◌, ◌∙◌, ◌∷◌, ◌≡◌, further_lines_fit, lines_of, eqb-true, nat_tests, and_parts, CommentNotSeparated, ContentAfterQuoted, QuotedDocumentMarker, QuotedEnd, QuotedIndentation, TabAsIndentation, neither, subst, columns, has_break, has_open_level, is_indented_by_spaces, is_separation, may_not_stand, no_nul_after, position_append, quoted_scalar, site_at_place, skip_to_next_token, TabInBlockIndentation}
+use Rattle.proof_scanner.proofs.Common.{elements, inr, inl, cases_Bool, [], ap, append-nil, append_assoc, are_indented, AreNotIndented, arith, Arrives, At, begins_separation, begins_with, bodies_are_read, Bool, check_after_quoted, closed_first, content, Context, element_of, ends_before, Err, false, Fault, go_on, has_marker, has_no_nul, held_of, in_flow, is_breakz, is_document_marker, is_empty, IsBadEscape, IsQuoted, IsQuotedFault, lines_first, List, may_follow_quoted, nat_lt, no_quoted, node_start, not-true, off_margin, Ok, on_held, past, past_elements, peek, Position, position_after, Problem, quote_of, quoted, quoted_lines_fit, quoted_may_end, Read, refl, Result, ScannerState, skip_spaces, Some, sym, tab, true, unled, value_of, within, Yes, ℕ, ◌++◌, ◌+◌, ◌-◌, ◌==◌, ◌∙◌, ◌∷◌, ◌≡◌, further_lines_fit, lines_of, eqb-true, nat_tests, and_parts, CommentNotSeparated, ContentAfterQuoted, QuotedDocumentMarker, QuotedEnd, QuotedIndentation, TabAsIndentation, neither, subst, columns, has_break, has_open_level, is_indented_by_spaces, is_separation, may_not_stand, no_nul_after, position_append, quoted_scalar, site_at_place, skip_to_next_token, TabInBlockIndentation}
 use Rattle.proof_lexers.specs.QuotedScan as scans
 use Rattle.proof_scanner.proofs.Refusals.Common.{Faults, IsDeep, IsWhy, LiesDeep, QuotedAs, Told, Spaced, either, fault, followed_stuck, goes, in_turn, looked_at, none_begins, piece_of, saved_is, solid_past, some_chars, spaces_skipped, spaces_told, stuck_by, unglued, Checked, account_by, awaits_by, blocks_by, in_line, least_by, least_is, mapped, quoted_checked, same_has_break, separation_append, stuck}
 use Rattle.proof_scanner.proofs.Sound.QuotedBreaks.{same_limit, has_elements, body_between}
@@ -172,41 +172,41 @@ module _ {text : List ℕ} {t : ScannerState} (a : Arrives text t) (some : is_em
 
       -- what is wrong with the text after the quote is what the whole text is stuck by
       told_by : (why : Problem) (at : Position) → At why at ≡ f → Reason single least here within (past here) more why at → IsWhy text why at
-      told_by why at is w = by why at is w (parted single least here _ within (past here) more w)
+      told_by why at is w = of why at is w x.holds
         where
-          by : (why : Problem) (at : Position) → At why at ≡ f → Reason single least here within (past here) more why at → Parted single least here (λ t q x. Wrong single least here t q x why at) within (past here) more → IsWhy text why at
-          by why at is w x = of why at is w x.holds
-            where
-              indented : are_indented least x.es ≡ true
-              indented = indented_are least (past here).col x.es ∙ (ap (all_stand least within (past here).col) (sym (append-nil x.es)) ∙ x.fits [] refl)
+          x : Parted single least here (λ t q y. Wrong single least here t q y why at) within (past here) more
+          x = parted single least here _ within (past here) more w
 
-              marks : (b : Bool) → is_marked (position_after (past here) x.body x.rest) x.rest ≡ b → has_marker x.body x.rest ≡ b
-              marks b h = rw (off_margin here.col 0) at (x.marks ∙ h)
+          indented : are_indented least x.es ≡ true
+          indented = indented_are least (past here).col x.es ∙ (ap (all_stand least within (past here).col) (sym (append-nil x.es)) ∙ x.fits [] refl)
 
-              of : (why : Problem) (at : Position) → At why at ≡ f → Reason single least here within (past here) more why at → Wrong single least here (past_elements within x.es) (position_after (past here) x.body x.rest) x.rest why at → IsWhy text why at
-              of why at is w (by_marker h) =
-                  none_begins a some lies QuotedDocumentMarker _
-                  (none.unquoted single more QuotedDocumentMarker e (none_there (ap is_of_lines (sym is))) (none.by_marker x.body x.rest x.is_text (x.es, x.are) (marks true h)))
-                  ((and_parts ((position_after (past here) x.body x.rest).col == 0) (is_document_marker x.rest) h).1, indented)
-              of why at is w (placed _ _ free (by_end ends)) =
-                  let all : more ≡ x.body = x.is_text ∙ (ap (λ r. x.body ++ r) ends ∙ append-nil x.body) in
-                  none_begins a some lies QuotedEnd _
-                  (none.unquoted single more QuotedEnd e (none_there (ap is_of_lines (sym is))) (none.by_end (x.es, rw all x.are)))
-                  (ap (λ b. has_marker b []) all ∙ (ap (λ r. has_marker x.body r) (sym ends) ∙ marks false free), indented)
-              of why at is w (placed _ _ free (by_escape next _ double cut bad may)) =
-                  none_begins a some lies why _
-                  (none.unquoted single more why e (none_there (ap is_of_lines (sym is) ∙ not_of_lines next why here bad)) (none.by_escape x.body next why double (x.is_text ∙ ap (λ r. x.body ++ r) cut) (x.es, x.are) bad))
-                  (ap (λ r. has_marker x.body r) (sym cut) ∙ marks false free, indented_are least (past here).col (x.es ++ content 92 ∷ []) ∙ x.fits (content 92 ∷ []) may)
-              of why at is w (placed _ _ free (by_column solid further low)) =
-                  lines_stuck single QuotedIndentation here (none_fits why at (λ k. absurd (cc k)) w)
-                  (lines.by_column x.body x.rest x.es (e ∙ ap (λ r. none.quote_of single ∷ r) x.is_text) x.are solid further (ap (λ (q : Position). nat_lt q.col least) (after_quote_at single here x.body x.rest) ∙ low))
-                  (marks false free, indented)
-              of why at is w (placed _ _ free (by_tab next cut further low)) =
-                  let same_place : position_after (past here) x.body x.rest ≡ position_after here (none.quote_of single ∷ x.body) (tab ∷ next) = sym (after_quote_at single here x.body x.rest) ∙ ap (λ r. position_after here (none.quote_of single ∷ x.body) r) cut in
-                  rw same_place
-                  (lines_stuck single TabAsIndentation (position_after here (none.quote_of single ∷ x.body) (tab ∷ next)) (none_fits why at (λ k. absurd (cc k)) w)
-                  (lines.by_tab x.body next x.es (e ∙ ap (λ r. none.quote_of single ∷ r) (x.is_text ∙ ap (λ r. x.body ++ r) cut)) x.are further (ap (λ (q : Position). nat_lt q.col least) (sym same_place) ∙ low))
-                  (ap (λ r. has_marker x.body r) (sym cut) ∙ marks false free, indented))
+          marks : (b : Bool) → is_marked (position_after (past here) x.body x.rest) x.rest ≡ b → has_marker x.body x.rest ≡ b
+          marks b h = rw (off_margin here.col 0) at (x.marks ∙ h)
+
+          of : (why : Problem) (at : Position) → At why at ≡ f → Reason single least here within (past here) more why at → Wrong single least here (past_elements within x.es) (position_after (past here) x.body x.rest) x.rest why at → IsWhy text why at
+          of why at is w (by_marker h) =
+              none_begins a some lies QuotedDocumentMarker _
+              (none.unquoted single more QuotedDocumentMarker e (none_there (ap is_of_lines (sym is))) (none.by_marker x.body x.rest x.is_text (x.es, x.are) (marks true h)))
+              ((and_parts ((position_after (past here) x.body x.rest).col == 0) (is_document_marker x.rest) h).1, indented)
+          of why at is w (placed _ _ free (by_end ends)) =
+              let all : more ≡ x.body = x.is_text ∙ (ap (λ r. x.body ++ r) ends ∙ append-nil x.body) in
+              none_begins a some lies QuotedEnd _
+              (none.unquoted single more QuotedEnd e (none_there (ap is_of_lines (sym is))) (none.by_end (x.es, subst (λ b. elements (element_of single) 0 b ≡ Some x.es) (sym all) x.are)))
+              (ap (λ b. has_marker b []) all ∙ (ap (λ r. has_marker x.body r) (sym ends) ∙ marks false free), indented)
+          of why at is w (placed _ _ free (by_escape next _ double cut bad may)) =
+              none_begins a some lies why _
+              (none.unquoted single more why e (none_there (ap is_of_lines (sym is) ∙ not_of_lines next why here bad)) (none.by_escape x.body next why double (x.is_text ∙ ap (λ r. x.body ++ r) cut) (x.es, x.are) bad))
+              (ap (λ r. has_marker x.body r) (sym cut) ∙ marks false free, indented_are least (past here).col (x.es ++ content 92 ∷ []) ∙ x.fits (content 92 ∷ []) may)
+          of why at is w (placed _ _ free (by_column solid further low)) =
+              lines_stuck single QuotedIndentation here (none_fits why at (λ k. absurd (cc k)) w)
+              (lines.by_column x.body x.rest x.es (e ∙ ap (λ r. none.quote_of single ∷ r) x.is_text) x.are solid further (ap (λ (q : Position). nat_lt q.col least) (after_quote_at single here x.body x.rest) ∙ low))
+              (marks false free, indented)
+          of why at is w (placed _ _ free (by_tab next cut further low)) =
+              let same_place : position_after (past here) x.body x.rest ≡ position_after here (none.quote_of single ∷ x.body) (tab ∷ next) = sym (after_quote_at single here x.body x.rest) ∙ ap (λ r. position_after here (none.quote_of single ∷ x.body) r) cut in
+              rw same_place
+              (lines_stuck single TabAsIndentation (position_after here (none.quote_of single ∷ x.body) (tab ∷ next)) (none_fits why at (λ k. absurd (cc k)) w)
+              (lines.by_tab x.body next x.es (e ∙ ap (λ r. none.quote_of single ∷ r) (x.is_text ∙ ap (λ r. x.body ++ r) cut)) x.are further (ap (λ (q : Position). nat_lt q.col least) (sym same_place) ∙ low))
+              (ap (λ r. has_marker x.body r) (sym cut) ∙ marks false free, indented))
 
     pub refused_told : has_no_nul more ≡ true → (f : Fault) → quoted single ctx (none.quote_of single ∷ more) here ≡ Err f → Told text f
     refused_told clean f fails = elim (quoted_ends single ctx here least limit (omega (arith, deep, same)) more (some_chars more clean)) [

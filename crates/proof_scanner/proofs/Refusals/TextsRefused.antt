@@ -1,5 +1,5 @@
 -- Where a tag, a directive or a block scalar's header is none, no row of the text goes on.
-use Rattle.proof_scanner.proofs.Common.{is_on_line, cases_Bool, [], NoPiece, IsBlockFault, IsQuotedFault, tab, nat_tests, is_marker, act_of, directive_token, Directive, alias_name, is_name, goes_on_with_name, all_of, arith, ◌==◌, Account, after, all_of, alpha_starts, and_parts, ap, append-nil, are_marks, AreNotIndented, At, begins_flow, begins_with, begins_with_mark, block_may_end, block_read, block_token, BlockRead, BlockStyle, Body, body, Bool, decoded_some, directive_begins, directive_line, directive_of, double_quoted, eqb-true, Err, false, first_line, folded, further, further_text, has_header, has_no_break, has_no_nul, Header, header_of, if◌then◌else◌, in_double_quotes, in_single_quotes, indicator_of, inl, inr, is_adjacent, is_alpha, is_at_end, is_at_gap, is_blank, is_blank_or_end, is_break, is_decimal_digit, is_empty, is_flow, is_further_text, is_in_flow, is_in_line, is_letter, is_nul, is_past, is_tag, is_uri, IsTagRefusal, kind_at, leading, leading_all, least_column, length, line_is, line_more, lines_after, List, literal, local_goes_on, local_octets, may_follow, may_precede, More, no_lines, no_nul_after, no_suffix, None, not, of_lines, Option, past, Position, Problem, put_first, read_body, read_lines, refl, same_end, scalar, single_quoted, site_at_place, slice_index, Some, split, split_append, splits, subst, suffix_goes_on, suffix_octets, sym, tag_text, tags_are_read, true, unclosed, up_to_break, verbatim_goes_on, verbatim_octets, word, written_tag, ℕ, ◌&&◌, ◌++◌, ◌==◌, ◌||◌, ◌∙◌, ◌∷◌, ◌≡◌, ◌⊎◌, arith, ends_run, runs, nat_tests, TagEnd, VerbatimTagEnd}
+use Rattle.proof_scanner.proofs.Common.{and_false, blocks, innermost, is_on_line, cases_Bool, [], NoPiece, IsBlockFault, IsQuotedFault, tab, nat_tests, is_marker, act_of, directive_token, Directive, alias_name, is_name, goes_on_with_name, all_of, arith, ◌==◌, Account, after, alpha_starts, and_parts, ap, append-nil, are_marks, AreNotIndented, At, begins_flow, begins_with, begins_with_mark, block_may_end, block_read, block_token, BlockRead, BlockStyle, Body, body, Bool, decoded_some, directive_begins, directive_line, directive_of, double_quoted, eqb-true, Err, false, first_line, folded, further, further_text, has_header, has_no_break, has_no_nul, Header, header_of, if◌then◌else◌, in_double_quotes, in_single_quotes, indicator_of, inl, inr, is_adjacent, is_alpha, is_at_end, is_at_gap, is_blank, is_blank_or_end, is_break, is_decimal_digit, is_empty, is_flow, is_further_text, is_in_flow, is_in_line, is_letter, is_nul, is_past, is_tag, is_uri, IsTagRefusal, kind_at, leading, leading_all, least_column, length, line_is, line_more, lines_after, List, literal, local_goes_on, local_octets, may_follow, More, no_lines, no_nul_after, no_suffix, None, not, of_lines, Option, past, Position, Problem, put_first, read_body, read_lines, refl, same_end, scalar, single_quoted, site_at_place, slice_index, Some, split, split_append, splits, subst, suffix_goes_on, suffix_octets, sym, tag_text, tags_are_read, true, unclosed, up_to_break, verbatim_goes_on, verbatim_octets, word, written_tag, ℕ, ◌&&◌, ◌++◌, ◌||◌, ◌∙◌, ◌∷◌, ◌≡◌, ◌⊎◌, ends_run, runs, TagEnd, VerbatimTagEnd}
 use Rattle.defs_token.specs.Account as pieces
 use Rattle.model_scanner.specs.Tag as tags
 use Rattle.model_scanner.specs.Tag.{verbatim_end, verbatim, named, shorthand, tag_end, tag}
@@ -10,10 +10,9 @@ use Rattle.proof_scanner.specs.NoPiece as none
 use Rattle.proof_row.specs.Ends.{anchor_name}
 use Rattle.proof_lexers.specs.HeaderEnds.{ends_line}
 use Rattle.proof_lexers.proofs.Properties.Uris.{uris_are_read}
-use Rattle.proof_row.proofs.Written as written
 use Rattle.proof_scanner.specs.NoPiece.{quote_of}
 use Rattle.proof_scanner.proofs.Refusals.OtherRows.{StepAt}
-use Rattle.proof_scanner.proofs.Refusals.PiecesRefused.{Here, acct, whole_by, rest_of, flow_is, node_stands, here_stood, marker_begins, is_piece, spot, no_block_end}
+use Rattle.proof_scanner.proofs.Refusals.PiecesRefused.{Here, acct, block_there, here_by, whole_by, rest_of, flow_is, node_stands, marker_begins, is_piece, spot, no_block_end}
 use Rattle.proof_scanner.proofs.Refusals.Common.{end_no_text}
 
 -- ---- tags
@@ -221,18 +220,18 @@ module _ {a : Account} {separation rest : List ℕ} {here : Position} (s : StepA
 
   -- The row's block scalar may stand before what follows it.
   pub no_block_stands : is_in_flow a.entries ≡ false → (why : Problem) (at : Position) → IsBlockFault (site_at_place a here).blocks here rest why at → ⊥
-  no_block_stands out why at (none.by_column piece header more lines b cut is further lines_are empty deep left) = no_block_end s piece header more lines b out cut is further lines_are empty deep left
+  no_block_stands out why at (none.by_column piece header more lines b cut is further lines_are empty deep left) =
+      let bs : List ℕ = (site_at_place a here).blocks in
+      let w : Here s block_scalar = here_by s block_scalar (innermost bs) piece more (block_token b.style b.text) cut (b, is, flow_is s ∙ out, refl) in
+      let same = blocks (innermost bs) piece s.step.piece more s.next (b, is, ap has_no_nul (sym cut) ∙ s.is_clean) (w.0, block_there s w, ap has_no_nul s.text_is ∙ s.is_clean) (sym cut ∙ sym s.text_is) in
+      let may_not : block_may_end bs piece more ≡ false = grind (arith, nat_tests, eqb-true, and_false) in
+      no_block_end s w (ap (λ p. block_may_end bs p s.next) (sym same.0) ∙ (ap (λ n. block_may_end bs piece n) (sym same.1) ∙ may_not))
   -- a TAB begins the line after the header
   no_block_stands out why at (none.by_tab own header more h e one is) =
-      let same_end_by : (style : BlockStyle) (text : List ℕ) → may_precede (is_in_flow s.account.entries) (written.At s.account s.step s.next).blocks (block_token style text) s.step.piece s.next ≡ block_may_end (written.At s.account s.step s.next).blocks s.step.piece s.next = λ a b. grind (arith, nat_tests, eqb-true) in
       let first = first_char own header h (sym (line_is own) ∙ ap (λ z. first_line z.complete z.last) one) is in
       let w : Here s block_scalar = block_here first.0 (first.1 ++ 9 ∷ more) out (e ∙ ap (λ p. p ++ 9 ∷ more) first.2) in
       let clean : has_no_nul s.next ≡ true = no_nul_after s.step.piece s.next (ap has_no_nul s.text_is ∙ s.is_clean) in
-      cc (
-        (here_stood s).precedes,
-        ap (λ t. may_precede (is_in_flow s.account.entries) (written.At s.account s.step s.next).blocks t s.step.piece s.next) w.3 ∙
-            (same_end_by w.0.style w.0.text ∙ tab_follows (pieces.collection_column (acct s)) header more own s.step.piece s.next (written.At s.account s.step s.next).blocks w.0 (s.text_is ∙ e) one clean w.1),
-      )
+      no_block_end s w (tab_follows (pieces.collection_column (acct s)) header more own s.step.piece s.next (site_at_place a here).blocks w.0 (s.text_is ∙ e) one clean w.1)
 
   -- the further lines of the row's quoted scalar are indented
   pub lines_stand : (single : Bool) (why : Problem) (at : Position) → AreNotIndented single (least_column (site_at_place a here).blocks (site_at_place a here).awaits) rest
