@@ -96,6 +96,11 @@ module _ (collection : Option ℕ) (header more : List ℕ) where
       let lines : split (own ++ 9 ∷ q) ≡ lines_after (header ∷ []) (split (9 ∷ q)) = split_append own (9 ∷ q) (header ∷ []) one refl in
       by ((split q).complete) ((split q).last) (is_at_end next) (ap (λ z. read_lines collection z.complete z.last next (is_at_end next)) (sym lines) ∙ is)
 
+  -- where all of a header's line stands before a text, no line is in it
+  no_more : (l : List ℕ) (ls complete : List (List ℕ)) (last : List ℕ) → of_lines ((l ∷ ls) ++ complete) last ≡ of_lines (header ∷ []) [] → of_lines complete last ≡ of_lines [] []
+  no_more l [] complete last e = grind arith
+  no_more l (k ∷ ls) complete last e = absurd (let lines : l ∷ k ∷ (ls ++ complete) ≡ header ∷ [] = ap (λ z. z.complete) e in cc lines)
+
   -- a piece that ends before the header's break does
   shorter : (own : List ℕ) (d : ℕ) (q next : List ℕ) (r : BlockRead) → split (own ++ d ∷ q) ≡ of_lines (header ∷ []) [] → has_no_nul (d ∷ next) ≡ true → block_read collection own (d ∷ next) ≡ Some r → ⊥
   shorter own d q next r one clean is = by ((split own).complete) ((split own).last) (is_at_end (d ∷ next)) refl refl refl is
@@ -105,15 +110,8 @@ module _ (collection : Option ℕ) (header more : List ℕ) where
 
       two : (l : List ℕ) (ls : List (List ℕ)) → split own ≡ of_lines (l ∷ ls) [] → (d == 10) ≡ false → ⊥
       two l ls e other =
-          let all : of_lines ((l ∷ ls) ++ (split (d ∷ q)).complete) ((split (d ∷ q)).last) ≡ of_lines (header ∷ []) [] = sym (split_append own (d ∷ q) (l ∷ ls) e other) ∙ one in
-          let lines : (l ∷ ls) ++ (split (d ∷ q)).complete ≡ header ∷ [] = ap (λ z. z.complete) all in
-          let last : (split (d ∷ q)).last ≡ [] = ap (λ z. z.last) all in
-          let none : d ∷ q ≡ [] = no_lines (d ∷ q) (no_more ls ((split (d ∷ q)).complete) ((split (d ∷ q)).last) (cc lines) last) in
+          let none : d ∷ q ≡ [] = no_lines (d ∷ q) (no_more l ls (split (d ∷ q)).complete (split (d ∷ q)).last (sym (split_append own (d ∷ q) (l ∷ ls) e other) ∙ one)) in
           cc none
-        where
-          no_more : (ls complete : List (List ℕ)) (last : List ℕ) → ls ++ complete ≡ [] → last ≡ [] → of_lines complete last ≡ of_lines [] []
-          no_more [] complete last e f = rw (e, f) refl
-          no_more (k ∷ ls) complete last e f = absurd (cc e)
 
       by : (complete : List (List ℕ)) (last : List ℕ) (ended : Bool) → (split own).complete ≡ complete → (split own).last ≡ last → is_at_end (d ∷ next) ≡ ended → read_lines collection ((split own).complete) ((split own).last) (d ∷ next) (is_at_end (d ∷ next)) ≡ Some r → ⊥
       by (l ∷ ls) [] false e f g k =
@@ -129,21 +127,20 @@ module _ (collection : Option ℕ) (header more : List ℕ) where
 
   -- A block scalar that has this header, after which a TAB begins the next line, is the header alone.
   pub header_alone : (own piece next : List ℕ) (r : BlockRead) → piece ++ next ≡ own ++ 9 ∷ more → split own ≡ of_lines (header ∷ []) [] → has_no_nul next ≡ true → block_read collection piece next ≡ Some r → (piece ≡ own) × (next ≡ 9 ∷ more)
-  header_alone own piece next r cut one clean is = by (splits piece own next (9 ∷ more) cut)
+  header_alone own piece next r cut one clean is = elim (splits piece own next (9 ∷ more) cut) [
+    | inl m ↦ before m.more m.longer m.rest
+    | inr m ↦ behind m.more m.longer m.rest
+  ]
     where
-      by : More piece own next (9 ∷ more) ⊎ More own piece (9 ∷ more) next → (piece ≡ own) × (next ≡ 9 ∷ more)
-      by (inl m) = on m.more m.longer m.rest
-        where
-          on : (q : List ℕ) → own ≡ piece ++ q → next ≡ q ++ 9 ∷ more → (piece ≡ own) × (next ≡ 9 ∷ more)
-          on [] e f = (sym (append-nil piece) ∙ sym e, f)
-          on (d ∷ q) e f = grind (arith, nat_tests, shorter, more, split, one, clean, block_read, is, eqb-true)
-      by (inr m) = on m.more m.longer m.rest
-        where
-          on : (q : List ℕ) → piece ≡ own ++ q → 9 ∷ more ≡ q ++ next → (piece ≡ own) × (next ≡ 9 ∷ more)
-          on [] e f = (e ∙ append-nil own, sym f)
-          on (d ∷ q) e f =
-              let same : 9 ≡ d = cc f in
-              absurd (longer own q next r one (ap (λ x. block_read collection x next) (ap (λ x. own ++ x ∷ q) same ∙ sym e) ∙ is))
+      before : (q : List ℕ) → own ≡ piece ++ q → next ≡ q ++ 9 ∷ more → (piece ≡ own) × (next ≡ 9 ∷ more)
+      before [] e f = (sym (append-nil piece) ∙ sym e, f)
+      before (d ∷ q) e f = grind (arith, nat_tests, shorter, more, split, one, clean, block_read, is, eqb-true)
+
+      behind : (q : List ℕ) → piece ≡ own ++ q → 9 ∷ more ≡ q ++ next → (piece ≡ own) × (next ≡ 9 ∷ more)
+      behind [] e f = (e ∙ append-nil own, sym f)
+      behind (d ∷ q) e f =
+          let same : 9 ≡ d = cc f in
+          absurd (longer own q next r one (ap (λ x. block_read collection x next) (ap (λ x. own ++ x ∷ q) same ∙ sym e) ∙ is))
 
   -- It may not end there.
   tab_follows : (own piece next : List ℕ) (bs : List ℕ) (r : BlockRead) → piece ++ next ≡ own ++ 9 ∷ more → split own ≡ of_lines (header ∷ []) [] → has_no_nul next ≡ true → block_read collection piece next ≡ Some r → block_may_end bs piece next ≡ false
