@@ -192,9 +192,7 @@ module _ {a : Account} {separation rest : List ℕ} {here : Position} (s : StepA
 
   question_here : (more : List ℕ) → rest ≡ 63 ∷ more → is_at_gap more ≡ true → Here question
   unfolding is_blank_or_end is_blank is_break is_nul is_flow
-  question_here more e gap =
-      let question_kind : (fl adjacent : Bool) (column : ℕ) → kind_at fl adjacent column (63 ∷ more) ≡ question = λ fl adjacent column. rw gap refl in
-      subst Here (question_kind (pieces.is_in_flow acct) (is_adjacent acct.before) acct.position.col) (whole_by 63 more e)
+  question_here more e gap = rw gap at (whole_by 63 more e)
 
   colon_here : (more : List ℕ) → rest ≡ 58 ∷ more → is_value_here a separation more ≡ true → value ≡ s.step.shown
   colon_here more e is =

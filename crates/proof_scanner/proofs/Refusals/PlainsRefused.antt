@@ -102,13 +102,14 @@ pub goes_later : (fl : Bool) (coll : Option ℕ) (s : Stand) (r q x : List ℕ) 
 goes_later fl coll s [] q x h = h
 goes_later fl coll s (c ∷ r) q x h = goes_later fl coll (past s c) r q x (further_on fl coll s c (r ++ q) x h).1
 
+-- blanks are a gap on one line
+blanks_gap : (l : List ℕ) → is_blanks l ≡ true → (is_gap l ≡ true) × (has_break l ≡ false)
+blanks_gap [] h = (refl, refl)
+blanks_gap (c ∷ l) h = grind (arith, blanks_gap l, blank_in_line)
+
 pub gap_more : (q blanks : List ℕ) → is_gap q ≡ true → is_blanks blanks ≡ true → is_gap (q ++ 9 ∷ blanks) ≡ true
 unfolding is_blank
-gap_more [] blanks g b = gap_of blanks b
-  where
-    gap_of : (l : List ℕ) → is_blanks l ≡ true → is_gap l ≡ true
-    gap_of [] h = refl
-    gap_of (c ∷ l) h = grind (arith, gap_of l)
+gap_more [] blanks g b = (blanks_gap blanks b).0
 gap_more (c ∷ q) blanks g b = grind (arith, gap_more q blanks)
 
 -- whether a line's start and blanks stand before a position
@@ -129,17 +130,9 @@ tab_among : (n : ℕ) (q blanks : List ℕ) → length q < n → has_tab_within 
 tab_among (suc n) (c ∷ q) blanks h = grind (arith, tab_among n q blanks)
 tab_among a q blanks h = grind arith
 
-blanks_break : (blanks : List ℕ) → is_blanks blanks ≡ true → has_break (9 ∷ blanks) ≡ false
-unfolding is_break is_blank
-blanks_break blanks h = by blanks h
-  where
-    by : (l : List ℕ) → is_blanks l ≡ true → has_break l ≡ false
-    by [] h = refl
-    by (c ∷ l) h = grind (arith, by l, blank_in_line)
-
 tab_in_last : (n k : ℕ) (s : Stand) (q blanks : List ℕ) → is_gap q ≡ true → is_blanks blanks ≡ true → k < n → has_break q ≡ true → stand_after s q ≡ on_line k → has_tab_within n (last_line (q ++ 9 ∷ blanks)) ≡ true
 tab_in_last n k s [] blanks g b low br e = absurd (cc br)
-tab_in_last n k s (c ∷ q) blanks g b low br e = grind (arith, nat_tests, eqb-true, last_first, and_parts, break_append, or-true, last_whole, blanks_break, column_is, tab_among, tab_in_last n k (past s c) q blanks)
+tab_in_last n k s (c ∷ q) blanks g b low br e = grind (arith, nat_tests, eqb-true, last_first, and_parts, break_append, or-true, last_whole, (blanks_gap blanks b), (blank_in_line 9 tab_blank), column_is, tab_among, tab_in_last n k (past s c) q blanks)
 
 -- A TAB in the gap after a scalar indents the line after it.
 pub gap_tab : (n k : ℕ) (q blanks : List ℕ) → is_gap q ≡ true → is_blanks blanks ≡ true → nat_lt k n ≡ true → stand_after inside q ≡ on_line k → (has_break (q ++ 9 ∷ blanks) ≡ true) × (has_tab_within n (last_line (q ++ 9 ∷ blanks)) ≡ true)
