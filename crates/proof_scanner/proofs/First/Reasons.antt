@@ -1,7 +1,6 @@
 -- Of two reasons at one place that both come first, kind and position are the same.
-use Rattle.proof_scanner.proofs.Common.{BlockScalarZero, BlockScalarHeader, [], no_nul_after, separations, inl, inr, Account, alias_name, ap, are_marks, arith, At, begins_flow, begins_with, block_begins, BlockStyle, Bool, colon, colon_may_precede, comes_first, dash, dashes, directive_line, dots, eqb-true, Fails, FailsFirst, false, first_line, folded, followed_first, has_no_break, has_no_nul, if◌then◌else◌, in_double_quotes, in_single_quotes, indicator_of, innermost, is_at_gap, is_blank, is_blank_or_end, is_break, is_flow, is_flow_indicator, is_full, is_in_flow, is_nul, is_value_here, is_value_indicator, IsBlockFault, IsDirectiveRefusal, IsFollowed, IsLike, IsLookedAt, IsPlainFault, IsTagRefusal, Kind, least_column, least_here, line_is, List, literal, MayNotStand, nat_tests, no_piece_first, NoPiece, opens, plain_first, Position, Problem, question, refl, stands_first, subst, sym, tab, tag_text, true, ℕ, ◌&&◌, ◌++◌, ◌==◌, ◌||◌, ◌∙◌, ◌∷◌, ◌≡◌, ◌⊎◌, begins_entry, begins_separation, begins_with_alpha, begins_with_space_or_break, further, GoesOn, has_tab_before_piece, is_alpha, is_decimal_digit, is_letter, is_separation, may_ask, not, position_after, before_by, before_past, begins_document_at, comes_plain, is_adjacent, is_free_of_tabs, is_taken, kind_by, nat_le, same_flow, site_at_place, append_cancel_left, further_on, goes_on, goes_over, no_flow, Option, Stand, AnchorName, BlockEntryInFlow, BlockEntryNotAllowed, ColonMisplaced, CommentNotSeparated, ContentAfterDocumentEnd, FlowIndentation, FlowTooDeep, InvalidIndentation, KeyNotAllowed, PlainDashInFlow, PlainTab, TabAfterColon, TabAfterDash, TabAfterKey, TabInBlockIndentation, UnexpectedAt, UnexpectedBacktick, UnexpectedPercent, WhitespaceExpected, after, begins_handle, begins_prefix, begins_with_mark, codes, decoded, drop, Err, Fault, first_position, from_prefix, HasName, is_empty, is_same, is_uri, IsNoDeclaration, IsNoVersion, IsVersionBefore, leading, length, length-append, None, number_of, Ok, problem_of, Result, said, Some, suc, UriFault, ◌-◌, DirectiveEnd, DirectiveName, DirectiveNameEnd, GlobalTagCharacter, TagDirectiveEnd, TagDirectiveHandle, TagStart, VersionDot, VersionNumber, VersionTooLong, append_cancel_right, block_first, blocks, digit_of, has_header, has_zero, Header, header_first, header_of, is_at_end, is_blanks_and_comment, is_in_line, is_rest_of_line, IsNoHeader, line_more, past_indicators, past_spaces, sign_of, split, style_inner, style_same, up_to_break, HasNoPlainFault}
+use Rattle.proof_scanner.proofs.Common.{BlockScalarZero, BlockScalarHeader, [], no_nul_after, separations, inl, inr, Account, alias_name, ap, are_marks, arith, At, begins_flow, begins_with, block_begins, BlockStyle, Bool, colon, colon_may_precede, comes_first, dash, dashes, directive_line, dots, eqb-true, Fails, FailsFirst, false, first_line, folded, followed_first, has_no_break, has_no_nul, if◌then◌else◌, in_double_quotes, in_single_quotes, indicator_of, innermost, is_at_gap, is_blank, is_blank_or_end, is_break, is_flow, is_flow_indicator, is_full, is_in_flow, is_nul, is_value_here, IsBlockFault, IsDirectiveRefusal, IsFollowed, IsLike, IsLookedAt, IsPlainFault, IsTagRefusal, Kind, least_column, least_here, line_is, List, literal, MayNotStand, nat_tests, no_piece_first, NoPiece, opens, plain_first, Position, Problem, question, refl, stands_first, subst, sym, tab, tag_text, true, ℕ, ◌&&◌, ◌++◌, ◌==◌, ◌||◌, ◌∙◌, ◌∷◌, ◌≡◌, ◌⊎◌, begins_entry, begins_separation, begins_with_alpha, begins_with_space_or_break, further, GoesOn, has_tab_before_piece, is_alpha, is_decimal_digit, is_letter, is_separation, may_ask, not, position_after, before_by, before_past, begins_document_at, comes_plain, is_adjacent, is_free_of_tabs, is_taken, kind_by, nat_le, same_flow, site_at_place, append_cancel_left, further_on, goes_on, goes_over, no_flow, Option, Stand, AnchorName, BlockEntryInFlow, BlockEntryNotAllowed, ColonMisplaced, CommentNotSeparated, ContentAfterDocumentEnd, FlowIndentation, FlowTooDeep, InvalidIndentation, KeyNotAllowed, PlainDashInFlow, PlainTab, TabAfterColon, TabAfterDash, TabAfterKey, TabInBlockIndentation, UnexpectedAt, UnexpectedBacktick, UnexpectedPercent, WhitespaceExpected, after, begins_handle, begins_prefix, begins_with_mark, codes, decoded, drop, Err, Fault, first_position, from_prefix, HasName, is_empty, is_same, is_uri, IsNoDeclaration, IsNoVersion, IsVersionBefore, leading, length, length-append, None, number_of, Ok, problem_of, Result, said, Some, suc, UriFault, ◌-◌, DirectiveEnd, DirectiveName, DirectiveNameEnd, GlobalTagCharacter, TagDirectiveEnd, TagDirectiveHandle, TagStart, VersionDot, VersionNumber, VersionTooLong, append_cancel_right, block_first, blocks, digit_of, has_header, has_zero, Header, header_first, header_of, is_at_end, is_blanks_and_comment, is_in_line, is_rest_of_line, IsNoHeader, line_more, past_indicators, past_spaces, sign_of, split, style_inner, style_same, up_to_break, HasNoPlainFault}
 use Rattle.proof_row.specs.Ends.{nothing, plain_scalar, anchor_name, block_scalar}
-use Rattle.proof_scanner.specs.NoPiece.{quote_of}
 use Rattle.proof_scanner.proofs.First.Quoted.{QuotedReason, one_quoted}
 use Rattle.proof_scanner.proofs.Refusals.PiecesRefused.{no_colon_before, tab_gap, many_alike}
 use Rattle.proof_scanner.proofs.Refusals.TextsRefused.{first_char, refusal_fails, one_line, first_of, piece_line}
@@ -344,15 +343,6 @@ block_kind : (s : Setting) (column : ℕ) (style : BlockStyle) (more : List ℕ)
 unfolding is_blank_or_end is_blank is_break is_nul is_flow
 block_kind s column a more out = grind arith
 
-dash_kind : (s : Setting) (column : ℕ) (more : List ℕ) → is_at_gap more ≡ true → kind_here s column (45 ∷ more) ≡ dash
-dash_kind s column more gap = rw gap refl
-
-question_kind : (s : Setting) (column : ℕ) (more : List ℕ) → is_at_gap more ≡ true → kind_here s column (63 ∷ more) ≡ question
-question_kind s column more gap = rw gap refl
-
-colon_kind : (s : Setting) (column : ℕ) (more : List ℕ) → is_value_indicator s.in_flow s.adjacent more ≡ true → kind_here s column (58 ∷ more) ≡ colon
-colon_kind s column more is = rw is refl
-
 -- ---- each reason has its kind
 
 module _ (s : Setting) (here : Position) (rest : List ℕ) where
@@ -390,14 +380,14 @@ module _ (s : Setting) (here : Position) (rest : List ℕ) where
   followed_reason why at (none.glued c more e is begins) f = bracket_reason c more why at e is ((c, more, e, inr (f, refl, refl)))
   followed_reason why at (none.glued_to_quoted single piece more e is begins) f = of_quoted why at (quoted.glued_to_quoted (least_column s.blocks s.awaits) here rest single piece more e is begins f)
   followed_reason why at (none.after_quoted single piece more passed content e is ends on solid) f = of_quoted why at (quoted.after_quoted (least_column s.blocks s.awaits) here rest single piece more passed content e is on solid f)
-  followed_reason why at (none.after_end more passed content col e gap on ends solid) f = (dots, ap (λ r. kind_here s here.col r) e ∙ (rw (col, gap) refl), (more, passed, content, e, on, solid, refl, refl))
-  followed_reason why at (none.tab_after_dash more passed content out e gap on tab_there begins) f = (dash, ap (λ r. kind_here s here.col r) e ∙ dash_kind s here.col more gap, inr (inr (out, f, more, passed, content, e, on, begins, refl, refl)))
+  followed_reason why at (none.after_end more passed content col e gap on ends solid) f = (dots, rw (e, col, gap) refl, (more, passed, content, e, on, solid, refl, refl))
+  followed_reason why at (none.tab_after_dash more passed content out e gap on tab_there begins) f = (dash, rw (e, gap) refl, inr (inr (out, f, more, passed, content, e, on, begins, refl, refl)))
   followed_reason why at (none.no_space more [] content e gap on begins ends) f =
-      (question, ap (λ r. kind_here s here.col r) e ∙ question_kind s here.col more gap, inr (inl (f.0, more, e, grind arith, refl, refl)))
+      (question, rw (e, gap) refl, inr (inl (f.0, more, e, grind arith, refl, refl)))
   followed_reason why at (none.no_space more (c ∷ passed) content e gap on begins ends) f = absurd (cc f.1)
-  followed_reason why at (none.tab_after_question more passed content e gap cut fills) f = (question, ap (λ r. kind_here s here.col r) e ∙ question_kind s here.col more gap, inr (inr (f.0, more, passed, content, e, f.1, f.2, cut, fills, refl, refl)))
+  followed_reason why at (none.tab_after_question more passed content e gap cut fills) f = (question, rw (e, gap) refl, inr (inr (f.0, more, passed, content, e, f.1, f.2, cut, fills, refl, refl)))
   followed_reason why at (none.tab_after_colon more passed content e tab_there on lacks letter) f =
-      (colon, ap (λ r. kind_here s here.col r) e ∙ colon_kind s here.col more (ap (λ b. b || (s.in_flow && (begins_flow more || s.adjacent))) (tab_gap more tab_there)), inr (more, passed, content, e, no_colon_before more passed content tab_there on lacks letter, on, letter, refl, refl))
+      (colon, rw (e, tab_gap more tab_there) refl, inr (more, passed, content, e, no_colon_before more passed content tab_there on lacks letter, on, letter, refl, refl))
 
 -- ---- what fails first is a reason
 
@@ -413,12 +403,12 @@ module _ (a : Account) (separation : List ℕ) (here : Position) (rest : List �
   stands_reason why at (failing.too_deep bracket more e is many) f =
       let opens_flow : (c : ℕ) → (c ≡ 91) ⊎ (c ≡ 123) → (opens c ≡ true) × (is_flow_indicator c ≡ true) = λ c a. grind (arith, nat_tests, eqb-true) in
       seen_reason FlowTooDeep here f (bracket_reason own here rest bracket more FlowTooDeep here e (opens_flow bracket is).1 (bracket, more, e, inl (ap (λ b. b && is_full a) (opens_flow bracket is).0 ∙ (grind (arith, nat_tests, many)), refl, refl)))
-  stands_reason why at (failing.dash_in_flow more e gap flowing) f = seen_reason BlockEntryInFlow here f (dash, ap (λ r. kind_here own here.col r) e ∙ dash_kind own here.col more gap, inl (flowing, refl, refl))
-  stands_reason why at (failing.dash_not_free more e gap out line) f = seen_reason BlockEntryNotAllowed here f (dash, ap (λ r. kind_here own here.col r) e ∙ dash_kind own here.col more gap, inr (inl (out, line, refl, refl)))
+  stands_reason why at (failing.dash_in_flow more e gap flowing) f = seen_reason BlockEntryInFlow here f (dash, rw (e, gap) refl, inl (flowing, refl, refl))
+  stands_reason why at (failing.dash_not_free more e gap out line) f = seen_reason BlockEntryNotAllowed here f (dash, rw (e, gap) refl, inr (inl (out, line, refl, refl)))
   stands_reason why at (failing.key_on_earlier_line more begin x xs e is are takes had late) f =
-      seen_reason ColonMisplaced here f.0 (colon, ap (λ r. kind_here own here.col r) e ∙ colon_kind own here.col more is, inl (more, ap is_in_flow are, e, f.1, refl, refl))
+      seen_reason ColonMisplaced here f.0 (colon, rw (e, is) refl, inl (more, ap is_in_flow are, e, f.1, refl, refl))
   stands_reason why at (failing.question_not_free more e gap out line) f =
-      seen_reason KeyNotAllowed here f (question, ap (λ r. kind_here own here.col r) e ∙ question_kind own here.col more gap, inl (rw (out, line) refl, refl, refl))
+      seen_reason KeyNotAllowed here f (question, rw (e, gap) refl, inl (rw (out, line) refl, refl, refl))
   stands_reason why at (failing.tab_indents tabs) f = inl (tabs, refl, refl)
   stands_reason why at (failing.tab_after_quoted single piece gap content e is fills goes_on solid tabs) f =
       seen_reason TabInBlockIndentation _ f.0 (of_quoted own here rest TabInBlockIndentation _ (quoted.tab_after_quoted (least_column own.blocks own.awaits) here rest single piece gap content own.blocks own.awaits e is fills solid tabs f.1 f.2))
@@ -443,7 +433,8 @@ colon_alone a b like separation more here is out seen apart why at x =
     let own : Setting = setting_of a separation here in
     let at_colon : (n : List ℕ) → 58 ∷ more ≡ 58 ∷ n → more ≡ n = λ n e. cc e in
     let none_here : (why : Problem) (at : Position) → InKind colon own here (58 ∷ more) why at → ⊥ = λ why at h. grind (arith, nat_tests, eqb-true, out, apart, colon_may_precede, at_colon) in
-    let by : (why : Problem) (at : Position) → Reason own here (58 ∷ more) why at → ⊥ = λ why a b. grind (arith, none_here, own, here, more, colon_kind, is) in
+    let kind_is : kind_here own here.col (58 ∷ more) ≡ colon = rw is refl in
+    let by : (why : Problem) (at : Position) → Reason own here (58 ∷ more) why at → ⊥ = λ why a b. grind (arith, none_here, own, here, more, kind_is) in
     by why at (subst (λ s. Reason s here (58 ∷ more) why at) (sym (same_setting a b separation here like)) (reason_of b separation here (58 ∷ more) why at x))
 
 -- ---- one reason
