@@ -1,5 +1,5 @@
 -- Of two reasons at one place that both come first, kind and position are the same.
-use Rattle.proof_scanner.proofs.Common.{BlockScalarZero, BlockScalarHeader, [], no_nul_after, separations, inl, inr, Account, alias_name, ap, are_marks, arith, At, begins_flow, begins_with, block_begins, BlockStyle, Bool, colon, colon_may_precede, comes_first, dash, dashes, directive_line, dots, eqb-true, Fails, FailsFirst, false, first_line, folded, followed_first, has_no_break, has_no_nul, if◌then◌else◌, in_double_quotes, in_single_quotes, indicator_of, innermost, is_at_gap, is_blank, is_blank_or_end, is_break, is_flow, is_flow_indicator, is_full, is_in_flow, is_nul, is_value_here, IsBlockFault, IsDirectiveRefusal, IsFollowed, IsLike, IsLookedAt, IsPlainFault, IsTagRefusal, Kind, least_column, least_here, line_is, List, literal, MayNotStand, nat_tests, no_piece_first, NoPiece, opens, plain_first, Position, Problem, question, refl, stands_first, subst, sym, tab, tag_text, true, ℕ, ◌&&◌, ◌++◌, ◌==◌, ◌||◌, ◌∙◌, ◌∷◌, ◌≡◌, ◌⊎◌, begins_entry, begins_separation, begins_with_alpha, begins_with_space_or_break, further, GoesOn, has_tab_before_piece, is_alpha, is_decimal_digit, is_letter, is_separation, may_ask, not, position_after, before_by, before_past, begins_document_at, comes_plain, is_adjacent, is_free_of_tabs, is_taken, kind_by, nat_le, same_flow, site_at_place, append_cancel_left, further_on, goes_on, goes_over, no_flow, Option, Stand, AnchorName, BlockEntryInFlow, BlockEntryNotAllowed, ColonMisplaced, CommentNotSeparated, ContentAfterDocumentEnd, FlowIndentation, FlowTooDeep, InvalidIndentation, KeyNotAllowed, PlainDashInFlow, PlainTab, TabAfterColon, TabAfterDash, TabAfterKey, TabInBlockIndentation, UnexpectedAt, UnexpectedBacktick, UnexpectedPercent, WhitespaceExpected, after, begins_handle, begins_prefix, begins_with_mark, codes, decoded, drop, Err, Fault, first_position, from_prefix, HasName, is_empty, is_same, is_uri, IsNoDeclaration, IsNoVersion, IsVersionBefore, leading, length, length-append, None, number_of, Ok, problem_of, Result, said, Some, suc, UriFault, ◌-◌, DirectiveEnd, DirectiveName, DirectiveNameEnd, GlobalTagCharacter, TagDirectiveEnd, TagDirectiveHandle, TagStart, VersionDot, VersionNumber, VersionTooLong, append_cancel_right, block_first, blocks, digit_of, has_header, has_zero, Header, header_first, header_of, is_at_end, is_blanks_and_comment, is_in_line, is_rest_of_line, IsNoHeader, line_more, past_indicators, past_spaces, sign_of, split, style_inner, style_same, up_to_break, HasNoPlainFault}
+use Rattle.proof_scanner.proofs.Common.{BlockScalarZero, BlockScalarHeader, [], no_nul_after, separations, inl, inr, Account, alias_name, ap, are_marks, arith, At, begins_flow, begins_with, block_begins, BlockStyle, Bool, colon, colon_may_precede, comes_first, dash, dashes, directive_line, dots, eqb-true, Fails, FailsFirst, false, first_line, folded, followed_first, has_no_break, has_no_nul, if◌then◌else◌, in_double_quotes, in_single_quotes, indicator_of, innermost, is_at_gap, is_blank, is_blank_or_end, is_break, is_flow, is_flow_indicator, is_full, is_in_flow, is_nul, is_value_here, IsBlockFault, IsDirectiveRefusal, IsFollowed, IsLike, IsLookedAt, IsPlainFault, IsTagRefusal, Kind, least_column, least_here, line_is, List, literal, MayNotStand, nat_tests, no_piece_first, NoPiece, opens, plain_first, Position, Problem, question, refl, stands_first, subst, sym, tab, tag_text, true, ℕ, ◌&&◌, ◌++◌, ◌==◌, ◌||◌, ◌∙◌, ◌∷◌, ◌≡◌, ◌⊎◌, begins_entry, begins_separation, begins_with_alpha, begins_with_space_or_break, further, GoesOn, has_tab_before_piece, is_alpha, is_decimal_digit, is_letter, is_separation, may_ask, not, position_after, before_by, before_past, begins_document_at, comes_plain, is_adjacent, is_free_of_tabs, is_taken, kind_by, nat_le, same_flow, site_at_place, append_cancel_left, further_on, goes_on, goes_over, no_flow, Option, Stand, AnchorName, BlockEntryInFlow, BlockEntryNotAllowed, ColonMisplaced, CommentNotSeparated, ContentAfterDocumentEnd, FlowIndentation, FlowTooDeep, InvalidIndentation, KeyNotAllowed, PlainDashInFlow, PlainTab, TabAfterColon, TabAfterDash, TabAfterKey, TabInBlockIndentation, UnexpectedAt, UnexpectedBacktick, UnexpectedPercent, WhitespaceExpected, after, begins_handle, begins_prefix, begins_with_mark, codes, decoded, drop, Err, Fault, first_position, from_prefix, is_empty, is_same, is_uri, IsNoDeclaration, IsNoVersion, IsVersionBefore, leading, length, length-append, None, number_of, Ok, problem_of, Result, said, Some, suc, UriFault, ◌-◌, DirectiveEnd, DirectiveName, DirectiveNameEnd, GlobalTagCharacter, TagDirectiveEnd, TagDirectiveHandle, TagStart, VersionDot, VersionNumber, VersionTooLong, append_cancel_right, block_first, blocks, digit_of, has_header, has_zero, Header, header_of, is_at_end, is_blanks_and_comment, is_in_line, is_rest_of_line, IsNoHeader, line_more, past_indicators, past_spaces, sign_of, split, style_inner, style_same, up_to_break, HasNoPlainFault}
 use Rattle.proof_row.specs.Ends.{nothing, plain_scalar, anchor_name, block_scalar}
 use Rattle.proof_scanner.proofs.First.Quoted.{QuotedReason, one_quoted}
 use Rattle.proof_scanner.proofs.Refusals.PiecesRefused.{no_colon_before, tab_gap, many_alike}
@@ -67,7 +67,7 @@ module _ (style : BlockStyle) (here : Position) (line : List ℕ) (lacks : heade
 -- Why a text that begins with `|` or `>` outside flow is no block scalar, or not one that may stand there; the reason comes first.
 pub data BlockReason (collection : List ℕ) (here : Position) (rest : List ℕ) : Problem → Position → Type 0 where
   headless : (style : BlockStyle) (line after : List ℕ) (why : Problem) (at : Position) → rest ≡ indicator_of style ∷ (line ++ after) → is_in_line line ≡ true → headers.ends_line after ≡ true → header_of (indicator_of style ∷ line) ≡ None
-      → (n : IsNoHeader style here line why at) → header_first style here line why at n → BlockReason collection here rest why at
+      → IsNoHeader style here line why at → BlockReason collection here rest why at
   fails : (why : Problem) (at : Position) (x : IsBlockFault collection here rest why at) → block_first collection here rest why at x → BlockReason collection here rest why at
 
 module _ (collection : List ℕ) (here : Position) (rest : List ℕ) (clean : has_no_nul rest ≡ true) where
@@ -94,13 +94,13 @@ module _ (collection : List ℕ) (here : Position) (rest : List ℕ) (clean : ha
       (refl, ap (λ p. past_spaces (position_after here p next) next) same.0 ∙ ap (λ n. past_spaces (position_after here piece2 n) n) same.1)
 
   pub one_block : (why1 why2 : Problem) (at1 at2 : Position) → BlockReason collection here rest why1 at1 → BlockReason collection here rest why2 at2 → (why1 ≡ why2) × (at1 ≡ at2)
-  one_block why1 why2 at1 at2 (headless style line after why at cut inner ends lacks n first) (headless style2 line2 after2 why3 at3 cut2 inner2 ends2 lacks2 m other) =
+  one_block why1 why2 at1 at2 (headless style line after why at cut inner ends lacks n) (headless style2 line2 after2 why3 at3 cut2 inner2 ends2 lacks2 m) =
       let same : indicator_of style2 ∷ line2 ≡ indicator_of style ∷ line = sym (line_here style2 line2 after2 cut2 inner2 ends2) ∙ line_here style line after cut inner ends in
       let style_is : style2 ≡ style = style_same style2 style (cc same) in
       let line_is : line2 ≡ line = cc same in
       one_header style here line lacks why1 why2 at1 at2 n (rw (sym style_is) (rw (sym line_is) m))
-  one_block why1 why2 at1 at2 (headless style line after why at cut inner ends lacks n first) (fails why3 at3 y other) = absurd (header_here why2 at2 y (ap header_of (line_here style line after cut inner ends) ∙ lacks))
-  one_block why1 why2 at1 at2 (fails why at x first) (headless style line after why3 at3 cut inner ends lacks n other) = absurd (header_here why1 at1 x (ap header_of (line_here style line after cut inner ends) ∙ lacks))
+  one_block why1 why2 at1 at2 (headless style line after why at cut inner ends lacks n) (fails why3 at3 y other) = absurd (header_here why2 at2 y (ap header_of (line_here style line after cut inner ends) ∙ lacks))
+  one_block why1 why2 at1 at2 (fails why at x first) (headless style line after why3 at3 cut inner ends lacks n) = absurd (header_here why1 at1 x (ap header_of (line_here style line after cut inner ends) ∙ lacks))
   one_block why1 why2 at1 at2 (fails why at x first) (fails why3 at3 y other) = one_fault why1 why2 at1 at2 x first y other
 
 -- ---- tags
@@ -175,25 +175,17 @@ line_wrong start line =
     (if is_empty (leading is_alpha line) then At DirectiveName (further 1 start) else
     (if is_at_gap (after is_alpha line) then named_wrong start line (is_same (leading is_alpha line) (codes "YAML")) else At DirectiveNameEnd (further 1 start)))
 
-of_version : (start : Position) (line : List ℕ) → HasName (codes "YAML") line → line_wrong start line ≡ named_wrong start line true
-of_version start line h = rw (h.is_name, h.is_whole) refl
-
-of_declaration : (start : Position) (line : List ℕ) → HasName (codes "TAG") line → line_wrong start line ≡ named_wrong start line false
-of_declaration start line h = rw (h.is_name, h.is_whole) refl
-
 after_it : (start : Position) (line rest : List ℕ) → IsVersionBefore line rest → line_wrong start line ≡ tail_wrong start line rest
-after_it start line rest v = grind (arith, nat_tests, eqb-true, version_wrong, said, number_right, leading, is_decimal_digit, of_version)
+after_it start line rest v = let name = v.is_version.is_name in let whole = v.is_version.is_whole in grind (arith, nat_tests, eqb-true, number_right, name, whole)
 
 refusal_is : (start : Position) (line : List ℕ) (f : Fault) → IsDirectiveRefusal start line f → line_wrong start line ≡ f
 refusal_is start line f (directives.no_name e) = rw e refl
 refusal_is start line f (directives.by_name some e) = rw (some, e) refl
-refusal_is start line f (directives.by_version why h n) = of_version start line h ∙ rw (version_is (said line) why n) refl
-refusal_is start line f (directives.by_declaration why h n) = of_declaration start line h ∙ rw (declaration_is (said line) why n) refl
+refusal_is start line f (directives.by_version why h n) = rw (h.is_name, h.is_whole, version_is (said line) why n) refl
+refusal_is start line f (directives.by_declaration why h n) = rw (h.is_name, h.is_whole, declaration_is (said line) why n) refl
 refusal_is start line f (directives.by_comment before rest cut v) = grind (arith, nat_tests, eqb-true, length-append, after_it)
 refusal_is start line f (directives.after_version rest v more begins) = after_it start line rest v ∙ rw begins refl
-refusal_is start line f (directives.after_declaration rest d more) =
-    let declaration_right : declaration_wrong (said line) ≡ None = rw (d.has_handle, d.has_prefix, d.is_prefix, d.is_before, d.is_apart) refl in
-    of_declaration start line d.is_declaration ∙ rw declaration_right refl
+refusal_is start line f (directives.after_declaration rest d more) = rw (d.is_declaration.is_name, d.is_declaration.is_whole, d.has_handle, d.has_prefix, d.is_prefix, d.is_before, d.is_apart) refl
 
 -- ---- a plain scalar has one fault that comes first
 
@@ -366,7 +358,7 @@ module _ (s : Setting) (here : Position) (rest : List ℕ) where
   none_reason why at (none.nameless false more e lacks) f = (anchor_name, ap (λ r. kind_here s here.col r) e, (refl, refl))
   none_reason why at (none.tagless more reason e r) f = (tag_text, ap (λ r. kind_here s here.col r) e, (more, e, r, refl))
   none_reason why at (none.unquoted single more reason e lacks n) f = of_quoted reason here (quoted.unquoted (least_column s.blocks s.awaits) here rest single more reason e lacks n f)
-  none_reason why at (none.headless style line next reason place out e one ends lacks n) f = (block_scalar, ap (λ r. kind_here s here.col r) e ∙ block_kind s here.col style (line ++ next) out, headless style line next reason place e one ends lacks n f)
+  none_reason why at (none.headless style line next reason place out e one ends lacks n) f = (block_scalar, ap (λ r. kind_here s here.col r) e ∙ block_kind s here.col style (line ++ next) out, headless style line next reason place e one ends lacks n)
   none_reason why at (none.undirected line next reason place col e one ends lacks r) f = (directive_line, ap (λ z. kind_here s here.col z) e, inr (line, next, col, e, one, ends, r))
 
   block_at : s.in_flow ≡ false → (why : Problem) (at : Position) → IsBlockFault s.blocks here rest why at → kind_here s here.col rest ≡ block_scalar
