@@ -1,5 +1,5 @@
 -- Of two reasons at one place that both come first, kind and position are the same.
-use Rattle.proof_scanner.proofs.Common.{BlockScalarZero, BlockScalarHeader, [], no_nul_after, separations, inl, inr, Account, alias_name, ap, are_marks, arith, At, begins_flow, begins_with, block_begins, BlockStyle, Bool, colon, colon_may_precede, comes_first, dash, dashes, directive_line, dots, eqb-true, Fails, FailsFirst, false, first_line, folded, followed_first, has_no_break, has_no_nul, if◌then◌else◌, in_double_quotes, in_single_quotes, indicator_of, innermost, is_at_gap, is_blank, is_blank_or_end, is_break, is_flow, is_flow_indicator, is_full, is_in_flow, is_nul, is_value_here, IsBlockFault, IsDirectiveRefusal, IsFollowed, IsLike, IsLookedAt, IsPlainFault, IsTagRefusal, Kind, least_column, least_here, line_is, List, literal, MayNotStand, nat_tests, no_piece_first, NoPiece, opens, plain_first, Position, Problem, question, refl, stands_first, subst, sym, tab, tag_text, true, ℕ, ◌&&◌, ◌++◌, ◌==◌, ◌||◌, ◌∙◌, ◌∷◌, ◌≡◌, ◌⊎◌, begins_entry, begins_separation, begins_with_alpha, begins_with_space_or_break, further, GoesOn, has_tab_before_piece, is_alpha, is_decimal_digit, is_letter, is_separation, may_ask, not, position_after, before_by, before_past, begins_document_at, comes_plain, is_adjacent, is_free_of_tabs, is_taken, kind_by, nat_le, same_flow, site_at_place, append_cancel_left, further_on, goes_on, goes_over, no_flow, Option, Stand, AnchorName, BlockEntryInFlow, BlockEntryNotAllowed, ColonMisplaced, CommentNotSeparated, ContentAfterDocumentEnd, FlowIndentation, FlowTooDeep, InvalidIndentation, KeyNotAllowed, PlainDashInFlow, PlainTab, TabAfterColon, TabAfterDash, TabAfterKey, TabInBlockIndentation, UnexpectedAt, UnexpectedBacktick, UnexpectedPercent, WhitespaceExpected, after, begins_handle, begins_prefix, begins_with_mark, codes, decoded, drop, Err, Fault, first_position, from_prefix, is_empty, is_same, is_uri, IsNoDeclaration, IsNoVersion, IsVersionBefore, leading, length, length-append, None, number_of, Ok, problem_of, Result, said, Some, suc, UriFault, ◌-◌, DirectiveEnd, DirectiveName, DirectiveNameEnd, GlobalTagCharacter, TagDirectiveEnd, TagDirectiveHandle, TagStart, VersionDot, VersionNumber, VersionTooLong, append_cancel_right, block_first, blocks, digit_of, has_header, has_zero, Header, header_of, is_at_end, is_blanks_and_comment, is_in_line, is_rest_of_line, IsNoHeader, line_more, past_indicators, past_spaces, sign_of, split, style_inner, style_same, up_to_break, HasNoPlainFault}
+use Rattle.proof_scanner.proofs.Common.{BlockScalarZero, BlockScalarHeader, [], no_nul_after, separations, inl, inr, Account, alias_name, ap, are_marks, arith, At, begins_flow, begins_with, block_begins, BlockStyle, Bool, colon, colon_may_precede, comes_first, dash, dashes, directive_line, dots, eqb-true, Fails, FailsFirst, false, first_line, folded, followed_first, has_no_break, has_no_nul, if◌then◌else◌, in_double_quotes, in_single_quotes, indicator_of, innermost, is_at_gap, is_blank, is_blank_or_end, is_break, is_flow, is_flow_indicator, is_full, is_in_flow, is_nul, is_value_here, IsBlockFault, IsDirectiveRefusal, IsFollowed, IsLike, IsLookedAt, IsPlainFault, IsTagRefusal, Kind, least_column, least_here, line_is, List, literal, MayNotStand, nat_tests, no_piece_first, NoPiece, opens, plain_first, Position, Problem, question, refl, stands_first, subst, sym, tab, tag_text, true, ℕ, ◌&&◌, ◌++◌, ◌==◌, ◌||◌, ◌∙◌, ◌∷◌, ◌≡◌, ◌⊎◌, begins_entry, begins_separation, begins_with_alpha, begins_with_space_or_break, further, GoesOn, has_tab_before_piece, is_alpha, is_decimal_digit, is_letter, is_separation, may_ask, not, position_after, before_by, before_past, begins_document_at, comes_plain, is_adjacent, is_free_of_tabs, is_taken, kind_by, nat_le, same_flow, site_at_place, append_cancel_left, further_on, goes_on, goes_over, no_flow, Option, Stand, AnchorName, BlockEntryInFlow, BlockEntryNotAllowed, ColonMisplaced, CommentNotSeparated, ContentAfterDocumentEnd, FlowIndentation, FlowTooDeep, InvalidIndentation, KeyNotAllowed, PlainDashInFlow, PlainTab, TabAfterColon, TabAfterDash, TabAfterKey, TabInBlockIndentation, UnexpectedAt, UnexpectedBacktick, UnexpectedPercent, WhitespaceExpected, after, begins_handle, begins_prefix, begins_with_mark, codes, decoded, drop, Err, Fault, first_position, from_prefix, is_empty, is_same, is_uri, IsNoDeclaration, IsNoVersion, IsVersionBefore, leading, length, length-append, None, number_of, Ok, problem_of, Result, said, Some, suc, UriFault, ◌-◌, DirectiveEnd, DirectiveName, DirectiveNameEnd, GlobalTagCharacter, TagDirectiveEnd, TagDirectiveHandle, TagStart, VersionDot, VersionNumber, VersionTooLong, append_cancel_right, block_first, blocks, digit_of, has_header, has_zero, Header, header_of, is_at_end, is_blanks_and_comment, is_in_line, IsNoHeader, line_more, past_indicators, past_spaces, sign_of, split, style_inner, style_same, up_to_break, HasNoPlainFault}
 use Rattle.proof_row.specs.Ends.{nothing, plain_scalar, anchor_name, block_scalar}
 use Rattle.proof_scanner.proofs.First.Quoted.{QuotedReason, one_quoted}
 use Rattle.proof_scanner.proofs.Refusals.PiecesRefused.{no_colon_before, tab_gap, many_alike}
@@ -14,34 +14,16 @@ use Rattle.proof_scanner.specs.Failing as failing
 use Rattle.proof_scanner.proofs.First.Quoted as quoted
 use Rattle.proof_lexers.specs.HeaderEnds as headers
 
--- ---- a header's line after its indicators
-
--- whether a line is a header
-abbrev is_given : Option Header → Bool
-is_given None = false
-is_given (Some h) = true
-
--- A line is a header if nothing but a line's rest stands after its indicators.
-header_is : (style : BlockStyle) (w : List ℕ) → is_given (header_of (indicator_of style ∷ w)) ≡ is_rest_of_line (past_indicators w)
-unfolding sign_of digit_of
-header_is style w = grind arith
-
 -- ---- a comment right after the indicators
 
 blanks_with : (r t : List ℕ) → is_blanks_and_comment r ≡ true → is_blanks_and_comment (r ++ 35 ∷ t) ≡ true
 blanks_with [] t h = refl
 blanks_with (c ∷ r) t h = grind (arith, blanks_with r t)
 
-rest_with : (r t : List ℕ) → is_rest_of_line r ≡ true → is_rest_of_line (r ++ 35 ∷ t) ≡ false → r ≡ []
-rest_with r t h k = grind (arith, blanks_with)
-
 -- a line that is no header, but one before a comment
-comment_is : (style : BlockStyle) (line before text : List ℕ) (h : Header) → header_of (indicator_of style ∷ line) ≡ None → header_of (indicator_of style ∷ before) ≡ Some h → line ≡ before ++ 35 ∷ text → past_indicators line ≡ 35 ∷ text
-comment_is style line before text h lacks is cut =
-    let rest : past_indicators line ≡ past_indicators before ++ 35 ∷ text = ap past_indicators cut ∙ (grind arith) in
-    let ends : is_rest_of_line (past_indicators before) ≡ true = sym (header_is style before) ∙ ap is_given is in
-    let goes : is_rest_of_line (past_indicators before ++ 35 ∷ text) ≡ false = ap is_rest_of_line (sym rest) ∙ (sym (header_is style line) ∙ ap is_given lacks) in
-    rest ∙ ap (λ r. r ++ 35 ∷ text) (rest_with (past_indicators before) text ends goes)
+comment_is : (style : BlockStyle) (before text : List ℕ) (h : Header) → header_of (indicator_of style ∷ (before ++ 35 ∷ text)) ≡ None → header_of (indicator_of style ∷ before) ≡ Some h → past_indicators (before ++ 35 ∷ text) ≡ 35 ∷ text
+unfolding sign_of digit_of
+comment_is style before text h lacks is = grind (arith, blanks_with)
 
 -- ---- one reason why a line is no header
 
@@ -54,7 +36,7 @@ module _ (style : BlockStyle) (here : Position) (line : List ℕ) (lacks : heade
 
   header_reason : (why : Problem) (at : Position) → IsNoHeader style here line why at → HeaderReason why at
   header_reason why at (none.by_zero zero) = inl (zero, refl, refl)
-  header_reason why at (none.by_comment h before text is cut) = inr (inl (before, text, cut, comment_is style line before text h lacks is cut, refl, refl))
+  header_reason why at (none.by_comment h before text is cut) = inr (inl (before, text, cut, rw cut (comment_is style before text h (rw cut at lacks) is), refl, refl))
   header_reason why at (none.by_text no_zero more begins) = inr (inr (no_zero, begins, refl, refl))
 
   one_header : (why1 why2 : Problem) (at1 at2 : Position) → IsNoHeader style here line why1 at1 → IsNoHeader style here line why2 at2 → (why1 ≡ why2) × (at1 ≡ at2)
@@ -148,9 +130,7 @@ abbrev declaration_wrong : List ℕ → Option Problem
 declaration_wrong text = (if begins_handle text then prefix_wrong (from_prefix text) else (if begins_with_mark text then Some TagDirectiveHandle else Some TagStart))
 
 declaration_is : (text : List ℕ) (why : Problem) → IsNoDeclaration text why → declaration_wrong text ≡ Some why
-declaration_is text why (directives.no_mark e) =
-    let no_mark_no_handle : begins_handle text ≡ false = grind (arith, e) in
-    rw (no_mark_no_handle, e) refl
+declaration_is text why (directives.no_mark e) = grind (arith, e)
 declaration_is text why (directives.open_name c name rest e lead none) = let lacks = no_handle c name rest lead none in rw e (rw lacks refl)
 declaration_is text why (directives.no_prefix is e) = rw (is, e) refl
 declaration_is text why (directives.by_octets f is begins e) = rw (is, begins, e) refl
