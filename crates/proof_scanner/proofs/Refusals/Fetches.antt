@@ -1,5 +1,5 @@
 -- The faults of a fetch: each of a kind that is told is one by which the text is stuck.
-use Rattle.proof_scanner.proofs.Common.{ap, are_marks, arith, Arrives, At, before_by, before_past, begins_document_at, begins_with, columns, eqb-true, false, fetch_content, fetch_here, fetch_stream_end, fetch_token, has_open_level, has_required, inl, inr, is_adjacent, is_document_marker, is_empty, List, may_not_stand, nat_le, nat_lt, nat_tests, next_line, not, peek, refl, ScannerState, site_here, subst, sym, Tok, true, ℕ, ◌&&◌, ◌+◌, ◌==◌, ◌||◌, ◌∙◌, ◌≡◌, ◌≤◌, cases_Bool, [], and_parts, AreLevels, Bool, if◌then◌else◌, Indent, innermost, is_deeper, IsNotRight, IsTopLevel, not_ended, ◌-◌, ◌∷◌, InvalidIndentation, KeyExpected, UnexpectedAt, UnexpectedBacktick, UnexpectedPercent}
+use Rattle.proof_scanner.proofs.Common.{ap, are_marks, arith, Arrives, At, before_by, before_past, begins_document_at, begins_with, columns, eqb-true, false, fetch_content, fetch_here, fetch_stream_end, fetch_token, has_open_level, has_required, inl, inr, is_adjacent, is_document_marker, is_empty, List, may_not_stand, nat_le, nat_lt, nat_tests, next_line, not, peek, refl, ScannerState, site_here, subst, sym, Tok, true, ℕ, ◌&&◌, ◌+◌, ◌==◌, ◌||◌, ◌∙◌, ◌≡◌, ◌≤◌, cases_Bool, [], AreLevels, Bool, Indent, is_deeper, not_ended, ◌-◌, ◌∷◌, InvalidIndentation, KeyExpected, UnexpectedAt, UnexpectedBacktick, UnexpectedPercent}
 use Rattle.model_scanner.specs.declared.kind.Collection.TheVariants.{Sequence, Mapping}
 use Rattle.model_scanner.specs.State.{after}
 use Rattle.proof_scanner.proofs.Refusals.Common.{Faults, IsDeep, IsRowless, IsWhy, LiesDeep, Told, content_holds, either, fault, goes_on_here, no_end, none_begins, rowless_told, stuck_by, token_holds, tried}
@@ -14,16 +14,7 @@ use Rattle.proof_scanner.specs.NoPiece as none
 
 pub levels_end : (col : ℕ) (bs : List ℕ) (awaits : Bool) (i : ℕ) (ds : List Indent) → AreLevels i ds → not_ended col bs ≡ columns i ds → (awaits && is_deeper col bs) ≡ has_open_level ds → i ≤ col + 1
 levels_end col bs aw i [] a e o = omega (arith, a)
-levels_end col bs aw i (d ∷ ds) a e o = by d.needs_block_end a.0 e o
-  where
-    by : (b : Bool) → IsTopLevel b i d.indent ds → not_ended col bs ≡ (if b then (i - 1) ∷ columns d.indent ds else columns d.indent ds) → (aw && is_deeper col bs) ≡ not b → i ≤ col + 1
-    by true t f o =
-        let first : i - 1 ≤ col = subst (λ x. IsNotRight (innermost x) col) f (first_stays col bs) in
-        omega (arith, first)
-    by false t f o =
-        let deeper : is_deeper col bs ≡ true = (and_parts aw (is_deeper col bs) o).1 in
-        let outer : d.indent ≤ col = grind (arith, nat_tests, eqb-true) in
-        omega (arith, t.0, outer)
+levels_end col bs aw i (d ∷ ds) a e o = grind (arith, nat_tests, first_stays col bs)
 
 module _ {text : List ℕ} {t : ScannerState} (a : Arrives text t) (some : is_empty t.rest ≡ false) where
   -- ---- the token by the first character

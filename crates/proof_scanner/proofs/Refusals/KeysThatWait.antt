@@ -220,9 +220,7 @@ further_in text f rest p at = record {
 }
 
 place_past : (text : List ℕ) (x y : Account) (w : Step) (next : List ℕ) → IsPositionIn text (w.separation ++ (w.piece ++ next)) x.site.position → account_past x w next ≡ Some y → IsPositionIn text next y.site.position
-place_past text x y w next at e =
-    let place : Made x.site x.line x.entries w next y → y.site.position ≡ position_after (position_after x.site.position w.separation (w.piece ++ next)) w.piece next = λ h. grind (arith, nat_tests, eqb-true, outside, inside) in
-    subst (IsPositionIn text next) (sym (place (made x.site x.line x.entries w next y e))) (further_in text w.piece next _ (further_in text w.separation (w.piece ++ next) x.site.position at))
+place_past text x y w next at e = grind (arith, (made x.site x.line x.entries w next y e), further_in)
 
 -- A separation after a beginning of a row ends where the scanner is, before the same text.
 same_place : (text separation rest : List ℕ) (p : Position) (b : Account) → has_no_nul text ≡ true → IsPositionIn text rest p → Begins text (separation ++ rest) b → p ≡ position_after b.site.position separation rest

@@ -27,6 +27,14 @@ pub stand_content : (s : Stand) (c : ℕ) (r : List ℕ) → ends_with_content c
 stand_content s c [] h = grind arith
 stand_content s c (d ∷ r) h = stand_content (past s c) d r h
 
+stand_inside : (d : ℕ) (r : List ℕ) → ends_with_content d r ≡ true → stand_after inside r ≡ inside
+stand_inside d [] h = refl
+stand_inside d (c ∷ r) h = stand_content inside c r h
+
+-- a whole scalar has a character, and ends with content
+whole_parts : (fl : Bool) (coll : Option ℕ) (piece next : List ℕ) → is_whole_plain fl coll piece next ≡ true → (d : ℕ) × (r : List ℕ) × (piece ≡ d ∷ r) × (ends_with_content d r ≡ true) × (stops fl coll inside next ≡ true)
+whole_parts fl coll a next h = grind arith
+
 -- ---- where one comes
 
 -- where the dispatch looks for a plain scalar the text begins with one, or with a dash before another thing
@@ -206,7 +214,7 @@ module _ {a : Account} {separation rest : List ℕ} {here : Position} (s : StepA
             (ap (λ b. not (b && has_dash_before_flow s.step.piece s.next)) (sym (same_flow a.entries s.account.entries s.is_like.2) ∙ flow) ∙ ap not dashed_there),
       )
   -- a TAB that indents a line of it, or the one after it
-  no_plain_stands is_clear why at (none.by_tab before blanks more column cut over stands low are token) = by s.step.piece refl (splits s.step.piece before s.next (9 ∷ (blanks ++ more)) (s.text_is ∙ cut))
+  no_plain_stands is_clear why at (none.by_tab before blanks more column cut over stands low are token) = by (splits s.step.piece before s.next (9 ∷ (blanks ++ more)) (s.text_is ∙ cut))
     where
       least : ℕ
       least = least_column (site_at_place a here).blocks true
@@ -236,37 +244,27 @@ module _ {a : Account} {separation rest : List ℕ} {here : Position} (s : StepA
           let gap : is_gap q ≡ true = white_between fl coll inside q (9 ∷ (blanks ++ more)) goes (ap (stops fl coll inside) (sym e) ∙ ends) in
           let whole : is_gap (q ++ 9 ∷ blanks) ≡ true = gap_more q blanks gap are in
           let tab = gap_tab least column q blanks gap are low stand in
-          let solid = token_begins in
           let spaced : is_indented_by_spaces steps.plain_scalar s.past.site.blocks s.past.site.awaits (q ++ 9 ∷ blanks) ≡ true =
-          subst (λ y. is_indented_by_spaces y s.past.site.blocks s.past.site.awaits (q ++ 9 ∷ blanks) ≡ true) before_is (is_clear before_is (q ++ 9 ∷ blanks) more (e ∙ sym (append_assoc q (9 ∷ blanks) more)) whole solid.0 solid.1) in
+          subst (λ y. is_indented_by_spaces y s.past.site.blocks s.past.site.awaits (q ++ 9 ∷ blanks) ≡ true) before_is (is_clear before_is (q ++ 9 ∷ blanks) more (e ∙ sym (append_assoc q (9 ∷ blanks) more)) whole token_begins.0 token_begins.1) in
           cc (tab.1, next_clear least s.past.site.blocks (q ++ 9 ∷ blanks) s.past.site.awaits whole (ap (λ (x : Site). least_column x.blocks true) past_is ∙ ap (λ (x : Site). least_column x.blocks true) site_is) spaced tab.0)
 
-      by : (piece : List ℕ) → s.step.piece ≡ piece → More s.step.piece before s.next (9 ∷ (blanks ++ more)) ⊎ More before s.step.piece (9 ∷ (blanks ++ more)) s.next → ⊥
-      by [] e m = let w : is_whole_plain fl coll [] s.next ≡ true = ap (λ x. is_whole_plain fl coll x s.next) (sym e) ∙ whole in cc w
-      by (d ∷ r) e m =
-          let w : is_whole_plain fl coll (d ∷ r) s.next ≡ true = ap (λ x. is_whole_plain fl coll x s.next) (sym e) ∙ whole in
-          let q = and_parts (goes_on fl coll inside r s.next && ends_with_content d r) (stops fl coll inside s.next) w in
-          let z = and_parts (goes_on fl coll inside r s.next) (ends_with_content d r) q.0 in
-          of z.1 q.1 m
-        where
-          here_stands : (r : List ℕ) (d : ℕ) → ends_with_content d r ≡ true → stand_after inside r ≡ inside
-          here_stands [] d h = refl
-          here_stands (x ∷ r) d h = stand_content inside x r h
+      w : (d : ℕ) × (r : List ℕ) × (s.step.piece ≡ d ∷ r) × (ends_with_content d r ≡ true) × (stops fl coll inside s.next ≡ true)
+      w = whole_parts fl coll s.step.piece s.next whole
 
-          of : ends_with_content d r ≡ true → stops fl coll inside s.next ≡ true → More s.step.piece before s.next (9 ∷ (blanks ++ more)) ⊎ More before s.step.piece (9 ∷ (blanks ++ more)) s.next → ⊥
-          of content ends (inl m) =
-              let longer : before ≡ d ∷ (r ++ m.more) = m.longer ∙ ap (λ p. p ++ m.more) e in
-              let stand : stand_after (past after_blank d) (r ++ m.more) ≡ on_line column = ap (stand_after after_blank) (sym longer) ∙ stands in
-              let goes : goes_on fl coll inside (r ++ m.more) (9 ∷ (blanks ++ more)) ≡ true = ap (λ b. goes_over fl coll b (9 ∷ (blanks ++ more))) (sym longer) ∙ over in
-              in_gap m.more m.rest (ap (λ t. stand_after t m.more) (sym (stand_content after_blank d r content)) ∙ (sym (stand_over (past after_blank d) r m.more) ∙ stand))
-              (ap (λ t. goes_on fl coll t m.more (9 ∷ (blanks ++ more))) (sym (here_stands r d content)) ∙ goes_later fl coll inside r m.more (9 ∷ (blanks ++ more)) goes) ends
-          of content ends (inr m) = tail m.more m.longer m.rest
-            where
-              tail : (z : List ℕ) → s.step.piece ≡ before ++ z → 9 ∷ (blanks ++ more) ≡ z ++ s.next → ⊥
-              tail [] longer rest =
-                  let same : before ≡ d ∷ r = sym (append-nil before) ∙ (sym longer ∙ e) in
-                  cc (stands, ap (stand_after after_blank) same, stand_content after_blank d r content)
-              tail (x ∷ z) longer rest =
-                  let first : x ≡ 9 = cc rest in
-                  let cut : s.step.piece ≡ before ++ 9 ∷ z = longer ∙ ap (λ y. before ++ y ∷ z) first in
-                  (blanks_end 9 z blanks more s.next tab_blank (ends_later before d r 9 z (sym e ∙ cut) content) (tab_line least column before z stands low (ap (plain_lines_fit least) (sym cut) ∙ lines)) (cc rest) are token)
+      after : stand_after after_blank s.step.piece ≡ inside
+      after = ap (stand_after after_blank) w.2 ∙ stand_content after_blank w.0 w.1 w.3
+
+      -- in the piece
+      in_piece : (z : List ℕ) → s.step.piece ≡ before ++ z → 9 ∷ (blanks ++ more) ≡ z ++ s.next → ⊥
+      in_piece [] longer rest = cc (stands, ap (stand_after after_blank) (sym (append-nil before) ∙ sym longer), after)
+      in_piece (x ∷ z) longer rest =
+          let first : x ≡ 9 = cc rest in
+          let cut : s.step.piece ≡ before ++ 9 ∷ z = longer ∙ ap (λ y. before ++ y ∷ z) first in
+          blanks_end 9 z blanks more s.next tab_blank (ends_later before w.0 w.1 9 z (sym w.2 ∙ cut) w.3) (tab_line least column before z stands low (ap (plain_lines_fit least) (sym cut) ∙ lines)) (cc rest) are token
+
+      by : More s.step.piece before s.next (9 ∷ (blanks ++ more)) ⊎ More before s.step.piece (9 ∷ (blanks ++ more)) s.next → ⊥
+      by (inl m) =
+          let goes : goes_on fl coll inside (w.1 ++ m.more) (9 ∷ (blanks ++ more)) ≡ true = ap (λ b. goes_over fl coll b (9 ∷ (blanks ++ more))) (sym (m.longer ∙ ap (λ p. p ++ m.more) w.2)) ∙ over in
+          in_gap m.more m.rest (ap (λ t. stand_after t m.more) (sym after) ∙ (sym (stand_over after_blank s.step.piece m.more) ∙ (ap (stand_after after_blank) (sym m.longer) ∙ stands)))
+          (ap (λ t. goes_on fl coll t m.more (9 ∷ (blanks ++ more))) (sym (stand_inside w.0 w.1 w.3)) ∙ goes_later fl coll inside w.1 m.more (9 ∷ (blanks ++ more)) goes) w.4
+      by (inr m) = in_piece m.more m.longer m.rest
