@@ -50,7 +50,7 @@ module _ (least : ℕ) (here : Position) (rest : List ℕ) where
 
   module _ (single : Bool) (more : List ℕ) where
     indented : (es : List Element) → are_indented least es ≡ true → all_stand least within (past here).col (es ++ []) ≡ true
-    indented es h = ap (all_stand least within (past here).col) (append-nil es) ∙ (sym (indented_are least (past here).col es) ∙ h)
+    indented es h = ap (all_stand least within (past here).col) (append-nil es) ∙ (sym (indented_are least within (past here).col es) ∙ h)
 
     -- a body without a wrong line is walked along to what is wrong after it
     walked : (why : Problem) (at : Position) (k : Bool) (last es : List Element) (body r : List ℕ) → more ≡ body ++ r → begins_with 10 r ≡ false → elements (element_of single) 0 body ≡ Some es → all_stand least within (past here).col (es ++ last) ≡ true → has_marker body r ≡ k
@@ -64,7 +64,7 @@ module _ (least : ℕ) (here : Position) (rest : List ℕ) where
     by_text why (none.by_marker body r e has marks) first = walked why here true [] has.0 body r e (further_is_no_break 0 r first.0) has.1 (indented has.0 first.1) marks (λ t q x h _. by_marker h) (λ f n. absurd (cc n))
     by_text why (none.by_end has) first = walked why here false [] has.0 more [] (sym (append-nil more)) refl has.1 (indented has.0 first.1) first.0 (λ t q x h n. absurd (cc n)) (λ f n. by_end refl)
     by_text why (none.by_escape body r _ double e has bad) first =
-        walked why here false (content 92 ∷ []) has.0 body (92 ∷ r) e refl has.1 (sym (indented_are least (past here).col (has.0 ++ content 92 ∷ [])) ∙ first.1) first.0 (λ t q x h n. absurd (cc n)) (λ f n. by_escape r why double refl bad f)
+        walked why here false (content 92 ∷ []) has.0 body (92 ∷ r) e refl has.1 (sym (indented_are least within (past here).col (has.0 ++ content 92 ∷ [])) ∙ first.1) first.0 (λ t q x h n. absurd (cc n)) (λ f n. by_escape r why double refl bad f)
 
     by_lines : rest ≡ quote_of single ∷ more → (why : Problem) (at : Position) (n : IsQuotedFault single least here rest why at) → lines_first single least here rest why at n → Reason single least here within (past here) more why at
     unfolding classes.is_break classes.is_blank

@@ -213,12 +213,9 @@ module _ (single : Bool) (ctx : Context) (start : Position) (least : ℕ) (limit
   each_ends zero (c ∷ b) full = let q = and_parts (is_some c) (list_all is_some b) full in by_element c b (element_of single c b) refl (not-true (c == 0) q.0) (λ n. each_ends n b q.1)
 
   -- the whole scalar, where it may begin
-  whole_ends : nat_lt ((start.col + 1) + 1) ctx.indent ≡ false → (more : List ℕ) → list_all is_some more ≡ true → Ends within (past start) more (quoted single ctx (quote_of single ∷ more) start)
+  pub whole_ends : nat_lt ((start.col + 1) + 1) ctx.indent ≡ false → (more : List ℕ) → list_all is_some more ≡ true → Ends within (past start) more (quoted single ctx (quote_of single ∷ more) start)
   unfolding quoted
   whole_ends low more full = ends_on within (past start) more _ _ (first_is_gap single ctx start more (past start) (off_margin start.col 0) low) (each_ends 0 more full within (past start) gap nothing (in_line (sym (limit (start.col + 1)) ∙ low)))
-
-  pub quoted_ends : ctx.indent ≤ start.col + 1 → (more : List ℕ) → list_all is_some more ≡ true → Ends within (past start) more (quoted single ctx (quote_of single ∷ more) start)
-  quoted_ends deep = whole_ends (grind (arith, nat_tests, deep))
 
   -- what is read is a body whose lines are indented
   pub record IsBody (q : ℕ) (body : List ℕ) (x : Read (List ℕ)) : Type 0 where
@@ -243,7 +240,7 @@ module _ (single : Bool) (ctx : Context) (start : Position) (least : ℕ) (limit
           let v = parted single least start _ within (past start) (body ++ quote_of single ∷ x.rest) w in
           let same : body ≡ v.body = append_cancel_right body v.body (quote_of single ∷ x.rest) (v.is_text ∙ ap (λ r. v.body ++ r) (v.holds.is_quote ∙ ap (λ (z : Read (List ℕ)). quote_of single ∷ z.rest) read)) in
           record {
-            lines = rw (body_between (quote_of single) body, same, v.are) (lines_close least (start.col + 1) v.es ∙ v.fits (before_quote (past_elements within v.es)) v.holds.fit);
+            lines = rw (body_between (quote_of single) body, same, v.are) (lines_close least within (start.col + 1) v.es ∙ v.fits (before_quote (past_elements within v.es)) v.holds.fit);
             end_is = position_of x.position (cc (v.holds.end_is, read, same, v.holds.is_quote));
           }
 

@@ -142,35 +142,26 @@ spaces_fit : (n k least : ℕ) → least ≡ k + n → fits_at least at_start k 
 spaces_fit zero k least e = deep_is k least ∙ grind (arith, nat_tests, e)
 spaces_fit (suc n) k least e = fits_past least at_start k (blank 32) (replicate n (blank 32)) ∙ spaces_fit n (suc k) least (omega (arith, e))
 
-fits_are : (least : ℕ) (s : LineStand) (k : ℕ) (es : List Element) → fits_at least s k (es ++ line_break ∷ replicate least (blank 32)) ≡ all_stand least s k es
-fits_are least s k [] = fits_past least s k line_break (replicate least (blank 32)) ∙ spaces_fit least 0 least (omega arith)
-fits_are least s k (e ∷ es) = fits_past least s k e (es ++ line_break ∷ replicate least (blank 32)) ∙ ap (λ b. stands least s k e && b) (fits_are least (past_element s e) (column_past k e) es)
-
 -- The lines of elements are indented as far as they go, if each element may stand.
-pub indented_are : (least k : ℕ) (es : List Element) → are_indented least es ≡ all_stand least within k es
-indented_are least k es = fits_are least within k es
+pub indented_are : (least : ℕ) (s : LineStand) (k : ℕ) (es : List Element) → fits_at least s k (es ++ line_break ∷ replicate least (blank 32)) ≡ all_stand least s k es
+indented_are least s k [] = fits_past least s k line_break (replicate least (blank 32)) ∙ spaces_fit least 0 least (omega arith)
+indented_are least s k (e ∷ es) = fits_past least s k e (es ++ line_break ∷ replicate least (blank 32)) ∙ ap (λ b. stands least s k e && b) (indented_are least (past_element s e) (column_past k e) es)
 
 -- what may stand before a closing quote that begins a line, stands there too; after an escaped break the quote begins none
 abbrev pub before_quote : LineStand → List Element
 before_quote past_escaped = []
 before_quote s = content 92 ∷ []
 
-fits_closed : (least : ℕ) (s : LineStand) (k : ℕ) (es : List Element) → fits_at least s k es ≡ all_stand least s k (es ++ before_quote (past_elements s es))
-fits_closed least s k [] = grind (arith, deep_is, empty_here)
-fits_closed least s k (e ∷ es) = fits_past least s k e es ∙ ap (λ b. stands least s k e && b) (fits_closed least (past_element s e) (column_past k e) es)
-
 -- The lines of a whole body are indented just where each element may stand, and the closing quote.
-pub lines_close : (least k : ℕ) (es : List Element) → further_lines_fit least (lines_of es) ≡ all_stand least within k (es ++ before_quote (past_elements within es))
-lines_close least k es = fits_closed least within k es
+pub lines_close : (least : ℕ) (s : LineStand) (k : ℕ) (es : List Element) → fits_at least s k es ≡ all_stand least s k (es ++ before_quote (past_elements s es))
+lines_close least s k [] = grind (arith, deep_is, empty_here)
+lines_close least s k (e ∷ es) = fits_past least s k e es ∙ ap (λ b. stands least s k e && b) (lines_close least (past_element s e) (column_past k e) es)
 
 -- within a line the column does not matter
 within_alike : (least k j : ℕ) (es : List Element) → all_stand least within k es ≡ all_stand least within j es
 within_alike least k j (content c ∷ es) = within_alike least k j es
 within_alike least k j (blank c ∷ es) = within_alike least (suc k) (suc j) es
 within_alike least k j a = grind arith
-
-own : (single : Bool) (c : ℕ) (b : List ℕ) (s : Spelled) → element_of single c b ≡ Some s → Local (element_of single c) b s
-own single c b s is = subst (λ o. LocalOf (element_of single c) b o) is (local single c b)
 
 -- ---- escapes that are none
 
@@ -319,13 +310,13 @@ module _ (single : Bool) (least : ℕ) (start : Position) where
             arrived (subst (λ x. (all_stand least (past_elements s x) p.col last ≡ true → is_marked p r ≡ false → k ≡ false → G (past_elements s x) p r) → all_stand least s p.col (x ++ last) ≡ true → G s p r) none (λ f x. f x g (sym own ∙ g)) end fit)
       ]
   walk_of G last k r no_feed marker zero (c ∷ b) es s p l h fit m end =
-      -- its characters are there
-      let enough : (single : Bool) (c : ℕ) (b : List ℕ) (s : Spelled) → element_of single c b ≡ Some s → s.further ≤ length b = λ single c b s is. let f = (own single c b s is).fits in omega (arith, f, length-take s.further b) in
       -- the elements of a body begin with one
       let f : (x : Spelled) × (element_of single c b ≡ Some x) × (others : List Element) × (elements (element_of single) x.further b ≡ Some others) × (es ≡ x.element ∷ others) = grind arith in
       let e : Spelled = f.0 in
-      let fits : e.further ≤ length b = enough single c b e f.1 in
-      let is : element_of single c (b ++ r) ≡ Some e = (own single c b e f.1).onward r no_feed in
+      -- its characters are there
+      let own : Local (element_of single c) b e = subst (λ o. LocalOf (element_of single c) b o) f.1 (local single c b) in
+      let fits : e.further ≤ length b = let k = own.fits in omega (arith, k, length-take e.further b) in
+      let is : element_of single c (b ++ r) ≡ Some e = own.onward r no_feed in
       let q : Position = after_it single c (b ++ r) e is p in
       let rest : drop e.further (b ++ r) ≡ drop e.further b ++ r = drop-append-le e.further b r fits in
       let whole : take e.further (b ++ r) ++ drop e.further b ≡ b = ap (λ x. x ++ drop e.further b) (take-append-le e.further b r fits) ∙ take-append-drop e.further b in

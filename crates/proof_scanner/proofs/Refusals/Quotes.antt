@@ -7,7 +7,7 @@ use Rattle.proof_scanner.proofs.Refusals.AfterQuoted.{check_passes, unglued as n
 use Rattle.proof_scanner.proofs.Refusals.QuotedReasons.{not_closed, after_quote_at, all_stand, indented_are, is_marked, by_end, by_escape, by_column, by_tab, by_marker, placed, Wrong, Reason, Parted, parted, lines_close}
 use Rattle.proof_scanner.specs.NoPiece as none
 use Rattle.proof_scanner.specs.QuotedLines as lines
-use Rattle.proof_scanner.proofs.Refusals.QuotedLines.{is_of_lines, refused, reads, quoted_ends}
+use Rattle.proof_scanner.proofs.Refusals.QuotedLines.{is_of_lines, refused, reads, whole_ends}
 use Rattle.proof_scanner.proofs.Refusals.Passing.{TabStands, skip_refused}
 use Rattle.proof_scanner.specs.Failing as defs
 
@@ -163,7 +163,7 @@ module _ {text : List ℕ} {t : ScannerState} (a : Arrives text t) (some : is_em
             let es = has_elements single b.body b.value b.value_is in
             let whole : quoted_lines_fit least (element_of single) (none.quote_of single ∷ (b.body ++ none.quote_of single ∷ [])) ≡ true = ap (quoted_lines_fit least (element_of single)) (sym b.piece_is) ∙ i in
             let fit : further_lines_fit least (lines_of es.0) ≡ true = rw (body_between (none.quote_of single) b.body, es.1) at whole in
-            absurd (not_closed single least here within (past here) b.body next es.0 b.ends es.1 (sym (lines_close least (past here).col es.0) ∙ fit) why at unlike (rw (sym b.is_text) x))
+            absurd (not_closed single least here within (past here) b.body next es.0 b.ends es.1 (sym (lines_close least within (past here).col es.0) ∙ fit) why at unlike (rw (sym b.is_text) x))
         | inr i ↦ i
       ]
 
@@ -175,7 +175,7 @@ module _ {text : List ℕ} {t : ScannerState} (a : Arrives text t) (some : is_em
           x = parted single least here _ within (past here) more w
 
           indented : are_indented least x.es ≡ true
-          indented = indented_are least (past here).col x.es ∙ (ap (all_stand least within (past here).col) (sym (append-nil x.es)) ∙ x.fits [] refl)
+          indented = indented_are least within (past here).col x.es ∙ (ap (all_stand least within (past here).col) (sym (append-nil x.es)) ∙ x.fits [] refl)
 
           marks : (b : Bool) → is_marked (position_after (past here) x.body x.rest) x.rest ≡ b → has_marker x.body x.rest ≡ b
           marks b h = rw (off_margin here.col 0) at (x.marks ∙ h)
@@ -193,7 +193,7 @@ module _ {text : List ℕ} {t : ScannerState} (a : Arrives text t) (some : is_em
           of why at is w (placed _ _ free (by_escape next _ double cut bad may)) =
               none_begins a some lies why _
               (none.unquoted single more why e (none_there (ap is_of_lines (sym is) ∙ not_of_lines next why here bad)) (none.by_escape x.body next why double (x.is_text ∙ ap (λ r. x.body ++ r) cut) (x.es, x.are) bad))
-              (ap (λ r. has_marker x.body r) (sym cut) ∙ marks false free, indented_are least (past here).col (x.es ++ content 92 ∷ []) ∙ x.fits (content 92 ∷ []) may)
+              (ap (λ r. has_marker x.body r) (sym cut) ∙ marks false free, indented_are least within (past here).col (x.es ++ content 92 ∷ []) ∙ x.fits (content 92 ∷ []) may)
           of why at is w (placed _ _ free (by_column solid further low)) =
               lines_stuck single QuotedIndentation here (none_fits why at (λ k. absurd (cc k)) w)
               (lines.by_column x.body x.rest x.es (e ∙ ap (λ r. none.quote_of single ∷ r) x.is_text) x.are solid further (ap (λ (q : Position). nat_lt q.col least) (after_quote_at single here x.body x.rest) ∙ low))
@@ -206,7 +206,7 @@ module _ {text : List ℕ} {t : ScannerState} (a : Arrives text t) (some : is_em
               (ap (λ r. has_marker x.body r) (sym cut) ∙ marks false free, indented))
 
     pub refused_told : has_no_nul more ≡ true → (f : Fault) → quoted single ctx (none.quote_of single ∷ more) here ≡ Err f → Told text f
-    refused_told clean f fails = elim (quoted_ends single ctx here least limit (omega (arith, deep, same)) more (some_chars more clean)) [
+    refused_told clean f fails = elim (whole_ends single ctx here least limit (grind (arith, nat_tests, deep, same)) more (some_chars more clean)) [
       | reads y w i ↦ absurd (cc (i, fails))
       | refused why at h i ↦ let is : At why at ≡ f = cc (i, fails) in rw (sym is) (λ _. told_by f fails why at is h)
     ]
