@@ -59,14 +59,9 @@ module _ {text : List ℕ} {t : ScannerState} (a : Arrives text t) (some : is_em
       λ _. rw q.end_is
       (followed_stuck a some lies CommentNotSeparated (position_after t.held.position piece x.rest) (none.glued_to_quoted single piece x.rest q.cut is h) (λ c may. fits))
 
-  refuses : (v : ScannerState) → skip_spaces Yes closed ≡ Ok v → may_follow_quoted (in_flow v.held) (t.held.position.line == v.held.position.line) (peek v.rest) ≡ false
-      → check_after_quoted t.held.position.line closed ≡ Err (At ContentAfterQuoted v.held.position)
-  unfolding check_after_quoted
-  refuses v e n = rw (e, n) refl
-
-  may_not_end : (v : ScannerState) → skip_spaces Yes closed ≡ Ok v → may_follow_quoted (in_flow v.held) (t.held.position.line == v.held.position.line) (peek v.rest) ≡ false → quoted_may_end (in_flow t.held) piece x.rest ≡ false
-  may_not_end v e n = elim (cases_Bool (quoted_may_end (in_flow t.held) piece x.rest)) [
-    | inl i ↦ absurd (cc ((check_passes t.held.position piece closed q.end_is (ap (λ b. quoted_may_end b piece x.rest) (ap in_flow (saved_is t.held)) ∙ i)).is, refuses v e n))
+  may_not_end : (v : ScannerState) → Spaced Yes closed v → may_follow_quoted (in_flow v.held) (t.held.position.line == v.held.position.line) (peek v.rest) ≡ false → quoted_may_end (in_flow t.held) piece x.rest ≡ false
+  may_not_end v s n = elim (cases_Bool (quoted_may_end (in_flow t.held) piece x.rest)) [
+    | inl i ↦ absurd (cc (check_passes t.held.position piece closed v q.end_is (ap (λ b. quoted_may_end b piece x.rest) (ap in_flow (saved_is t.held)) ∙ i) s, n))
     | inr i ↦ i
   ]
 
@@ -81,7 +76,7 @@ module _ {text : List ℕ} {t : ScannerState} (a : Arrives text t) (some : is_em
       let place : v.held.position ≡ position_after end passed v.rest = ap (λ h. h.position) s.is_held ∙ ap (λ p. position_after p passed v.rest) q.end_is in
       λ _. rw place
       (followed_stuck a some lies ContentAfterQuoted (position_after end passed v.rest)
-      (none.after_quoted single piece x.rest passed v.rest q.cut is (may_not_end v e n) (record { is_text = s.is_rest ∙ sym (append_assoc s.blanks s.comment v.rest); is_filled = s.is_filled; is_on_line = s.no_break })
+      (none.after_quoted single piece x.rest passed v.rest q.cut is (may_not_end v s n) (record { is_text = s.is_rest ∙ sym (append_assoc s.blanks s.comment v.rest); is_filled = s.is_filled; is_on_line = s.no_break })
       solid_left) (λ c may. (fits, held_of v (unglued Yes closed) e)))
 
   pub after_told : Faults (Told text) (check_after_quoted t.held.position.line closed)
