@@ -3,9 +3,8 @@ use Rattle.proof_scanner.proofs.Common.{[], inl, inr, ◌⊎◌, arith, if◌the
 use Rattle.defs_text.specs.Classes as classes
 use Rattle.proof_row.proofs.Quotes.{singles, doubles}
 use Rattle.proof_scanner.specs.NoPiece as none
-use Rattle.proof_scanner.specs.NoPiece.{quote_of}
 use Rattle.proof_scanner.specs.QuotedLines as lines
-use Rattle.proof_scanner.proofs.Refusals.Common.{ends_before, same_has_break}
+use Rattle.proof_scanner.proofs.Refusals.Common.{ends_before, same_has_break, quote_of}
 use Rattle.proof_scanner.proofs.Refusals.TextsRefused.{begins_lines}
 use Rattle.proof_scanner.proofs.Refusals.QuotedReasons.{one_reason, walk_of, after_quote_at, all_stand, indented_are, is_marked, by_end, by_escape, by_column, by_tab, by_marker, placed, Place, Wrong, Reason}
 

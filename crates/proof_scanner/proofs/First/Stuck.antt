@@ -1,13 +1,12 @@
 -- A text is stuck at one place, with one kind.
 use Rattle.proof_scanner.proofs.Common.{Account, account_past, ap, Begins, Bool, colon_may_precede, fails, FailsFirst, false, first_account, HasNoKey, inl, inr, is_in_flow, is_taken, is_value_here, IsLike, IsLookedAt, IsPlace, IsStuck, key_waits, List, no_key, no_nul_after, Position, Problem, refl, Some, spelled, Step, subst, sym, true, up_to_nul, ℕ, ◌++◌, ◌∙◌, ◌∷◌, ◌≡◌, ◌⊎◌, arith, eqb-true, nat_tests, ValueNotAllowed, [], begins_separation, clean_up_to_end, comes_first, Fails, follows_plain, has_no_nul, is_empty, is_free_of_tabs, is_indented_by_spaces, is_separation, IsQuoted, position_after, separations, Site, cases_Bool, TabInBlockIndentation}
-use Rattle.proof_scanner.proofs.Refusals.Common.{leads_on, GivesUp, GoesOn, KeepsOn, LeadsBy, Meet, Same, Way, With, begins_at_start, begins_past, clean_after, ends_before, first_on, gap_is_separation, gives_up_like, like_sym, meet, same_place, second_on, step_here, strict_way, way_but_for_key, way_of}
+use Rattle.proof_scanner.proofs.Refusals.Common.{leads_on, GivesUp, GoesOn, KeepsOn, LeadsBy, Meet, Same, Way, With, begins_at_start, begins_past, clean_after, ends_before, first_on, gap_is_separation, gives_up_like, like_sym, meet, same_place, second_on, step_here, strict_way, way_but_for_key, way_of, no_comment}
 use Rattle.proof_scanner.proofs.Refusals.OtherRows.{StepAt, IsClearAfter, IsClearGapAfter, stood, step_from}
 use Rattle.proof_scanner.proofs.Refusals.PiecesRefused.{no_colon_here, node_site_past, quoted_here}
 use Rattle.proof_scanner.proofs.Refusals.NoRows.{keyless_step, no_step_stands, step_refuted}
 use Rattle.proof_scanner.proofs.Refusals.KeysThatWait.{Together, Apart, together_keeps, apart_keeps, first_together}
 use Rattle.proof_scanner.proofs.First.Reasons.{one_reason, colon_alone}
 use Rattle.defs_token.specs.Piece.{Holds}
-use Rattle.proof_scanner.proofs.Sound.PlainKeeps.{no_comment}
 use Rattle.defs_text.specs.Classes as classes
 use Rattle.proof_scanner.specs.Failing as failing
 

@@ -1,11 +1,9 @@
 -- Where a piece may not stand at its column, or before what follows it, no row of the text goes on.
 use Rattle.proof_scanner.proofs.Common.{block_token, dots, in_double_quotes, in_single_quotes, [], IsFollowed, MayNotStand, Problem, TabInBlockIndentation, Account, act_of, and_parts, ap, arith, begins_document_at, begins_entry, begins_separation, begins_with, begins_with_alpha, block_entry, block_may_end, block_read, BlockStyle, Bool, colon_may_precede, dash_may_precede, document_end, double_quoted, Entry, eqb-true, false, GoesOn, has, has_no_nul, if◌then◌else◌, innermost, is_alpha, is_at_gap, is_blank, is_blank_or_end, is_blanks, is_break, is_decimal_digit, is_empty, is_in_flow, is_letter, is_marker, is_nul, is_one_of, is_separation, IsPiece, IsQuoted, leading, least_column, least_for, level_of, List, may_precede, nat_le, nat_lt, nat_tests, None, not, Option, or_left, Position, position_after, quoted_may_end, refl, same_flow, scalar, seen, shown_position, single_quoted, Site, site_at_place, Some, Step, sym, Tok, true, value, ℕ, ◌++◌, ◌||◌, ◌∙◌, ◌∷◌, ◌≡◌, ◌≤◌, context_of, dash, flow_mapping_start, flow_sequence_start, inl, inr, is_adjacent, is_flow, kind_at, length, LikeEntries, mapping_opening, not_empty, sequence_opening, subst, suc, Whole, ◌==◌, ◌⊎◌, dash_marks, directive_begins, directive_of, dot_marks, Kind, or_true, piece_of, texts_begin, account_past, awaits_past, before_by, before_past, begins_free_line, begins_white_space, begins_with_space_or_break, colon, comma, entries_past, flow_entry, flow_mapping_end, flow_sequence_end, further_lines_stand, gives_colon, gives_dash, gives_node, gives_question, has_tab_before_piece, is_deep_enough, is_indented_by_spaces, is_near, is_renewed, is_taken, is_taken_line, is_value_here, is_value_indicator, Line, line_past_separation, mapping_closing, may_stand, on_one_line, past_inside, past_piece, previous_by, question, quoted_scalar, sequence_closing, site_past, takes_pair, waits, neither, length-map}
 use Rattle.proof_scanner.proofs.Refusals.AfterQuoted.{not_done, unglued}
-use Rattle.proof_scanner.proofs.Refusals.Common.{after_blanks, blanks_alone, made, same_innermost, waited}
+use Rattle.proof_scanner.proofs.Refusals.Common.{after_blanks, blanks_alone, made, same_innermost, waited, block_scalar, At}
 use Rattle.proof_row.proofs.Begins.{kind_there}
 use Rattle.proof_row.proofs.Pieces.{one_of}
-use Rattle.proof_row.specs.Ends.{block_scalar}
-use Rattle.proof_row.proofs.Written.{At}
 use Rattle.proof_scanner.proofs.Refusals.OtherRows.{StepAt, IsClearAfter, Stood, stood}
 use Rattle.proof_lexers.specs.PlainEnds.{has_break}
 use Rattle.defs_token.specs.Account as pieces

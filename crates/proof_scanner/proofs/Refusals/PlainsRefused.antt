@@ -1,14 +1,11 @@
 -- Where a plain scalar begins and is none, no row of the text goes on.
 use Rattle.proof_scanner.proofs.Common.{is_marker, [], IsPlainFault, Problem, splits, More, append-nil, stand_after, is_gap, ◌⊎◌, inl, inr, Account, act_of, after_blank, and_parts, ap, append_assoc, are_marks, arith, before_by, before_past, begins_flow, begins_plain, begins_token, Bool, comes_plain, dashes, ends_with_content, ends_with_dash, false, flow_solid, goes_on, goes_over, has_dash_before_flow, innermost, is_adjacent, is_apart, is_at_gap, is_blanks, is_deep_enough, is_document_marker, is_flow, is_in_flow, is_indented_by_spaces, is_nul, is_whole_plain, least_column, List, may_begin, may_precede, nat_lt, not, on_line, Option, or_true, plain_lines_fit, Position, previous_by, refl, same_flow, scalar, Site, site_at_place, site_past, Stand, stops, subst, sym, true, ℕ, ◌&&◌, ◌++◌, ◌==◌, ◌∙◌, ◌∷◌, ◌≡◌, eqb-true, nat_tests, and_false, zero, ◌-◌, ◌+◌, ◌<◌, suc, length, has_break, further_on, has_tab_within, last_line, or-true, begins_separation, is_empty, kind_at, is_break, is_blank, tab_blank}
 use Rattle.defs_token.specs.Plain.{inside, past}
-use Rattle.proof_row.specs.Ends.{plain_scalar}
 use Rattle.proof_row.proofs.Plains.{plains}
-use Rattle.proof_row.proofs.Written.{At}
 use Rattle.proof_scanner.proofs.Refusals.OtherRows.{StepAt, IsClearGapAfter}
 use Rattle.proof_scanner.proofs.Refusals.PiecesRefused.{Here, acct, whole_at, node_site_past, flow_is, node_site, node_stands, here_stood}
-use Rattle.proof_scanner.proofs.Sound.PlainKeeps.{same_innermost, no_comment}
 use Rattle.proof_row.proofs.Runs.{joined, neither}
-use Rattle.proof_scanner.proofs.Refusals.Common.{break_append, last_first, last_whole}
+use Rattle.proof_scanner.proofs.Refusals.Common.{break_append, last_first, last_whole, plain_scalar, At, same_innermost, no_comment}
 use Rattle.proof_scanner.proofs.Sound.PlainLines.{first_line, line_is, all_lines, feed_first, first_is, others_are}
 use Rattle.defs_text.specs.Classes as classes
 use Rattle.defs_token.specs.Account as pieces

@@ -3,17 +3,14 @@ use Rattle.proof_scanner.proofs.Common.{and_false, blocks, innermost, is_on_line
 use Rattle.defs_token.specs.Account as pieces
 use Rattle.model_scanner.specs.Tag as tags
 use Rattle.model_scanner.specs.Tag.{verbatim_end, verbatim, named, shorthand, tag_end, tag}
-use Rattle.proof_row.specs.Ends.{block_scalar}
 use Rattle.proof_row.proofs.TagEnds.{mark_is_first}
 use Rattle.proof_lexers.specs.DirectiveEnds as directives
 use Rattle.proof_scanner.specs.NoPiece as none
-use Rattle.proof_row.specs.Ends.{anchor_name}
 use Rattle.proof_lexers.specs.HeaderEnds.{ends_line}
 use Rattle.proof_lexers.proofs.Properties.Uris.{uris_are_read}
-use Rattle.proof_scanner.specs.NoPiece.{quote_of}
 use Rattle.proof_scanner.proofs.Refusals.OtherRows.{StepAt}
 use Rattle.proof_scanner.proofs.Refusals.PiecesRefused.{Here, acct, block_there, here_by, whole_by, rest_of, flow_is, node_stands, marker_begins, is_piece, spot, no_block_end}
-use Rattle.proof_scanner.proofs.Refusals.Common.{end_no_text}
+use Rattle.proof_scanner.proofs.Refusals.Common.{end_no_text, block_scalar, anchor_name, quote_of}
 
 -- ---- tags
 
