@@ -91,7 +91,7 @@ blanks_fill (c ∷ bs) rest h = grind (arith, fills_blank, same_blank, blanks_fi
 tabbed_is : (before : Previous) (bs : List ℕ) (awaits : Bool) (g : List ℕ) → begins_line before g ≡ true → has_tab_within (least_column bs awaits) (last_line g) ≡ true → is_indented_by_spaces before bs awaits g ≡ false
 tabbed_is before bs awaits g b h =
     let more : has_tab_within (least_column bs (awaits || follows_plain before g)) (last_line g ++ []) ≡ true = within_more (least_column bs awaits) (least_column bs (awaits || follows_plain before g)) (last_line g) [] (grind arith) h in
-    ap (λ x. not x || not (has_tab_within (least_column bs (awaits || follows_plain before g)) (last_line g))) b ∙ ap (λ x. not (has_tab_within (least_column bs (awaits || follows_plain before g)) x)) (sym (append-nil (last_line g))) ∙ ap not more
+    rw (b, rw append-nil at more) refl
 
 -- Where the way to the next token is refused, after a separation that was read so.
 pub skip_refused : (before : Previous) (bs : List ℕ) (awaits : Bool) (begin : Position) (separation : List ℕ) (t : ScannerState) → is_separation false separation t.rest ≡ true → t.held.position ≡ position_after begin separation t.rest → IsLeast before (least_column bs awaits) t.held →

@@ -158,10 +158,7 @@ module _ {text : List ℕ} {t : ScannerState} (a : Arrives text t) (some : is_em
   pub stuck_by : (why : Problem) (at : Position) (F : Bool → List ℕ → ℕ → Type 0) → F (in_flow t.held) (columns t.held.indent t.held.indents) (t.held.indent - 1)
       → ((c : Bool) → IsAllowed c → F (is_in_flow (account_by c []).entries) (site_at_place (account_by c []) t.held.position).blocks (least_here (account_by c []) t.held.position)
       → FailsFirst (account_by c []) a.separation t.held.position t.rest why at) → IsWhy text why at
-  stuck_by why at F x first =
-      stuck [] why at (λ c may.
-      first c may (subst (λ b. F b (site_at_place (account_by c []) t.held.position).blocks (least_here (account_by c []) t.held.position)) (sym (in_flow_is c []))
-      (subst (λ bs. F (in_flow t.held) bs (least_here (account_by c []) t.held.position)) (sym (blocks_by c [])) (subst (λ k. F (in_flow t.held) (columns t.held.indent t.held.indents) k) (sym (least_by c [])) x))))
+  stuck_by why at F x first = stuck [] why at (λ c may. first c may (rw (least_by c [], blocks_by c [], in_flow_is c []) x))
 
   module _ (deep : LiesDeep t) where
     -- a piece is looked at here, whatever is chosen

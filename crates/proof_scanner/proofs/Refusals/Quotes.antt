@@ -1,7 +1,7 @@
 -- Faults of quoted scalars: a further line is not indented, or what stands after the scalar may not follow it.
-use Rattle.proof_scanner.proofs.Common.{elements, inr, inl, cases_Bool, [], ap, append-nil, append_assoc, are_indented, AreNotIndented, arith, Arrives, At, begins_separation, begins_with, bodies_are_read, Bool, check_after_quoted, closed_first, content, Context, element_of, ends_before, Err, false, Fault, go_on, has_marker, has_no_nul, held_of, in_flow, is_breakz, is_document_marker, is_empty, IsBadEscape, IsQuoted, IsQuotedFault, lines_first, List, may_follow_quoted, nat_lt, no_quoted, node_start, not-true, off_margin, Ok, on_held, past, past_elements, peek, Position, position_after, Problem, quote_of, quoted, quoted_lines_fit, quoted_may_end, Read, refl, Result, ScannerState, skip_spaces, Some, sym, tab, true, unled, value_of, within, Yes, ℕ, ◌++◌, ◌+◌, ◌-◌, ◌==◌, ◌∙◌, ◌∷◌, ◌≡◌, further_lines_fit, lines_of, eqb-true, nat_tests, and_parts, CommentNotSeparated, ContentAfterQuoted, QuotedDocumentMarker, QuotedEnd, QuotedIndentation, TabAsIndentation, neither, subst, columns, has_break, has_open_level, is_indented_by_spaces, may_not_stand, no_nul_after, quoted_scalar, site_at_place, skip_to_next_token, TabInBlockIndentation}
+use Rattle.proof_scanner.proofs.Common.{elements, inr, inl, cases_Bool, [], ap, append-nil, append_assoc, are_indented, AreNotIndented, arith, Arrives, At, begins_separation, begins_with, bodies_are_read, Bool, check_after_quoted, closed_first, content, Context, element_of, ends_before, Err, false, Fault, go_on, has_marker, has_no_nul, held_of, in_flow, is_breakz, is_document_marker, is_empty, IsBadEscape, IsQuoted, IsQuotedFault, lines_first, List, may_follow_quoted, nat_lt, no_quoted, node_start, not-true, off_margin, Ok, on_held, past, past_elements, peek, Position, position_after, Problem, quote_of, quoted, quoted_lines_fit, quoted_may_end, Read, refl, Result, ScannerState, skip_spaces, Some, sym, tab, true, unled, value_of, within, Yes, ℕ, ◌++◌, ◌+◌, ◌-◌, ◌==◌, ◌∙◌, ◌∷◌, ◌≡◌, further_lines_fit, lines_of, eqb-true, nat_tests, and_parts, CommentNotSeparated, ContentAfterQuoted, QuotedDocumentMarker, QuotedEnd, QuotedIndentation, TabAsIndentation, neither, subst, columns, has_break, has_open_level, may_not_stand, no_nul_after, quoted_scalar, skip_to_next_token, TabInBlockIndentation}
 use Rattle.proof_lexers.specs.QuotedScan as scans
-use Rattle.proof_scanner.proofs.Refusals.Common.{Faults, IsDeep, IsWhy, LiesDeep, QuotedAs, Told, Spaced, either, fault, followed_stuck, goes, in_turn, looked_at, none_begins, piece_of, saved_is, solid_past, some_chars, spaces_skipped, spaces_told, stuck_by, unglued, Checked, account_by, awaits_by, blocks_by, in_line, least_by, least_is, mapped, quoted_checked, same_has_break, stuck}
+use Rattle.proof_scanner.proofs.Refusals.Common.{Faults, IsDeep, IsWhy, LiesDeep, QuotedAs, Told, Spaced, either, fault, followed_stuck, goes, in_turn, looked_at, none_begins, piece_of, saved_is, solid_past, some_chars, spaces_skipped, spaces_told, stuck_by, unglued, Checked, awaits_by, blocks_by, in_line, least_by, least_is, mapped, quoted_checked, same_has_break, stuck}
 use Rattle.proof_scanner.proofs.Sound.QuotedBreaks.{same_limit, has_elements, body_between}
 use Rattle.proof_scanner.proofs.Refusals.AfterQuoted.{check_passes, unglued as not_glued}
 use Rattle.proof_scanner.proofs.Refusals.QuotedReasons.{not_closed, after_quote_at, all_stand, indented_are, is_marked, by_end, by_escape, by_column, by_tab, by_marker, placed, Wrong, Reason, Parted, parted, lines_close}
@@ -110,8 +110,7 @@ module _ {text : List ℕ} {t : ScannerState} (a : Arrives text t) (some : is_em
         (stuck a some [] TabInBlockIndentation (position_after end gap d.rest) (λ k may.
         record {
           fails = may_not_stand (defs.tab_after_quoted single piece gap d.rest (q.cut ∙ ap (λ r. piece ++ r) cut) (rw (sym cut) (is)) d.is_filled d.goes_on d.is_solid
-              (ap (λ bs. is_indented_by_spaces quoted_scalar bs (site_at_place (account_by a some k []) t.held.position).awaits gap) (blocks_by a some k []) ∙
-              (ap (λ w. is_indented_by_spaces quoted_scalar blocks w gap) (awaits_by a some k []) ∙ d.is_indented_by_tab)));
+              (rw (blocks_by a some k [], awaits_by a some k []) d.is_indented_by_tab));
           is_first = (looked_at a some lies k [], rw (least_by a some k []) (fits), rw (sym cut) (not_glued (in_flow closed.held) piece x.rest c.may_end));
         })))
 
