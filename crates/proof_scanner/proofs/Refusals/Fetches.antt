@@ -1,5 +1,5 @@
 -- The faults of a fetch: each of a kind that is told is one by which the text is stuck.
-use Rattle.proof_scanner.proofs.Common.{ap, are_marks, arith, Arrives, At, before_by, before_past, begins_document_at, begins_with, columns, eqb-true, false, fetch_content, fetch_here, fetch_stream_end, fetch_token, has_open_level, has_required, inl, inr, is_adjacent, is_document_marker, is_empty, List, may_not_stand, nat_le, nat_lt, nat_tests, next_line, not, peek, refl, ScannerState, site_here, subst, sym, Tok, true, ℕ, ◌&&◌, ◌+◌, ◌==◌, ◌||◌, ◌∙◌, ◌≡◌, ◌≤◌, cases_Bool, [], AreLevels, Bool, Indent, is_deeper, not_ended, ◌-◌, ◌∷◌, InvalidIndentation, KeyExpected, UnexpectedAt, UnexpectedBacktick, UnexpectedPercent}
+use Rattle.proof_scanner.proofs.Common.{ap, are_marks, arith, Arrives, At, before_by, before_past, begins_document_at, begins_with, columns, eqb-true, false, fetch_content, fetch_here, fetch_stream_end, fetch_token, has_open_level, has_required, inl, inr, is_adjacent, is_document_marker, is_empty, List, may_not_stand, nat_le, nat_lt, nat_tests, next_line, not, peek, refl, ScannerState, sym, Tok, true, ℕ, ◌&&◌, ◌+◌, ◌==◌, ◌||◌, ◌∙◌, ◌≡◌, ◌≤◌, cases_Bool, [], AreLevels, Bool, Indent, is_deeper, not_ended, ◌-◌, ◌∷◌, InvalidIndentation, KeyExpected, UnexpectedAt, UnexpectedBacktick, UnexpectedPercent}
 use Rattle.model_scanner.specs.declared.kind.Collection.TheVariants.{Sequence, Mapping}
 use Rattle.proof_scanner.proofs.Refusals.Common.{Faults, IsDeep, IsRowless, IsWhy, LiesDeep, Told, content_holds, either, fault, goes_on_here, no_end, none_begins, rowless_told, stuck_by, token_holds, tried, after}
 use Rattle.proof_scanner.proofs.Refusals.Nodes.{name_told, plain_told, tag_told, quoted_told}
@@ -45,9 +45,7 @@ module _ {text : List ℕ} {t : ScannerState} (a : Arrives text t) (some : is_em
   shallow : begins_document_at t.held.position t.rest ≡ false → nat_lt (t.held.position.col + 1) t.held.indent ≡ true → IsWhy text InvalidIndentation t.held.position
   shallow none low = elim (cases_Bool (is_empty t.held.flow)) [
     | inl e ↦
-        let deep : t.held.indent ≤ t.held.position.col + 1 = levels_end t.held.position.col a.base.site.blocks a.base.site.awaits t.held.indent t.held.indents a.are_levels
-        (subst (λ b. (site_here (not b) t.held.position a.base.site).blocks ≡ columns t.held.indent t.held.indents) e a.blocks_are)
-        (subst (λ b. (site_here (not b) t.held.position a.base.site).awaits ≡ has_open_level t.held.indents) e a.awaits_is) in
+        let deep : t.held.indent ≤ t.held.position.col + 1 = levels_end _ _ _ _ _ a.are_levels (rw e at a.blocks_are) (rw e at a.awaits_is) in
         absurd (grind (arith, nat_tests, deep, low))
     | inr e ↦
         stuck_by a some InvalidIndentation t.held.position (λ b bs k. (b ≡ true) × (nat_le k t.held.position.col ≡ false)) (ap not e, grind (arith, nat_tests, low))
