@@ -82,9 +82,7 @@ module _ (J : Account → Account → Type 0) (same : (x y : Account) → J x y 
         let v = quoted_here step single piece (gap ++ content) e is in
         let cuts = one_gap gap content (sym v.next_is) fills solid in
         let past_is = node_site_past step.account step.step step.next step.past v.act_is step.is_past in
-        let past : g.past.site.position ≡ position_after h1 piece (gap ++ content) =
-        ap (λ (x : Site). x.position) past_is ∙ (ap (λ p. position_after p step.step.piece step.next) step.position_is ∙ (ap (λ f. position_after h1 f step.next) (sym v.piece_is) ∙ ap (λ r. position_after h1 piece r) (sym v.next_is))) in
-        ap (λ p. position_after p gap content) (sym past ∙ ap (λ (x : Site). x.position) site_is) ∙ (ap (λ f. position_after b.site.position f content) cuts.0 ∙ (ap (λ r. position_after b.site.position s2 r) cuts.1 ∙ sym q.is_here))
+        cc (ap (λ (x : Site). x.position) past_is, ap (λ (x : Site). x.position) site_is, step.position_is, v.piece_is, v.next_is, cuts.0, cuts.1, q.is_here)
 
   -- Where a way goes on past a place, what fails there first is a TAB after a quoted scalar, which so fails at the next place.
   pub fails_before : (why1 why2 : Problem) (at1 at2 : Position) → FailsFirst a s1 h1 r1 why1 at1 → FailsFirst b s2 h2 r2 why2 at2 → (why1 ≡ why2) × (at1 ≡ at2)

@@ -1,5 +1,5 @@
 -- Where a tag, a directive or a block scalar's header is none, no row of the text goes on.
-use Rattle.proof_scanner.proofs.Common.{and_false, blocks, innermost, is_on_line, cases_Bool, [], NoPiece, IsBlockFault, IsQuotedFault, tab, nat_tests, is_marker, act_of, directive_token, Directive, alias_name, is_name, goes_on_with_name, all_of, arith, ◌==◌, Account, after, alpha_starts, and_parts, ap, append-nil, are_marks, AreNotIndented, At, begins_flow, begins_with, begins_with_mark, block_may_end, block_read, block_token, BlockRead, BlockStyle, Body, body, Bool, decoded_some, directive_begins, directive_line, directive_of, double_quoted, eqb-true, Err, false, first_line, folded, further, further_text, has_header, has_no_break, has_no_nul, Header, header_of, if◌then◌else◌, in_double_quotes, in_single_quotes, indicator_of, inl, inr, is_adjacent, is_alpha, is_at_end, is_at_gap, is_blank, is_blank_or_end, is_break, is_decimal_digit, is_empty, is_flow, is_further_text, is_in_flow, is_in_line, is_letter, is_nul, is_past, is_tag, is_uri, IsTagRefusal, kind_at, leading, leading_all, least_column, length, line_is, line_more, lines_after, List, literal, local_goes_on, local_octets, may_follow, More, no_lines, no_nul_after, no_suffix, None, not, of_lines, Option, past, Position, Problem, put_first, read_body, read_lines, refl, same_end, scalar, single_quoted, site_at_place, slice_index, Some, split, split_append, splits, subst, suffix_goes_on, suffix_octets, sym, tag_text, tags_are_read, true, unclosed, up_to_break, verbatim_goes_on, verbatim_octets, word, written_tag, ℕ, ◌&&◌, ◌++◌, ◌||◌, ◌∙◌, ◌∷◌, ◌≡◌, ◌⊎◌, ends_run, runs, TagEnd, VerbatimTagEnd}
+use Rattle.proof_scanner.proofs.Common.{and_false, blocks, innermost, is_on_line, cases_Bool, [], NoPiece, IsBlockFault, IsQuotedFault, tab, nat_tests, is_marker, act_of, directive_token, Directive, alias_name, is_name, goes_on_with_name, all_of, arith, ◌==◌, Account, after, alpha_starts, and_parts, ap, append-nil, are_marks, AreNotIndented, At, begins_flow, begins_with, begins_with_mark, block_may_end, block_read, block_token, BlockRead, BlockStyle, Body, body, Bool, decoded_some, directive_begins, directive_line, directive_of, double_quoted, eqb-true, Err, false, first_line, folded, further, further_text, has_header, has_no_break, has_no_nul, Header, header_of, if◌then◌else◌, in_double_quotes, in_single_quotes, indicator_of, inl, inr, is_adjacent, is_alpha, is_at_end, is_at_gap, is_blank, is_blank_or_end, is_break, is_decimal_digit, is_empty, is_flow, is_further_text, is_in_flow, is_in_line, is_letter, is_nul, is_past, is_tag, is_uri, IsTagRefusal, kind_at, leading, leading_all, least_column, length, line_is, line_more, lines_after, List, literal, local_goes_on, local_octets, may_follow, no_lines, no_nul_after, no_suffix, None, not, of_lines, Option, past, Position, Problem, put_first, read_body, read_lines, refl, same_end, scalar, single_quoted, site_at_place, slice_index, Some, split, split_append, splits, subst, suffix_goes_on, suffix_octets, sym, tag_text, tags_are_read, true, unclosed, up_to_break, verbatim_goes_on, verbatim_octets, word, written_tag, ℕ, ◌&&◌, ◌++◌, ◌||◌, ◌∙◌, ◌∷◌, ◌≡◌, ends_run, runs, TagEnd, VerbatimTagEnd}
 use Rattle.defs_token.specs.Account as pieces
 use Rattle.model_scanner.specs.Tag as tags
 use Rattle.model_scanner.specs.Tag.{verbatim_end, verbatim, named, shorthand, tag_end, tag}
@@ -200,8 +200,7 @@ module _ {a : Account} {separation rest : List ℕ} {here : Position} (s : StepA
   no_piece_stands why at (none.headless style line after _ _ out e inner ends lacks n) =
       let w : Here s block_scalar = block_here style (line ++ after) out e in
       let clean : has_no_nul s.next ≡ true = no_nul_after s.step.piece s.next (ap has_no_nul s.text_is ∙ s.is_clean) in
-      let own : up_to_break s.step.piece ≡ indicator_of style ∷ line =
-      sym (piece_line (pieces.collection_column (acct s)) s.step.piece s.next w.0 clean w.1) ∙ (ap up_to_break (s.text_is ∙ e) ∙ (ap (λ b. if b then [] else indicator_of style ∷ up_to_break (line ++ after)) (unbroken style) ∙ ap (λ r. indicator_of style ∷ r) (first_of line after inner ends))) in
+      let own : up_to_break s.step.piece ≡ indicator_of style ∷ line = rw (← piece_line (pieces.collection_column (acct s)) s.step.piece s.next w.0 clean w.1, s.text_is ∙ e, unbroken style, first_of line after inner ends) refl in
       has_header (pieces.collection_column (acct s)) ((split s.step.piece).complete) ((split s.step.piece).last) s.next (is_at_end s.next) w.0 w.1 (ap header_of (line_is s.step.piece ∙ own) ∙ lacks)
   no_piece_stands why at (none.undirected line after _ _ col e one ends lacks n) =
       let no_nul_more : (r : List ℕ) → has_no_nul (37 ∷ r) ≡ true → has_no_nul r ≡ true = λ r h. (and_parts (not (is_nul 37)) (has_no_nul r) h).1 in
