@@ -245,12 +245,8 @@ near_there text after q g waiting separation rest cut filled = by g.steps g.is_r
         let n = goes_near w ws g.last g.account q waiting row in
         let on = here_on q g.account.site w.separation next (begins_waiting text after g.account g.begins q waiting) n.unbroken in
         let whole : position_after p w.separation next ≡ position_after here part.more next = ap (λ f. position_after p f next) part.whole_is ∙ (position_append p separation part.more next ∙ ap (λ r. position_after (position_after p separation r) part.more next) (sym part.rest_is)) in
-        let line = ap (λ (x : Position). x.line) (sym whole) ∙ on.0 in
-        let index = ap (λ (x : Position). x.index) whole in
-        let near = n.near in
         let later = (not_before_after here part.more next).0 in
-        let many = index_after here part.more next in
-        grind (arith, nat_tests, line, index, near, later, many)
+        grind (arith, nat_tests, whole, on.0, n.near, later, index_after here part.more next)
 
 -- At the text's end no key waits in the row.
 none_at_end : (text separation rest : List ℕ) (q : Position) (g : GoesThrough text (separation ++ rest)) → g.account.line ≡ waits q → is_separation false separation rest ≡ true → rest ≡ [] → ⊥

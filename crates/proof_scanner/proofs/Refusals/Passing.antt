@@ -115,13 +115,10 @@ skip_refused before bs awaits begin separation t filled here l known = elim (cas
         -- two beginnings of a text that are equally long are the same
         let same_length : (a b r s : List ℕ) → a ++ r ≡ b ++ s → length a ≡ length b → a ≡ b = λ a b r s e n. sym (take-append_seam a r) ∙ (ap (λ k. take k (a ++ r)) n ∙ (ap (λ x. take (length b) x) e ∙ take-append_seam b s)) in
         let q : Position = position_after t.held.position (first ++ 9 ∷ blanks) rest in
-        let same : At TabInBlockIndentation d.place ≡ At TabInBlockIndentation q = sym d.is_fault ∙ fault_of e in
-        let place : d.place ≡ q = cc same in
-        let i : q.index ≡ t.held.position.index + length (first ++ 9 ∷ blanks) = index_after t.held.position (first ++ 9 ∷ blanks) rest in
-        let j : d.place.index ≡ q.index = ap (λ y. y.index) place in
-        let k : d.place.index ≡ t.held.position.index + length d.passed = d.index_is in
+        let place : d.place ≡ q = cc (d.is_fault, fault_of e) in
+        let index : d.place.index ≡ q.index = ap (λ y. y.index) place in
         let whole : t.rest ≡ (first ++ 9 ∷ blanks) ++ rest = cut ∙ sym (append_assoc first (9 ∷ blanks) rest) in
-        let passed_is : d.passed ≡ first ++ 9 ∷ blanks = same_length d.passed (first ++ 9 ∷ blanks) d.rest rest (sym d.cut ∙ whole) (omega (arith, i, j, k)) in
+        let passed_is : d.passed ≡ first ++ 9 ∷ blanks = same_length d.passed (first ++ 9 ∷ blanks) d.rest rest (sym d.cut ∙ whole) (omega (arith, index, d.index_is, index_after t.held.position (first ++ 9 ∷ blanks) rest)) in
         let fill : is_separation false (first ++ 9 ∷ blanks) rest ≡ true = separation_append false first (9 ∷ blanks) rest fills (blanks_fill (9 ∷ blanks) rest are) in
         let there : q ≡ position_after begin (separation ++ (first ++ 9 ∷ blanks)) rest = ap (λ p. position_after p (first ++ 9 ∷ blanks) rest) (here ∙ ap (position_after begin separation) whole) ∙ sym (position_append begin separation (first ++ 9 ∷ blanks) rest) in
         fault (record {
