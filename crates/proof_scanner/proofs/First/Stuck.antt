@@ -39,12 +39,11 @@ clear_way : (J : Account → Account → Type 0) → ((x y : Account) → J x y 
     → spelled vs (s2 ++ r2) ≡ gap ++ content → is_separation false gap content ≡ true → begins_separation content ≡ false → has_no_nul content ≡ true → has_no_nul r2 ≡ true → is_indented_by_spaces o.site.before o.site.blocks o.site.awaits gap ≡ true
 clear_way J same o b [] s2 r2 gap content row filled solid free e fills begins clean clean2 =
     let ends = separations s2 gap r2 content (filled, ends_before r2 solid clean2) (fills, ends_before content begins clean) e in
-    ap (λ f. is_indented_by_spaces o.site.before o.site.blocks o.site.awaits f) (sym ends.0) ∙ (ap (λ (x : Site). is_indented_by_spaces x.before x.blocks x.awaits s2) (same o b row) ∙ free refl)
+    rw (← ends.0, same o b row) (free refl)
 clear_way J same o b (v ∷ vs) s2 r2 gap content row filled solid free e fills begins clean clean2 =
     let next : List ℕ = spelled vs (s2 ++ r2) in
     let c = leads_on J (account_past row.0 v next) vs (s2 ++ r2) b row.3 in
-    ap (λ (x : Site). is_indented_by_spaces x.before x.blocks x.awaits gap) (same o row.0 row.1) ∙
-    subst (λ f. is_indented_by_spaces row.0.site.before row.0.site.blocks row.0.site.awaits f ≡ true) (step_here row.0 v next gap content row.2 e fills begins clean).0 (stood row.0 v next c.0 c.1).spaced
+    rw (same o row.0 row.1, ← (step_here row.0 v next gap content row.2 e fills begins clean).0) (stood row.0 v next c.0 c.1).spaced
 
 -- a reason that comes first where a TAB indents what comes is just this
 pub tab_alone : (b : Account) (separation : List ℕ) (here : Position) (rest : List ℕ) (why : Problem) (at : Position) (f : Fails b separation here rest why at) → comes_first b separation here rest why at f → is_free_of_tabs b separation ≡ false

@@ -1,5 +1,5 @@
 -- Faults of block scalars: the line is no header, or what stands after the scalar may not.
-use Rattle.proof_scanner.proofs.Common.{Bool, ◌&&◌, is_none, [], after_chars, allow_key, and_parts, ap, append-nil, are_empty, AreLines, arith, Arrives, begins_with, block, block_first, block_read, BlockRead, BlockStyle, body, Break, collection_of, columns, Err, false, Fault, fetch_block_scalar, folded, further_text, has_no_nul, header_of, Held, if◌then◌else◌, indicator_of, innermost, is_at_end, is_break, is_empty, is_in_line, is_literal, is_literal_style, is_nul, is_shallow, is_tabbed, IsBlockFault, leading_spaces, least_column, List, literal, nat_le, nat_lt, nat_tests, no_block, no_nul_after, None, not, Option, past, Position, position_after, Problem, read_body, read_lines, refl, refused_as, ScannerState, Some, spell, spell_more, split, split_spell, style_inner, subst, sym, tab, texts, true, unroll_non_block_indents, ℕ, ◌++◌, ◌∙◌, ◌∷◌, ◌≡◌, eqb-true, after_line, first_content, first_empty, first_header, further_position, is_empty_line, is_spaces, length, ◌+◌, ◌≤◌, BlockScalarHeader, BlockScalarIndentation, BlockScalarTab, BlockScalarZero, CommentNotSeparated}
+use Rattle.proof_scanner.proofs.Common.{Bool, ◌&&◌, is_none, [], after_chars, allow_key, and_parts, ap, append-nil, are_empty, AreLines, arith, Arrives, begins_with, block, block_first, block_read, BlockRead, BlockStyle, Break, collection_of, columns, Err, false, Fault, fetch_block_scalar, folded, has_no_nul, header_of, Held, if◌then◌else◌, indicator_of, innermost, is_at_end, is_break, is_empty, is_in_line, is_literal, is_literal_style, is_nul, is_shallow, is_tabbed, IsBlockFault, leading_spaces, List, literal, nat_le, nat_lt, nat_tests, no_block, no_nul_after, None, not, Option, past, Position, position_after, Problem, read_lines, refl, refused_as, ScannerState, Some, spell, spell_more, split, split_spell, style_inner, subst, sym, tab, texts, true, unroll_non_block_indents, ℕ, ◌++◌, ◌∙◌, ◌∷◌, ◌≡◌, eqb-true, after_line, first_content, first_empty, first_header, further_position, is_empty_line, is_spaces, length, ◌+◌, ◌≤◌, BlockScalarHeader, BlockScalarIndentation, BlockScalarTab, BlockScalarZero, CommentNotSeparated}
 use Rattle.model_scanner.specs.declared.kind.BlockStyle.TheVariants.{Literal, Folded}
 use Rattle.proof_lexers.proofs.Blocks.Written.{Line, put}
 use Rattle.proof_scanner.proofs.Refusals.Common.{Faults, IsWhy, LiesDeep, Told, goes, looked_at, none_begins, read, saved_is, saved_keys, some_chars, stuck_by, without_is}
@@ -58,11 +58,9 @@ piece_tab_fault collection o here text piece next b e is tabbed =
   where
     by : (m : List ℕ) × (next ≡ tab ∷ m) → (complete : List (List ℕ)) (last : List ℕ) → split piece ≡ record { complete = complete; last = last } → scan.is_single complete ≡ true → read_lines o complete last next false ≡ Some b
         → FirstFault collection here text BlockScalarTab here
-    by m (l ∷ []) [] lines_are single read = alone (header_of l) refl
-      where
-        alone : (y : Option defs.Header) → header_of l ≡ y → FirstFault collection here text BlockScalarTab here
-        alone None i = absurd (cc (ap (λ y. read_body y o (body [] further_text) next) i, read))
-        alone (Some h) i = (none.by_tab piece l m.0 h (e ∙ ap (λ r. piece ++ r) m.1) lines_are i, tt)
+    by m (l ∷ []) [] lines_are single read =
+        let h : (h : defs.Header) × (header_of l ≡ Some h) = grind arith in
+        (none.by_tab piece l m.0 h.0 (e ∙ ap (λ r. piece ++ r) m.1) lines_are h.1, tt)
     by m complete last lines_are single read = absurd (grind arith)
 
 -- ---- what stands after a scalar without content

@@ -114,7 +114,7 @@ clear_on : (b : Account) (ws : List Step) (last gap content : List ℕ) → IsRo
 clear_on b [] last gap content row e fills solid some clean = absurd (cc (some, ap is_empty (separations last gap [] content (row.0, refl) (fills, ends_before content solid clean) (append-nil last ∙ e)).1))
 clear_on b (v ∷ vs) last gap content row e fills solid some clean =
     let c = some_row (account_past b v (spelled vs last)) vs last row.1 in
-    subst (λ f. is_indented_by_spaces b.site.before b.site.blocks b.site.awaits f ≡ true) (step_here b v (spelled vs last) gap content row.0 e fills solid clean).0 (stood b v (spelled vs last) c.0 c.1).spaced
+    rw (← (step_here b v (spelled vs last) gap content row.0 e fills solid clean).0) (stood b v (spelled vs last) c.0 c.1).spaced
 
 -- The step of a row, or of a way, that goes on from a place.
 abbrev pub step_from : (a b c : Account) (separation rest next : List ℕ) (here : Position) (w : Step) → IsLike a b → IsWritten b w next → account_past b w next ≡ Some c → w.separation ++ (w.piece ++ next) ≡ separation ++ rest

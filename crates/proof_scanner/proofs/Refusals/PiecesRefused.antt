@@ -140,7 +140,7 @@ module _ {a : Account} {separation rest : List ℕ} {here : Position} (s : StepA
 
   -- no TAB indents the line of the row's piece
   pub spaces_indent : is_indented_by_spaces s.account.site.before s.account.site.blocks s.account.site.awaits separation ≡ true
-  spaces_indent = subst (λ f. is_indented_by_spaces s.account.site.before s.account.site.blocks s.account.site.awaits f ≡ true) s.separation_is here_stood.spaced
+  spaces_indent = rw (← s.separation_is) here_stood.spaced
 
   -- the row goes on after its piece
   goes_on : (es : List Entry) → s.account.entries ≡ es

@@ -187,7 +187,7 @@ module _ {text : List ℕ} {t : ScannerState} (a : Arrives text t) (some : is_em
           of why at is w (placed _ _ free (by_escape next _ double cut bad may)) =
               none_begins a some lies why _
               (none.unquoted single more why e (none_there (ap is_of_lines (sym is) ∙ not_of_lines next why here bad)) (none.by_escape x.body next why double (x.is_text ∙ ap (λ r. x.body ++ r) cut) (x.es, x.are) bad))
-              (ap (λ r. has_marker x.body r) (sym cut) ∙ marks false free, indented_are least within (past here).col (x.es ++ content 92 ∷ []) ∙ x.fits (content 92 ∷ []) may)
+              (rw (← cut) (marks false free), indented_are least within (past here).col (x.es ++ content 92 ∷ []) ∙ x.fits (content 92 ∷ []) may)
           of why at is w (placed _ _ free (by_column solid further low)) =
               lines_stuck single QuotedIndentation here (none_fits why at (λ k. absurd (cc k)) w)
               (lines.by_column x.body x.rest x.es (e ∙ ap (λ r. none.quote_of single ∷ r) x.is_text) x.are solid further (ap (λ (q : Position). nat_lt q.col least) (after_quote_at single here x.body x.rest) ∙ low))
@@ -197,7 +197,7 @@ module _ {text : List ℕ} {t : ScannerState} (a : Arrives text t) (some : is_em
               rw same_place
               (lines_stuck single TabAsIndentation (position_after here (none.quote_of single ∷ x.body) (tab ∷ next)) (none_fits why at (λ k. absurd (cc k)) w)
               (lines.by_tab x.body next x.es (e ∙ ap (λ r. none.quote_of single ∷ r) (x.is_text ∙ ap (λ r. x.body ++ r) cut)) x.are further (ap (λ (q : Position). nat_lt q.col least) (sym same_place) ∙ low))
-              (ap (λ r. has_marker x.body r) (sym cut) ∙ marks false free, indented))
+              (rw (← cut) (marks false free), indented))
 
     pub refused_told : has_no_nul more ≡ true → (f : Fault) → quoted single ctx (none.quote_of single ∷ more) here ≡ Err f → Told text f
     refused_told clean f fails = elim (whole_ends single ctx here least limit (grind (arith, nat_tests, deep, same)) more (some_chars more clean)) [
