@@ -1,5 +1,6 @@
 -- Faults of block scalars: the line is no header, or what stands after the scalar may not.
-use Rattle.proof_scanner.proofs.Common.{Bool, ◌&&◌, is_none, [], after_chars, allow_key, and_parts, ap, append-nil, are_empty, AreLines, arith, Arrives, begins_with, block, block_first, block_read, BlockRead, BlockStyle, Break, collection_of, columns, Err, false, Fault, fetch_block_scalar, folded, has_no_nul, header_of, Held, if◌then◌else◌, indicator_of, innermost, is_at_end, is_break, is_empty, is_in_line, is_literal, is_literal_style, is_nul, is_shallow, is_tabbed, IsBlockFault, leading_spaces, List, literal, nat_le, nat_lt, nat_tests, no_block, no_nul_after, None, not, Option, past, Position, position_after, Problem, read_lines, refl, refused_as, ScannerState, Some, spell, spell_more, split, split_spell, style_inner, subst, sym, tab, texts, true, unroll_non_block_indents, ℕ, ◌++◌, ◌∙◌, ◌∷◌, ◌≡◌, eqb-true, after_line, first_content, first_empty, first_header, further_position, is_empty_line, is_spaces, length, ◌+◌, ◌≤◌, BlockScalarHeader, BlockScalarIndentation, BlockScalarTab, BlockScalarZero, CommentNotSeparated}
+use Rattle.proof_scanner.proofs.Common.{Bool, ◌&&◌, is_none, [], after_chars, allow_key, and_parts, ap, append-nil, are_empty, AreLines, arith, Arrives, begins_with, block, block_first, block_read, BlockRead, BlockStyle, Break, collection_of, columns, Err, false, Fault, fetch_block_scalar, folded, has_no_nul, header_of, Held, if◌then◌else◌, indicator_of, innermost, is_at_end, is_break, is_empty, is_in_line, is_literal, is_literal_style, is_nul, is_shallow, is_tabbed, IsBlockFault, leading_spaces, List, literal, nat_le, nat_lt, nat_tests, no_block, no_nul_after, None, not, Option, past, Position, position_after, Problem, read_lines, refl, refused_as, ScannerState, Some, spell, spell_more, split, split_spell, style_inner, sym, tab, texts, true, unroll_non_block_indents, ℕ, ◌++◌, ◌∙◌, ◌∷◌, ◌≡◌, eqb-true, after_line, first_content, first_empty, first_header, further_position, is_empty_line, is_spaces, length, ◌+◌, ◌≤◌, BlockScalarHeader, BlockScalarIndentation, BlockScalarTab, BlockScalarZero, CommentNotSeparated}
+use Rattle.std.proofs.lemmas.List.Folds.{list_all-append}
 use Rattle.model_scanner.specs.declared.kind.BlockStyle.TheVariants.{Literal, Folded}
 use Rattle.proof_lexers.proofs.Blocks.Written.{Line, put}
 use Rattle.proof_scanner.proofs.Refusals.Common.{Faults, IsWhy, LiesDeep, Told, goes, looked_at, none_begins, read, saved_is, saved_keys, some_chars, stuck_by, without_is}
@@ -32,10 +33,6 @@ pub lines_written : (piece next : List ℕ) (w : Written piece next) → (split 
 lines_written piece next w = ap (λ x. (split x).complete) w.is ∙ ap (λ x. x.complete) (split_spell (w.header ∷ w.lines) [] w.are refl)
 
 -- ---- texts
-
-inner_first : (a b : List ℕ) → is_in_line (a ++ b) ≡ true → is_in_line a ≡ true
-inner_first [] b h = refl
-inner_first (c ∷ a) b h = let parts = and_parts (not (is_break c)) (is_in_line (a ++ b)) h in rw parts.0 (inner_first a b parts.1)
 
 -- a fault that comes first
 abbrev FirstFault : (collection : List ℕ) (here : Position) (text : List ℕ) (why : Problem) (at : Position) → Type 0
@@ -130,7 +127,7 @@ module _ {text : List ℕ} {t : ScannerState} (a : Arrives text t) (some : is_em
       λ _. none_begins a some lies BlockScalarZero _ (none.headless style line after BlockScalarZero t.held.position (ap not out) e inline ends lacks (none.by_zero zero)) tt
   header_told style line after e inline ends g (headers.comment h before more lacks is cut) =
       let place : headers.along before (past t.held.position) ≡ position_after t.held.position (indicator_of style ∷ before) (35 ∷ more) =
-      (sym (after_chars (indicator_of style ∷ before) [] (35 ∷ more) t.held.position (style_inner style before (inner_first before (35 ∷ more) (ap is_in_line (sym cut) ∙ inline)))) ∙ ap (λ w. position_after t.held.position w (35 ∷ more)) (append-nil (indicator_of style ∷ before))) in
+      (sym (after_chars (indicator_of style ∷ before) [] (35 ∷ more) t.held.position (style_inner style before (and_parts (is_in_line before) (is_in_line (35 ∷ more)) (sym (list_all-append _ before (35 ∷ more)) ∙ (ap is_in_line (sym cut) ∙ inline))).0)) ∙ ap (λ w. position_after t.held.position w (35 ∷ more)) (append-nil (indicator_of style ∷ before))) in
       rw place (λ _. none_begins a some lies CommentNotSeparated _
       (none.headless style line after CommentNotSeparated _ (ap not out) e inline ends lacks (none.by_comment h before more is cut)) tt)
   header_told style line after e inline ends g (headers.no_header lacks zero more begins) =
@@ -138,13 +135,13 @@ module _ {text : List ℕ} {t : ScannerState} (a : Arrives text t) (some : is_em
 
   block_refused : (style : BlockStyle) (indent : ℕ) (more : List ℕ) → t.rest ≡ indicator_of style ∷ more → IsLeast indent collections → (f : Fault) → block (is_literal_style style) indent t.rest t.held.position ≡ Err f → Told text f
   block_refused style indent more e deep f k =
-      by f (refused_as (ap (λ r. block (is_literal_style style) indent r t.held.position) (sym e) ∙ k) (blocks.scans_end style indent more t.held.position (some_chars more ((and_parts (not (is_nul (indicator_of style))) (has_no_nul more) (subst (λ r. has_no_nul r ≡ true) e a.is_clean)).1))))
+      by f (refused_as (ap (λ r. block (is_literal_style style) indent r t.held.position) (sym e) ∙ k) (blocks.scans_end style indent more t.held.position (some_chars more (no_nul_after (indicator_of style ∷ []) more (rw e at a.is_clean)))))
     where
       by : (g : Fault) → block_ends.IsBlockRefusal style indent t.held.position more g → Told text g
       by g (block_ends.bad_header line after cut inline ends why) = header_told style line after (e ∙ ap (λ r. indicator_of style ∷ r) cut) inline ends g why
       by g (block_ends.after_piece piece next b it (scan.shallow free low)) =
           λ _. block_stuck BlockScalarIndentation (scan.further_position t.held.position piece next)
-          (column_fault indent collections t.held.position t.rest piece next b deep (e ∙ it.is_text) (no_nul_after piece next (subst (λ r. has_no_nul r ≡ true) (e ∙ it.is_text) a.is_clean)) it.is_read free low)
+          (column_fault indent collections t.held.position t.rest piece next b deep (e ∙ it.is_text) (no_nul_after piece next (rw (e ∙ it.is_text) at a.is_clean)) it.is_read free low)
       by g (block_ends.after_piece piece next b it (scan.tabbed begins)) =
           λ _. block_stuck BlockScalarTab t.held.position (piece_tab_fault collections (collection_of indent) t.held.position t.rest piece next b (e ∙ it.is_text) it.is_read begins)
 
