@@ -1,5 +1,5 @@
 -- Where a plain scalar begins and is none, no row of the text goes on.
-use Rattle.proof_scanner.proofs.Common.{is_marker, [], IsPlainFault, Problem, splits, More, append-nil, stand_after, is_gap, ◌⊎◌, inl, inr, Account, act_of, after_blank, and_parts, ap, append_assoc, are_marks, arith, before_by, before_past, begins_flow, begins_token, Bool, comes_plain, dashes, ends_with_content, ends_with_dash, false, flow_solid, goes_on, goes_over, has_dash_before_flow, innermost, is_adjacent, is_apart, is_at_gap, is_blanks, is_deep_enough, is_flow, is_in_flow, is_indented_by_spaces, is_nul, is_whole_plain, least_column, List, nat_lt, on_line, Option, or_true, plain_lines_fit, Position, previous_by, refl, same_flow, scalar, Site, site_at_place, site_past, Stand, stops, subst, sym, true, ℕ, ◌&&◌, ◌++◌, ◌∙◌, ◌∷◌, ◌≡◌, eqb-true, nat_tests, and_false, zero, ◌-◌, ◌+◌, ◌<◌, suc, length, has_break, further_on, has_tab_within, last_line, or-true, begins_separation, is_empty, kind_at, is_break, is_blank, tab_blank}
+use Rattle.proof_scanner.proofs.Common.{is_marker, [], IsPlainFault, Problem, splits, append-nil, stand_after, is_gap, ◌⊎◌, inl, inr, Account, act_of, after_blank, and_parts, ap, append_assoc, are_marks, arith, before_by, before_past, begins_flow, begins_token, Bool, comes_plain, dashes, ends_with_content, ends_with_dash, false, flow_solid, goes_on, goes_over, has_dash_before_flow, innermost, is_adjacent, is_apart, is_at_gap, is_blanks, is_deep_enough, is_flow, is_in_flow, is_indented_by_spaces, is_nul, is_whole_plain, least_column, List, nat_lt, on_line, Option, or_true, plain_lines_fit, Position, previous_by, refl, same_flow, scalar, Site, site_at_place, site_past, Stand, stops, subst, sym, true, ℕ, ◌&&◌, ◌++◌, ◌∙◌, ◌∷◌, ◌≡◌, eqb-true, nat_tests, and_false, zero, ◌-◌, ◌+◌, ◌<◌, suc, length, has_break, further_on, has_tab_within, last_line, or-true, begins_separation, is_empty, kind_at, is_break, is_blank, tab_blank}
 use Rattle.defs_token.specs.Plain.{inside, past}
 use Rattle.proof_row.proofs.Plains.{plains}
 use Rattle.proof_scanner.proofs.Refusals.OtherRows.{StepAt, IsClearGapAfter}
@@ -205,7 +205,13 @@ module _ {a : Account} {separation rest : List ℕ} {here : Position} (s : StepA
       let wrong = rw (plain_here.2, ← same_flow a.entries s.account.entries s.is_like.2, flow, dashed_there) at (here_stood s).precedes in
       cc wrong
   -- a TAB that indents a line of it, or the one after it
-  no_plain_stands is_clear why at (none.by_tab before blanks more column cut over stands low are token) = by (splits s.step.piece before s.next (9 ∷ (blanks ++ more)) (s.text_is ∙ cut))
+  no_plain_stands is_clear why at (none.by_tab before blanks more column cut over stands low are token) = elim (splits s.step.piece before s.next (9 ∷ (blanks ++ more)) (s.text_is ∙ cut)) [
+      | inl m ↦
+          let goes : goes_on fl coll inside (w.1 ++ m.more) (9 ∷ (blanks ++ more)) ≡ true = ap (λ b. goes_over fl coll b (9 ∷ (blanks ++ more))) (sym (m.longer ∙ ap (λ p. p ++ m.more) w.2)) ∙ over in
+          in_gap m.more m.rest (ap (λ t. stand_after t m.more) (sym after) ∙ (sym (stand_over after_blank s.step.piece m.more) ∙ (ap (stand_after after_blank) (sym m.longer) ∙ stands)))
+          (ap (λ t. goes_on fl coll t m.more (9 ∷ (blanks ++ more))) (sym (stand_inside w.0 w.1 w.3)) ∙ goes_later fl coll inside w.1 m.more (9 ∷ (blanks ++ more)) goes) w.4
+      | inr m ↦ in_piece m.more m.longer m.rest
+    ]
     where
       least : ℕ
       least = least_column (site_at_place a here).blocks true
@@ -252,10 +258,3 @@ module _ {a : Account} {separation rest : List ℕ} {here : Position} (s : StepA
           let first : x ≡ 9 = cc rest in
           let cut : s.step.piece ≡ before ++ 9 ∷ z = longer ∙ ap (λ y. before ++ y ∷ z) first in
           blanks_end 9 z blanks more s.next tab_blank (ends_later before w.0 w.1 9 z (sym w.2 ∙ cut) w.3) (tab_line least column before z stands low (ap (plain_lines_fit least) (sym cut) ∙ lines)) (cc rest) are token
-
-      by : More s.step.piece before s.next (9 ∷ (blanks ++ more)) ⊎ More before s.step.piece (9 ∷ (blanks ++ more)) s.next → ⊥
-      by (inl m) =
-          let goes : goes_on fl coll inside (w.1 ++ m.more) (9 ∷ (blanks ++ more)) ≡ true = ap (λ b. goes_over fl coll b (9 ∷ (blanks ++ more))) (sym (m.longer ∙ ap (λ p. p ++ m.more) w.2)) ∙ over in
-          in_gap m.more m.rest (ap (λ t. stand_after t m.more) (sym after) ∙ (sym (stand_over after_blank s.step.piece m.more) ∙ (ap (stand_after after_blank) (sym m.longer) ∙ stands)))
-          (ap (λ t. goes_on fl coll t m.more (9 ∷ (blanks ++ more))) (sym (stand_inside w.0 w.1 w.3)) ∙ goes_later fl coll inside w.1 m.more (9 ∷ (blanks ++ more)) goes) w.4
-      by (inr m) = in_piece m.more m.longer m.rest
