@@ -349,13 +349,11 @@ module _ (s : Setting) (here : Position) (rest : List ℕ) where
   followed_reason : (why : Problem) (at : Position) (n : IsFollowed s.in_flow here rest why at) → followed_first s.in_flow (least_column s.blocks s.awaits) s.taken s.full here rest why at n → OfKind why at
   unfolding is_blank_or_end is_blank is_break is_nul is_flow are_marks
   followed_reason why at (none.glued c more e is begins) f = bracket_reason c more why at e is ((c, more, e, inr (f, refl, refl)))
-  followed_reason why at (none.glued_to_quoted single piece more e is begins) f = of_quoted why at (quoted.glued_to_quoted (least_column s.blocks s.awaits) here rest single piece more e is begins f)
+  followed_reason why at (none.glued_to_quoted single piece more e is begins) f = of_quoted why at (quoted.closed (least_column s.blocks s.awaits) here rest single piece more _ _ e is f (inl (begins, refl, refl)))
   followed_reason why at (none.after_quoted single piece more passed content e is ends on solid) f = of_quoted why at (quoted.after_quoted (least_column s.blocks s.awaits) here rest single piece more passed content e is on solid f)
   followed_reason why at (none.after_end more passed content col e gap on ends solid) f = (dots, rw (e, col, gap) refl, (more, passed, content, e, on, solid, refl, refl))
   followed_reason why at (none.tab_after_dash more passed content out e gap on tab_there begins) f = (dash, rw (e, gap) refl, inr (inr (out, f, more, passed, content, e, on, begins, refl, refl)))
-  followed_reason why at (none.no_space more [] content e gap on begins ends) f =
-      (question, rw (e, gap) refl, inr (inl (f.0, more, e, grind arith, refl, refl)))
-  followed_reason why at (none.no_space more (c ∷ passed) content e gap on begins ends) f = absurd (cc f.1)
+  followed_reason why at (none.no_space more passed content e gap on begins ends) f = rw f.1 (question, rw (e, gap) refl, inr (inl (f.0, more, e, grind (arith, f), refl, refl)))
   followed_reason why at (none.tab_after_question more passed content e gap cut fills) f = (question, rw (e, gap) refl, inr (inr (f.0, more, passed, content, e, f.1, f.2, cut, fills, refl, refl)))
   followed_reason why at (none.tab_after_colon more passed content e tab_there on lacks letter) f =
       (colon, rw (e, tab_gap more tab_there) refl, inr (more, passed, content, e, no_colon_before more passed content tab_there on lacks letter, on, letter, refl, refl))
