@@ -88,19 +88,19 @@ known_after s l m ds es w c next a b i j on known e1 e2 q wt = by (made s l ds w
     by (outside n u n1 sep1 past1 line1 site1 one1) (outside o v n2 sep2 past2 line2 site2 one2) =
         let r : IsNotRight (innermost u.blocks) q.col × (is_in_column q.col u.blocks ≡ true → v.line ≡ waits q) = elim (waits_past _ _ _ (act_of w.shown) w.key n u q past1 (sym line1 ∙ wt)) [
           | begun act fr h bs ↦
-            -- a node that must be a key is one
-            let must_wait : (must : Bool) (here : Position) (bs : List ℕ) (k : Act) (c : Bool) (n o : Line) (v : Outside) → LikeLine n o → n ≡ free → k ≡ gives_node → must ≡ true → line_past must here bs k c o ≡ Some v → v.line ≡ waits here = λ must here bs k a n o v i f g m e. grind arith in
-            let going : at.blocks ≡ not_ended at.position.col s.blocks = ap (λ k. blocks_at false k at.position.col s.blocks) act in
-            rw (bs, ← h) (rw going (first_stays at.position.col s.blocks), λ col. must_wait _ at.position at.blocks _ c n o v (like_past false broken l m n o i sep1 sep2) fr act col past2)
+              -- a node that must be a key is one
+              let must_wait : (must : Bool) (here : Position) (bs : List ℕ) (k : Act) (c : Bool) (n o : Line) (v : Outside) → LikeLine n o → n ≡ free → k ≡ gives_node → must ≡ true → line_past must here bs k c o ≡ Some v → v.line ≡ waits here = λ must here bs k a n o v i f g m e. grind arith in
+              let going : at.blocks ≡ not_ended at.position.col s.blocks = ap (λ k. blocks_at false k at.position.col s.blocks) act in
+              rw (bs, ← h) (rw going (first_stays at.position.col s.blocks), λ col. must_wait _ at.position at.blocks _ c n o v (like_past false broken l m n o i sep1 sep2) fr act col past2)
           | kept act is bs ↦
-            -- after a node a key still waits
-            let waits_on : (must : Bool) (here : Position) (bs : List ℕ) (k : Act) (c : Bool) (o : Line) (v : Outside) (q : Position) → o ≡ waits q → k ≡ gives_node → line_past must here bs k c o ≡ Some v → v.line ≡ waits q = λ must here bs k c o v q w g e. grind arith in
-            -- where none is right of a column, none ends there or right of it
-            let all_stay : (q c : ℕ) (bs : List ℕ) → IsNotRight (innermost bs) q → q ≤ c → not_ended c bs ≡ bs = λ q c a h l. grind (arith, nat_tests) in
-            let was : (l ≡ waits q) × (broken ≡ false) = waited false broken l n q sep1 is in
-            let right = (here_on q s w.separation (w.piece ++ next) (on q was.0) was.1).1 in
-            let going : at.blocks ≡ s.blocks = ap (λ k. blocks_at false k at.position.col s.blocks) act ∙ all_stay q.col at.position.col s.blocks (known q was.0).0 (omega (arith, right)) in
-            rw (bs, going) ((known q was.0).0, λ col. waits_on _ at.position at.blocks _ c o v q (still_there false broken m o q ((known q was.0).1 col) sep2).1 act past2)
+              -- after a node a key still waits
+              let waits_on : (must : Bool) (here : Position) (bs : List ℕ) (k : Act) (c : Bool) (o : Line) (v : Outside) (q : Position) → o ≡ waits q → k ≡ gives_node → line_past must here bs k c o ≡ Some v → v.line ≡ waits q = λ must here bs k c o v q w g e. grind arith in
+              -- where none is right of a column, none ends there or right of it
+              let all_stay : (q c : ℕ) (bs : List ℕ) → IsNotRight (innermost bs) q → q ≤ c → not_ended c bs ≡ bs = λ q c a h l. grind (arith, nat_tests) in
+              let was : (l ≡ waits q) × (broken ≡ false) = waited false broken l n q sep1 is in
+              let right = (here_on q s w.separation (w.piece ++ next) (on q was.0) was.1).1 in
+              let going : at.blocks ≡ s.blocks = ap (λ k. blocks_at false k at.position.col s.blocks) act ∙ all_stay q.col at.position.col s.blocks (known q was.0).0 (omega (arith, right)) in
+              rw (bs, going) ((known q was.0).0, λ col. waits_on _ at.position at.blocks _ c o v q (still_there false broken m o q ((known q was.0).1 col) sep2).1 act past2)
         ] in
         rw site1 (r.0, λ col. line2 ∙ r.1 col)
     by (outside n u n1 sep1 past1 line1 site1 one1) (inside some sep2 site2 one2) = absurd (cc (sym (ap is_in_flow n1) ∙ same_flow ds es j ∙ some))

@@ -116,6 +116,7 @@ stuck_at text again t base cs separation rest why here at is_here begins carries
         (false, f, key_waits (chosen false cs t.held.keys base) separation rest why x.position here at (carries cs x e must entries some) (ap not (entries_alike cs t.held.keys base.entries ∙ entries)) filled is_here (omega (arith, late, later)) goes_on solid f)
   ]
 ]
+
 -- what comes lies deep enough, unless it is a line for the document
 abbrev pub LiesDeep : ScannerState → Type 0
 LiesDeep t = begins_document_at t.held.position t.rest ≡ false → IsDeep t.held

@@ -206,12 +206,12 @@ module _ {a : Account} {separation rest : List ℕ} {here : Position} (s : StepA
       cc wrong
   -- a TAB that indents a line of it, or the one after it
   no_plain_stands is_clear why at (none.by_tab before blanks more column cut over stands low are token) = elim (splits s.step.piece before s.next (9 ∷ (blanks ++ more)) (s.text_is ∙ cut)) [
-      | inl m ↦
-          let goes : goes_on fl coll inside (w.1 ++ m.more) (9 ∷ (blanks ++ more)) ≡ true = ap (λ b. goes_over fl coll b (9 ∷ (blanks ++ more))) (sym (m.longer ∙ ap (λ p. p ++ m.more) w.2)) ∙ over in
-          in_gap m.more m.rest (ap (λ t. stand_after t m.more) (sym after) ∙ (sym (stand_over after_blank s.step.piece m.more) ∙ (ap (stand_after after_blank) (sym m.longer) ∙ stands)))
-          (ap (λ t. goes_on fl coll t m.more (9 ∷ (blanks ++ more))) (sym (stand_inside w.0 w.1 w.3)) ∙ goes_later fl coll inside w.1 m.more (9 ∷ (blanks ++ more)) goes) w.4
-      | inr m ↦ in_piece m.more m.longer m.rest
-    ]
+    | inl m ↦
+        let goes : goes_on fl coll inside (w.1 ++ m.more) (9 ∷ (blanks ++ more)) ≡ true = ap (λ b. goes_over fl coll b (9 ∷ (blanks ++ more))) (sym (m.longer ∙ ap (λ p. p ++ m.more) w.2)) ∙ over in
+        in_gap m.more m.rest (ap (λ t. stand_after t m.more) (sym after) ∙ (sym (stand_over after_blank s.step.piece m.more) ∙ (ap (stand_after after_blank) (sym m.longer) ∙ stands)))
+        (ap (λ t. goes_on fl coll t m.more (9 ∷ (blanks ++ more))) (sym (stand_inside w.0 w.1 w.3)) ∙ goes_later fl coll inside w.1 m.more (9 ∷ (blanks ++ more)) goes) w.4
+    | inr m ↦ in_piece m.more m.longer m.rest
+  ]
     where
       least : ℕ
       least = least_column (site_at_place a here).blocks true
