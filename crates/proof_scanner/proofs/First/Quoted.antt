@@ -1,11 +1,10 @@
 -- Of two reasons why a quoted scalar is refused at a place that both come first, kind and position are the same.
-use Rattle.proof_scanner.proofs.Common.{[], inl, inr, ◌⊎◌, arith, if◌then◌else◌, ap, append-nil, are_indented, AreNotIndented, begins_separation, begins_with, Bool, closed_first, content, Element, false, GoesOn, has_break, has_marker, has_no_nul, HasNoQuoted, is_indented_by_spaces, is_separation, IsNotQuoted, IsQuoted, IsQuotedFault, lines_first, List, nat_lt, no_nul_after, off_margin, past, Position, position_after, Problem, quoted_first, quoted_scalar, refl, separations, subst, sym, tab, true, within, ℕ, ◌++◌, ◌∙◌, ◌∷◌, ◌≡◌, arith, nat_tests, eqb-true, elements, element_of, LineStand, past_elements, Some, CommentNotSeparated, ContentAfterQuoted, TabAsIndentation, TabInBlockIndentation, further_is_no_break}
+use Rattle.proof_scanner.proofs.Common.{[], inl, inr, ◌⊎◌, arith, if◌then◌else◌, ap, append-nil, are_indented, AreNotIndented, begins_separation, begins_with, Bool, closed_first, content, Element, false, GoesOn, has_break, has_marker, has_no_nul, HasNoQuoted, is_indented_by_spaces, is_separation, IsNotQuoted, IsQuoted, IsQuotedFault, lines_first, List, nat_lt, no_nul_after, off_margin, past, Position, position_after, Problem, quoted_first, quoted_scalar, refl, separations, subst, sym, tab, true, within, ℕ, ◌++◌, ◌∙◌, ◌∷◌, ◌≡◌, nat_tests, eqb-true, elements, element_of, LineStand, past_elements, Some, CommentNotSeparated, ContentAfterQuoted, TabAsIndentation, TabInBlockIndentation, further_is_no_break}
 use Rattle.defs_text.specs.Classes as classes
 use Rattle.proof_row.proofs.Quotes.{singles, doubles}
 use Rattle.proof_scanner.specs.NoPiece as none
-use Rattle.proof_scanner.specs.NoPiece.{quote_of}
 use Rattle.proof_scanner.specs.QuotedLines as lines
-use Rattle.proof_scanner.proofs.Refusals.Common.{ends_before, same_has_break}
+use Rattle.proof_scanner.proofs.Refusals.Common.{ends_before, same_has_break, quote_of}
 use Rattle.proof_scanner.proofs.Refusals.TextsRefused.{begins_lines}
 use Rattle.proof_scanner.proofs.Refusals.QuotedReasons.{one_reason, walk_of, after_quote_at, all_stand, indented_are, is_marked, by_end, by_escape, by_column, by_tab, by_marker, placed, Place, Wrong, Reason}
 
@@ -50,7 +49,7 @@ module _ (least : ℕ) (here : Position) (rest : List ℕ) where
 
   module _ (single : Bool) (more : List ℕ) where
     indented : (es : List Element) → are_indented least es ≡ true → all_stand least within (past here).col (es ++ []) ≡ true
-    indented es h = ap (all_stand least within (past here).col) (append-nil es) ∙ (sym (indented_are least (past here).col es) ∙ h)
+    indented es h = ap (all_stand least within (past here).col) (append-nil es) ∙ (sym (indented_are least within (past here).col es) ∙ h)
 
     -- a body without a wrong line is walked along to what is wrong after it
     walked : (why : Problem) (at : Position) (k : Bool) (last es : List Element) (body r : List ℕ) → more ≡ body ++ r → begins_with 10 r ≡ false → elements (element_of single) 0 body ≡ Some es → all_stand least within (past here).col (es ++ last) ≡ true → has_marker body r ≡ k
@@ -64,7 +63,7 @@ module _ (least : ℕ) (here : Position) (rest : List ℕ) where
     by_text why (none.by_marker body r e has marks) first = walked why here true [] has.0 body r e (further_is_no_break 0 r first.0) has.1 (indented has.0 first.1) marks (λ t q x h _. by_marker h) (λ f n. absurd (cc n))
     by_text why (none.by_end has) first = walked why here false [] has.0 more [] (sym (append-nil more)) refl has.1 (indented has.0 first.1) first.0 (λ t q x h n. absurd (cc n)) (λ f n. by_end refl)
     by_text why (none.by_escape body r _ double e has bad) first =
-        walked why here false (content 92 ∷ []) has.0 body (92 ∷ r) e refl has.1 (sym (indented_are least (past here).col (has.0 ++ content 92 ∷ [])) ∙ first.1) first.0 (λ t q x h n. absurd (cc n)) (λ f n. by_escape r why double refl bad f)
+        walked why here false (content 92 ∷ []) has.0 body (92 ∷ r) e refl has.1 (sym (indented_are least within (past here).col (has.0 ++ content 92 ∷ [])) ∙ first.1) first.0 (λ t q x h n. absurd (cc n)) (λ f n. by_escape r why double refl bad f)
 
     by_lines : rest ≡ quote_of single ∷ more → (why : Problem) (at : Position) (n : IsQuotedFault single least here rest why at) → lines_first single least here rest why at n → Reason single least here within (past here) more why at
     unfolding classes.is_break classes.is_blank
@@ -85,7 +84,7 @@ module _ (least : ℕ) (here : Position) (rest : List ℕ) where
         let same = one_end single y.0 x.0 y.1 x.1 y.3 x.3 (sym y.2 ∙ x.2) in
         one_after x.0 x.1 (no_nul_after x.0 x.1 (sym (ap has_no_nul x.2) ∙ clean)) why1 why2 at1 at2 x.5 (rw (sym same.1) (rw (sym same.0) y.5))
 
-  closed : (single : Bool) (piece next : List ℕ) (why : Problem) (at : Position) → rest ≡ piece ++ next → IsQuoted single piece next → closed_first single least piece → After piece next why at → QuotedReason why at
+  pub closed : (single : Bool) (piece next : List ℕ) (why : Problem) (at : Position) → rest ≡ piece ++ next → IsQuoted single piece next → closed_first single least piece → After piece next why at → QuotedReason why at
   closed single piece next why at e is fit a = let z = begins_quoted single rest piece next e is in (single, z.0, z.1, inr (piece, next, e, is, fit, a))
 
   pub unquoted : (single : Bool) (more : List ℕ) (why : Problem) → rest ≡ quote_of single ∷ more → HasNoQuoted single rest → (n : IsNotQuoted single more why) → quoted_first single least more why n → QuotedReason why here
@@ -93,9 +92,6 @@ module _ (least : ℕ) (here : Position) (rest : List ℕ) where
 
   pub no_quoted : (single : Bool) (why : Problem) (at : Position) → AreNotIndented single least rest → (n : IsQuotedFault single least here rest why at) → lines_first single least here rest why at n → QuotedReason why at
   no_quoted single why at h n e = grind (arith, nat_tests, eqb-true, begins_lines least here rest, by_lines)
-
-  pub glued_to_quoted : (single : Bool) (piece more : List ℕ) → rest ≡ piece ++ more → IsQuoted single piece more → begins_with 35 more ≡ true → closed_first single least piece → QuotedReason CommentNotSeparated (position_after here piece more)
-  glued_to_quoted single piece more e is begins fit = closed single piece more _ _ e is fit (inl (begins, refl, refl))
 
   pub after_quoted : (single : Bool) (piece more passed content : List ℕ) → rest ≡ piece ++ more → IsQuoted single piece more → GoesOn more passed content → begins_separation content ≡ false → closed_first single least piece × (begins_with 35 more ≡ false)
       → QuotedReason ContentAfterQuoted (position_after (position_after here piece more) passed content)

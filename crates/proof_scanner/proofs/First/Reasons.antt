@@ -1,11 +1,9 @@
 -- Of two reasons at one place that both come first, kind and position are the same.
-use Rattle.proof_scanner.proofs.Common.{BlockScalarZero, BlockScalarHeader, [], no_nul_after, separations, inl, inr, Account, alias_name, ap, are_marks, arith, At, begins_flow, begins_with, block_begins, BlockStyle, Bool, colon, colon_may_precede, comes_first, dash, dashes, directive_line, dots, eqb-true, Fails, FailsFirst, false, first_line, folded, followed_first, has_no_break, has_no_nul, if◌then◌else◌, in_double_quotes, in_single_quotes, indicator_of, innermost, is_at_gap, is_blank, is_blank_or_end, is_break, is_flow, is_flow_indicator, is_full, is_in_flow, is_nul, is_value_here, is_value_indicator, IsBlockFault, IsDirectiveRefusal, IsFollowed, IsLike, IsLookedAt, IsPlainFault, IsTagRefusal, Kind, least_column, least_here, line_is, List, literal, MayNotStand, nat_tests, no_piece_first, NoPiece, opens, plain_first, Position, Problem, question, refl, stands_first, subst, sym, tab, tag_text, true, ℕ, ◌&&◌, ◌++◌, ◌==◌, ◌||◌, ◌∙◌, ◌∷◌, ◌≡◌, ◌⊎◌, begins_entry, begins_separation, begins_with_alpha, begins_with_space_or_break, further, GoesOn, has_tab_before_piece, is_alpha, is_decimal_digit, is_letter, is_separation, may_ask, not, position_after, before_by, before_past, begins_document_at, comes_plain, is_adjacent, is_free_of_tabs, is_taken, kind_by, nat_le, same_flow, site_at_place, append_cancel_left, further_on, goes_on, goes_over, no_flow, Option, Stand, AnchorName, BlockEntryInFlow, BlockEntryNotAllowed, ColonMisplaced, CommentNotSeparated, ContentAfterDocumentEnd, FlowIndentation, FlowTooDeep, InvalidIndentation, KeyNotAllowed, PlainDashInFlow, PlainTab, TabAfterColon, TabAfterDash, TabAfterKey, TabInBlockIndentation, UnexpectedAt, UnexpectedBacktick, UnexpectedPercent, WhitespaceExpected, after, begins_handle, begins_prefix, begins_with_mark, codes, decoded, drop, Err, Fault, first_position, from_prefix, HasName, is_empty, is_same, is_uri, IsNoDeclaration, IsNoVersion, IsVersionBefore, leading, length, length-append, None, number_of, Ok, problem_of, Result, said, Some, suc, UriFault, ◌-◌, DirectiveEnd, DirectiveName, DirectiveNameEnd, GlobalTagCharacter, TagDirectiveEnd, TagDirectiveHandle, TagStart, VersionDot, VersionNumber, VersionTooLong, append_cancel_right, block_first, blocks, digit_of, has_header, has_zero, Header, header_first, header_of, is_at_end, is_blanks_and_comment, is_in_line, is_rest_of_line, IsNoHeader, line_more, past_indicators, past_spaces, sign_of, split, style_inner, style_same, up_to_break, HasNoPlainFault}
-use Rattle.proof_row.specs.Ends.{nothing, plain_scalar, anchor_name, block_scalar}
-use Rattle.proof_scanner.specs.NoPiece.{quote_of}
+use Rattle.proof_scanner.proofs.Common.{BlockScalarZero, BlockScalarHeader, [], no_nul_after, separations, inl, inr, Account, alias_name, ap, are_marks, arith, At, begins_flow, begins_with, block_begins, BlockStyle, Bool, colon, colon_may_precede, comes_first, dash, dashes, directive_line, dots, eqb-true, Fails, FailsFirst, false, first_line, folded, followed_first, has_no_break, has_no_nul, if◌then◌else◌, in_double_quotes, in_single_quotes, indicator_of, innermost, is_at_gap, is_blank, is_blank_or_end, is_break, is_flow, is_flow_indicator, is_full, is_in_flow, is_nul, is_value_here, IsBlockFault, IsDirectiveRefusal, IsFollowed, IsLike, IsLookedAt, IsPlainFault, IsTagRefusal, Kind, least_column, least_here, line_is, List, literal, MayNotStand, nat_tests, no_piece_first, NoPiece, opens, plain_first, Position, Problem, question, refl, stands_first, subst, sym, tab, tag_text, true, ℕ, ◌&&◌, ◌++◌, ◌==◌, ◌||◌, ◌∙◌, ◌∷◌, ◌≡◌, ◌⊎◌, begins_entry, begins_separation, begins_with_alpha, begins_with_space_or_break, further, GoesOn, has_tab_before_piece, is_alpha, is_decimal_digit, is_letter, is_separation, may_ask, not, position_after, before_by, before_past, begins_document_at, comes_plain, is_adjacent, is_free_of_tabs, is_taken, kind_by, nat_le, same_flow, site_at_place, append_cancel_left, further_on, goes_on, goes_over, no_flow, Option, Stand, AnchorName, BlockEntryInFlow, BlockEntryNotAllowed, ColonMisplaced, CommentNotSeparated, ContentAfterDocumentEnd, FlowIndentation, FlowTooDeep, InvalidIndentation, KeyNotAllowed, PlainDashInFlow, PlainTab, TabAfterColon, TabAfterDash, TabAfterKey, TabInBlockIndentation, UnexpectedAt, UnexpectedBacktick, UnexpectedPercent, WhitespaceExpected, after, begins_handle, begins_prefix, begins_with_mark, codes, decoded, drop, Err, Fault, first_position, from_prefix, is_empty, is_same, is_uri, IsNoDeclaration, IsNoVersion, IsVersionBefore, leading, length, length-append, None, number_of, Ok, problem_of, Result, said, Some, suc, UriFault, ◌-◌, DirectiveEnd, DirectiveName, DirectiveNameEnd, GlobalTagCharacter, TagDirectiveEnd, TagDirectiveHandle, TagStart, VersionDot, VersionNumber, VersionTooLong, append_cancel_right, block_first, blocks, digit_of, has_header, has_zero, Header, header_of, is_at_end, is_blanks_and_comment, is_in_line, IsNoHeader, line_more, past_indicators, past_spaces, sign_of, split, style_inner, style_same, up_to_break, HasNoPlainFault}
 use Rattle.proof_scanner.proofs.First.Quoted.{QuotedReason, one_quoted}
 use Rattle.proof_scanner.proofs.Refusals.PiecesRefused.{no_colon_before, tab_gap, many_alike}
 use Rattle.proof_scanner.proofs.Refusals.TextsRefused.{first_char, refusal_fails, one_line, first_of, piece_line}
-use Rattle.proof_scanner.proofs.Refusals.Common.{ends_before}
+use Rattle.proof_scanner.proofs.Refusals.Common.{ends_before, nothing, plain_scalar, anchor_name, block_scalar}
 use Rattle.defs_token.specs.Plain.{inside, past}
 use Rattle.proof_lexers.specs.DirectiveEnds.{ends_line}
 use Rattle.proof_lexers.proofs.Directives.Values.{no_handle}
@@ -15,34 +13,16 @@ use Rattle.proof_scanner.specs.Failing as failing
 use Rattle.proof_scanner.proofs.First.Quoted as quoted
 use Rattle.proof_lexers.specs.HeaderEnds as headers
 
--- ---- a header's line after its indicators
-
--- whether a line is a header
-abbrev is_given : Option Header → Bool
-is_given None = false
-is_given (Some h) = true
-
--- A line is a header if nothing but a line's rest stands after its indicators.
-header_is : (style : BlockStyle) (w : List ℕ) → is_given (header_of (indicator_of style ∷ w)) ≡ is_rest_of_line (past_indicators w)
-unfolding sign_of digit_of
-header_is style w = grind arith
-
 -- ---- a comment right after the indicators
 
 blanks_with : (r t : List ℕ) → is_blanks_and_comment r ≡ true → is_blanks_and_comment (r ++ 35 ∷ t) ≡ true
 blanks_with [] t h = refl
 blanks_with (c ∷ r) t h = grind (arith, blanks_with r t)
 
-rest_with : (r t : List ℕ) → is_rest_of_line r ≡ true → is_rest_of_line (r ++ 35 ∷ t) ≡ false → r ≡ []
-rest_with r t h k = grind (arith, blanks_with)
-
 -- a line that is no header, but one before a comment
-comment_is : (style : BlockStyle) (line before text : List ℕ) (h : Header) → header_of (indicator_of style ∷ line) ≡ None → header_of (indicator_of style ∷ before) ≡ Some h → line ≡ before ++ 35 ∷ text → past_indicators line ≡ 35 ∷ text
-comment_is style line before text h lacks is cut =
-    let rest : past_indicators line ≡ past_indicators before ++ 35 ∷ text = ap past_indicators cut ∙ (grind arith) in
-    let ends : is_rest_of_line (past_indicators before) ≡ true = sym (header_is style before) ∙ ap is_given is in
-    let goes : is_rest_of_line (past_indicators before ++ 35 ∷ text) ≡ false = ap is_rest_of_line (sym rest) ∙ (sym (header_is style line) ∙ ap is_given lacks) in
-    rest ∙ ap (λ r. r ++ 35 ∷ text) (rest_with (past_indicators before) text ends goes)
+comment_is : (style : BlockStyle) (before text : List ℕ) (h : Header) → header_of (indicator_of style ∷ (before ++ 35 ∷ text)) ≡ None → header_of (indicator_of style ∷ before) ≡ Some h → past_indicators (before ++ 35 ∷ text) ≡ 35 ∷ text
+unfolding sign_of digit_of
+comment_is style before text h lacks is = grind (arith, blanks_with)
 
 -- ---- one reason why a line is no header
 
@@ -55,7 +35,7 @@ module _ (style : BlockStyle) (here : Position) (line : List ℕ) (lacks : heade
 
   header_reason : (why : Problem) (at : Position) → IsNoHeader style here line why at → HeaderReason why at
   header_reason why at (none.by_zero zero) = inl (zero, refl, refl)
-  header_reason why at (none.by_comment h before text is cut) = inr (inl (before, text, cut, comment_is style line before text h lacks is cut, refl, refl))
+  header_reason why at (none.by_comment h before text is cut) = inr (inl (before, text, cut, rw cut (comment_is style before text h (rw cut at lacks) is), refl, refl))
   header_reason why at (none.by_text no_zero more begins) = inr (inr (no_zero, begins, refl, refl))
 
   one_header : (why1 why2 : Problem) (at1 at2 : Position) → IsNoHeader style here line why1 at1 → IsNoHeader style here line why2 at2 → (why1 ≡ why2) × (at1 ≡ at2)
@@ -68,7 +48,7 @@ module _ (style : BlockStyle) (here : Position) (line : List ℕ) (lacks : heade
 -- Why a text that begins with `|` or `>` outside flow is no block scalar, or not one that may stand there; the reason comes first.
 pub data BlockReason (collection : List ℕ) (here : Position) (rest : List ℕ) : Problem → Position → Type 0 where
   headless : (style : BlockStyle) (line after : List ℕ) (why : Problem) (at : Position) → rest ≡ indicator_of style ∷ (line ++ after) → is_in_line line ≡ true → headers.ends_line after ≡ true → header_of (indicator_of style ∷ line) ≡ None
-      → (n : IsNoHeader style here line why at) → header_first style here line why at n → BlockReason collection here rest why at
+      → IsNoHeader style here line why at → BlockReason collection here rest why at
   fails : (why : Problem) (at : Position) (x : IsBlockFault collection here rest why at) → block_first collection here rest why at x → BlockReason collection here rest why at
 
 module _ (collection : List ℕ) (here : Position) (rest : List ℕ) (clean : has_no_nul rest ≡ true) where
@@ -95,13 +75,13 @@ module _ (collection : List ℕ) (here : Position) (rest : List ℕ) (clean : ha
       (refl, ap (λ p. past_spaces (position_after here p next) next) same.0 ∙ ap (λ n. past_spaces (position_after here piece2 n) n) same.1)
 
   pub one_block : (why1 why2 : Problem) (at1 at2 : Position) → BlockReason collection here rest why1 at1 → BlockReason collection here rest why2 at2 → (why1 ≡ why2) × (at1 ≡ at2)
-  one_block why1 why2 at1 at2 (headless style line after why at cut inner ends lacks n first) (headless style2 line2 after2 why3 at3 cut2 inner2 ends2 lacks2 m other) =
+  one_block why1 why2 at1 at2 (headless style line after why at cut inner ends lacks n) (headless style2 line2 after2 why3 at3 cut2 inner2 ends2 lacks2 m) =
       let same : indicator_of style2 ∷ line2 ≡ indicator_of style ∷ line = sym (line_here style2 line2 after2 cut2 inner2 ends2) ∙ line_here style line after cut inner ends in
       let style_is : style2 ≡ style = style_same style2 style (cc same) in
       let line_is : line2 ≡ line = cc same in
       one_header style here line lacks why1 why2 at1 at2 n (rw (sym style_is) (rw (sym line_is) m))
-  one_block why1 why2 at1 at2 (headless style line after why at cut inner ends lacks n first) (fails why3 at3 y other) = absurd (header_here why2 at2 y (ap header_of (line_here style line after cut inner ends) ∙ lacks))
-  one_block why1 why2 at1 at2 (fails why at x first) (headless style line after why3 at3 cut inner ends lacks n other) = absurd (header_here why1 at1 x (ap header_of (line_here style line after cut inner ends) ∙ lacks))
+  one_block why1 why2 at1 at2 (headless style line after why at cut inner ends lacks n) (fails why3 at3 y other) = absurd (header_here why2 at2 y (ap header_of (line_here style line after cut inner ends) ∙ lacks))
+  one_block why1 why2 at1 at2 (fails why at x first) (headless style line after why3 at3 cut inner ends lacks n) = absurd (header_here why1 at1 x (ap header_of (line_here style line after cut inner ends) ∙ lacks))
   one_block why1 why2 at1 at2 (fails why at x first) (fails why3 at3 y other) = one_fault why1 why2 at1 at2 x first y other
 
 -- ---- tags
@@ -149,9 +129,7 @@ abbrev declaration_wrong : List ℕ → Option Problem
 declaration_wrong text = (if begins_handle text then prefix_wrong (from_prefix text) else (if begins_with_mark text then Some TagDirectiveHandle else Some TagStart))
 
 declaration_is : (text : List ℕ) (why : Problem) → IsNoDeclaration text why → declaration_wrong text ≡ Some why
-declaration_is text why (directives.no_mark e) =
-    let no_mark_no_handle : begins_handle text ≡ false = grind (arith, e) in
-    rw (no_mark_no_handle, e) refl
+declaration_is text why (directives.no_mark e) = grind (arith, e)
 declaration_is text why (directives.open_name c name rest e lead none) = let lacks = no_handle c name rest lead none in rw e (rw lacks refl)
 declaration_is text why (directives.no_prefix is e) = rw (is, e) refl
 declaration_is text why (directives.by_octets f is begins e) = rw (is, begins, e) refl
@@ -176,25 +154,17 @@ line_wrong start line =
     (if is_empty (leading is_alpha line) then At DirectiveName (further 1 start) else
     (if is_at_gap (after is_alpha line) then named_wrong start line (is_same (leading is_alpha line) (codes "YAML")) else At DirectiveNameEnd (further 1 start)))
 
-of_version : (start : Position) (line : List ℕ) → HasName (codes "YAML") line → line_wrong start line ≡ named_wrong start line true
-of_version start line h = rw (h.is_name, h.is_whole) refl
-
-of_declaration : (start : Position) (line : List ℕ) → HasName (codes "TAG") line → line_wrong start line ≡ named_wrong start line false
-of_declaration start line h = rw (h.is_name, h.is_whole) refl
-
 after_it : (start : Position) (line rest : List ℕ) → IsVersionBefore line rest → line_wrong start line ≡ tail_wrong start line rest
-after_it start line rest v = grind (arith, nat_tests, eqb-true, version_wrong, said, number_right, leading, is_decimal_digit, of_version)
+after_it start line rest v = let name = v.is_version.is_name in let whole = v.is_version.is_whole in grind (arith, nat_tests, eqb-true, number_right, name, whole)
 
 refusal_is : (start : Position) (line : List ℕ) (f : Fault) → IsDirectiveRefusal start line f → line_wrong start line ≡ f
 refusal_is start line f (directives.no_name e) = rw e refl
 refusal_is start line f (directives.by_name some e) = rw (some, e) refl
-refusal_is start line f (directives.by_version why h n) = of_version start line h ∙ rw (version_is (said line) why n) refl
-refusal_is start line f (directives.by_declaration why h n) = of_declaration start line h ∙ rw (declaration_is (said line) why n) refl
+refusal_is start line f (directives.by_version why h n) = rw (h.is_name, h.is_whole, version_is (said line) why n) refl
+refusal_is start line f (directives.by_declaration why h n) = rw (h.is_name, h.is_whole, declaration_is (said line) why n) refl
 refusal_is start line f (directives.by_comment before rest cut v) = grind (arith, nat_tests, eqb-true, length-append, after_it)
 refusal_is start line f (directives.after_version rest v more begins) = after_it start line rest v ∙ rw begins refl
-refusal_is start line f (directives.after_declaration rest d more) =
-    let declaration_right : declaration_wrong (said line) ≡ None = rw (d.has_handle, d.has_prefix, d.is_prefix, d.is_before, d.is_apart) refl in
-    of_declaration start line d.is_declaration ∙ rw declaration_right refl
+refusal_is start line f (directives.after_declaration rest d more) = rw (d.is_declaration.is_name, d.is_declaration.is_whole, d.has_handle, d.has_prefix, d.is_prefix, d.is_before, d.is_apart) refl
 
 -- ---- a plain scalar has one fault that comes first
 
@@ -344,15 +314,6 @@ block_kind : (s : Setting) (column : ℕ) (style : BlockStyle) (more : List ℕ)
 unfolding is_blank_or_end is_blank is_break is_nul is_flow
 block_kind s column a more out = grind arith
 
-dash_kind : (s : Setting) (column : ℕ) (more : List ℕ) → is_at_gap more ≡ true → kind_here s column (45 ∷ more) ≡ dash
-dash_kind s column more gap = rw gap refl
-
-question_kind : (s : Setting) (column : ℕ) (more : List ℕ) → is_at_gap more ≡ true → kind_here s column (63 ∷ more) ≡ question
-question_kind s column more gap = rw gap refl
-
-colon_kind : (s : Setting) (column : ℕ) (more : List ℕ) → is_value_indicator s.in_flow s.adjacent more ≡ true → kind_here s column (58 ∷ more) ≡ colon
-colon_kind s column more is = rw is refl
-
 -- ---- each reason has its kind
 
 module _ (s : Setting) (here : Position) (rest : List ℕ) where
@@ -376,7 +337,7 @@ module _ (s : Setting) (here : Position) (rest : List ℕ) where
   none_reason why at (none.nameless false more e lacks) f = (anchor_name, ap (λ r. kind_here s here.col r) e, (refl, refl))
   none_reason why at (none.tagless more reason e r) f = (tag_text, ap (λ r. kind_here s here.col r) e, (more, e, r, refl))
   none_reason why at (none.unquoted single more reason e lacks n) f = of_quoted reason here (quoted.unquoted (least_column s.blocks s.awaits) here rest single more reason e lacks n f)
-  none_reason why at (none.headless style line next reason place out e one ends lacks n) f = (block_scalar, ap (λ r. kind_here s here.col r) e ∙ block_kind s here.col style (line ++ next) out, headless style line next reason place e one ends lacks n f)
+  none_reason why at (none.headless style line next reason place out e one ends lacks n) f = (block_scalar, ap (λ r. kind_here s here.col r) e ∙ block_kind s here.col style (line ++ next) out, headless style line next reason place e one ends lacks n)
   none_reason why at (none.undirected line next reason place col e one ends lacks r) f = (directive_line, ap (λ z. kind_here s here.col z) e, inr (line, next, col, e, one, ends, r))
 
   block_at : s.in_flow ≡ false → (why : Problem) (at : Position) → IsBlockFault s.blocks here rest why at → kind_here s here.col rest ≡ block_scalar
@@ -388,16 +349,14 @@ module _ (s : Setting) (here : Position) (rest : List ℕ) where
   followed_reason : (why : Problem) (at : Position) (n : IsFollowed s.in_flow here rest why at) → followed_first s.in_flow (least_column s.blocks s.awaits) s.taken s.full here rest why at n → OfKind why at
   unfolding is_blank_or_end is_blank is_break is_nul is_flow are_marks
   followed_reason why at (none.glued c more e is begins) f = bracket_reason c more why at e is ((c, more, e, inr (f, refl, refl)))
-  followed_reason why at (none.glued_to_quoted single piece more e is begins) f = of_quoted why at (quoted.glued_to_quoted (least_column s.blocks s.awaits) here rest single piece more e is begins f)
+  followed_reason why at (none.glued_to_quoted single piece more e is begins) f = of_quoted why at (quoted.closed (least_column s.blocks s.awaits) here rest single piece more _ _ e is f (inl (begins, refl, refl)))
   followed_reason why at (none.after_quoted single piece more passed content e is ends on solid) f = of_quoted why at (quoted.after_quoted (least_column s.blocks s.awaits) here rest single piece more passed content e is on solid f)
-  followed_reason why at (none.after_end more passed content col e gap on ends solid) f = (dots, ap (λ r. kind_here s here.col r) e ∙ (rw (col, gap) refl), (more, passed, content, e, on, solid, refl, refl))
-  followed_reason why at (none.tab_after_dash more passed content out e gap on tab_there begins) f = (dash, ap (λ r. kind_here s here.col r) e ∙ dash_kind s here.col more gap, inr (inr (out, f, more, passed, content, e, on, begins, refl, refl)))
-  followed_reason why at (none.no_space more [] content e gap on begins ends) f =
-      (question, ap (λ r. kind_here s here.col r) e ∙ question_kind s here.col more gap, inr (inl (f.0, more, e, grind arith, refl, refl)))
-  followed_reason why at (none.no_space more (c ∷ passed) content e gap on begins ends) f = absurd (cc f.1)
-  followed_reason why at (none.tab_after_question more passed content e gap cut fills) f = (question, ap (λ r. kind_here s here.col r) e ∙ question_kind s here.col more gap, inr (inr (f.0, more, passed, content, e, f.1, f.2, cut, fills, refl, refl)))
+  followed_reason why at (none.after_end more passed content col e gap on ends solid) f = (dots, rw (e, col, gap) refl, (more, passed, content, e, on, solid, refl, refl))
+  followed_reason why at (none.tab_after_dash more passed content out e gap on tab_there begins) f = (dash, rw (e, gap) refl, inr (inr (out, f, more, passed, content, e, on, begins, refl, refl)))
+  followed_reason why at (none.no_space more passed content e gap on begins ends) f = rw f.1 (question, rw (e, gap) refl, inr (inl (f.0, more, e, grind (arith, f), refl, refl)))
+  followed_reason why at (none.tab_after_question more passed content e gap cut fills) f = (question, rw (e, gap) refl, inr (inr (f.0, more, passed, content, e, f.1, f.2, cut, fills, refl, refl)))
   followed_reason why at (none.tab_after_colon more passed content e tab_there on lacks letter) f =
-      (colon, ap (λ r. kind_here s here.col r) e ∙ colon_kind s here.col more (ap (λ b. b || (s.in_flow && (begins_flow more || s.adjacent))) (tab_gap more tab_there)), inr (more, passed, content, e, no_colon_before more passed content tab_there on lacks letter, on, letter, refl, refl))
+      (colon, rw (e, tab_gap more tab_there) refl, inr (more, passed, content, e, no_colon_before more passed content tab_there on lacks letter, on, letter, refl, refl))
 
 -- ---- what fails first is a reason
 
@@ -413,12 +372,12 @@ module _ (a : Account) (separation : List ℕ) (here : Position) (rest : List �
   stands_reason why at (failing.too_deep bracket more e is many) f =
       let opens_flow : (c : ℕ) → (c ≡ 91) ⊎ (c ≡ 123) → (opens c ≡ true) × (is_flow_indicator c ≡ true) = λ c a. grind (arith, nat_tests, eqb-true) in
       seen_reason FlowTooDeep here f (bracket_reason own here rest bracket more FlowTooDeep here e (opens_flow bracket is).1 (bracket, more, e, inl (ap (λ b. b && is_full a) (opens_flow bracket is).0 ∙ (grind (arith, nat_tests, many)), refl, refl)))
-  stands_reason why at (failing.dash_in_flow more e gap flowing) f = seen_reason BlockEntryInFlow here f (dash, ap (λ r. kind_here own here.col r) e ∙ dash_kind own here.col more gap, inl (flowing, refl, refl))
-  stands_reason why at (failing.dash_not_free more e gap out line) f = seen_reason BlockEntryNotAllowed here f (dash, ap (λ r. kind_here own here.col r) e ∙ dash_kind own here.col more gap, inr (inl (out, line, refl, refl)))
+  stands_reason why at (failing.dash_in_flow more e gap flowing) f = seen_reason BlockEntryInFlow here f (dash, rw (e, gap) refl, inl (flowing, refl, refl))
+  stands_reason why at (failing.dash_not_free more e gap out line) f = seen_reason BlockEntryNotAllowed here f (dash, rw (e, gap) refl, inr (inl (out, line, refl, refl)))
   stands_reason why at (failing.key_on_earlier_line more begin x xs e is are takes had late) f =
-      seen_reason ColonMisplaced here f.0 (colon, ap (λ r. kind_here own here.col r) e ∙ colon_kind own here.col more is, inl (more, ap is_in_flow are, e, f.1, refl, refl))
+      seen_reason ColonMisplaced here f.0 (colon, rw (e, is) refl, inl (more, ap is_in_flow are, e, f.1, refl, refl))
   stands_reason why at (failing.question_not_free more e gap out line) f =
-      seen_reason KeyNotAllowed here f (question, ap (λ r. kind_here own here.col r) e ∙ question_kind own here.col more gap, inl (rw (out, line) refl, refl, refl))
+      seen_reason KeyNotAllowed here f (question, rw (e, gap) refl, inl (rw (out, line) refl, refl, refl))
   stands_reason why at (failing.tab_indents tabs) f = inl (tabs, refl, refl)
   stands_reason why at (failing.tab_after_quoted single piece gap content e is fills goes_on solid tabs) f =
       seen_reason TabInBlockIndentation _ f.0 (of_quoted own here rest TabInBlockIndentation _ (quoted.tab_after_quoted (least_column own.blocks own.awaits) here rest single piece gap content own.blocks own.awaits e is fills solid tabs f.1 f.2))
@@ -443,7 +402,8 @@ colon_alone a b like separation more here is out seen apart why at x =
     let own : Setting = setting_of a separation here in
     let at_colon : (n : List ℕ) → 58 ∷ more ≡ 58 ∷ n → more ≡ n = λ n e. cc e in
     let none_here : (why : Problem) (at : Position) → InKind colon own here (58 ∷ more) why at → ⊥ = λ why at h. grind (arith, nat_tests, eqb-true, out, apart, colon_may_precede, at_colon) in
-    let by : (why : Problem) (at : Position) → Reason own here (58 ∷ more) why at → ⊥ = λ why a b. grind (arith, none_here, own, here, more, colon_kind, is) in
+    let kind_is : kind_here own here.col (58 ∷ more) ≡ colon = rw is refl in
+    let by : (why : Problem) (at : Position) → Reason own here (58 ∷ more) why at → ⊥ = λ why a b. grind (arith, none_here, own, here, more, kind_is) in
     by why at (subst (λ s. Reason s here (58 ∷ more) why at) (sym (same_setting a b separation here like)) (reason_of b separation here (58 ∷ more) why at x))
 
 -- ---- one reason

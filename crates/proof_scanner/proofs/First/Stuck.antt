@@ -1,13 +1,12 @@
 -- A text is stuck at one place, with one kind.
-use Rattle.proof_scanner.proofs.Common.{Account, account_past, ap, Begins, Bool, colon_may_precede, fails, FailsFirst, false, first_account, HasNoKey, inl, inr, is_in_flow, is_taken, is_value_here, IsLike, IsLookedAt, IsPlace, IsStuck, key_waits, List, no_key, no_nul_after, Position, Problem, refl, Some, spelled, Step, subst, sym, true, up_to_nul, ℕ, ◌++◌, ◌∙◌, ◌∷◌, ◌≡◌, ◌⊎◌, arith, eqb-true, nat_tests, ValueNotAllowed, [], act_of, begins_separation, clean_up_to_end, comes_first, Fails, follows_plain, gives_node, has_no_nul, is_empty, is_free_of_tabs, is_indented_by_spaces, is_separation, IsQuoted, position_after, separations, Site, cases_Bool, TabInBlockIndentation}
-use Rattle.proof_scanner.proofs.Refusals.Common.{leads_on, GivesUp, GoesOn, KeepsOn, LeadsBy, Meet, Same, Way, With, begins_at_start, begins_past, clean_after, ends_before, first_on, gap_is_separation, gives_up_like, like_sym, meet, same_place, second_on, step_here, strict_way, way_but_for_key, way_of}
+use Rattle.proof_scanner.proofs.Common.{Account, account_past, ap, Begins, Bool, colon_may_precede, fails, FailsFirst, false, first_account, HasNoKey, inl, inr, is_in_flow, is_taken, is_value_here, IsLike, IsLookedAt, IsPlace, IsStuck, key_waits, List, no_key, no_nul_after, Position, Problem, refl, Some, spelled, Step, subst, sym, true, up_to_nul, ℕ, ◌++◌, ◌∙◌, ◌∷◌, ◌≡◌, ◌⊎◌, arith, eqb-true, nat_tests, ValueNotAllowed, [], begins_separation, clean_up_to_end, comes_first, Fails, follows_plain, has_no_nul, is_empty, is_free_of_tabs, is_indented_by_spaces, is_separation, IsQuoted, position_after, separations, Site, cases_Bool, TabInBlockIndentation}
+use Rattle.proof_scanner.proofs.Refusals.Common.{leads_on, GivesUp, GoesOn, KeepsOn, LeadsBy, Same, Way, With, begins_at_start, begins_past, clean_after, ends_before, first_on, gap_is_separation, gives_up_like, like_sym, meet, same_place, second_on, step_here, strict_way, way_but_for_key, way_of, no_comment}
 use Rattle.proof_scanner.proofs.Refusals.OtherRows.{StepAt, IsClearAfter, IsClearGapAfter, stood, step_from}
-use Rattle.proof_scanner.proofs.Refusals.PiecesRefused.{no_colon_here, node_site_past, node_token, quoted_value, same_quoted_value}
+use Rattle.proof_scanner.proofs.Refusals.PiecesRefused.{no_colon_here, node_site_past, quoted_here}
 use Rattle.proof_scanner.proofs.Refusals.NoRows.{keyless_step, no_step_stands, step_refuted}
 use Rattle.proof_scanner.proofs.Refusals.KeysThatWait.{Together, Apart, together_keeps, apart_keeps, first_together}
 use Rattle.proof_scanner.proofs.First.Reasons.{one_reason, colon_alone}
 use Rattle.defs_token.specs.Piece.{Holds}
-use Rattle.proof_scanner.proofs.Sound.PlainKeeps.{no_comment}
 use Rattle.defs_text.specs.Classes as classes
 use Rattle.proof_scanner.specs.Failing as failing
 
@@ -40,12 +39,11 @@ clear_way : (J : Account → Account → Type 0) → ((x y : Account) → J x y 
     → spelled vs (s2 ++ r2) ≡ gap ++ content → is_separation false gap content ≡ true → begins_separation content ≡ false → has_no_nul content ≡ true → has_no_nul r2 ≡ true → is_indented_by_spaces o.site.before o.site.blocks o.site.awaits gap ≡ true
 clear_way J same o b [] s2 r2 gap content row filled solid free e fills begins clean clean2 =
     let ends = separations s2 gap r2 content (filled, ends_before r2 solid clean2) (fills, ends_before content begins clean) e in
-    ap (λ f. is_indented_by_spaces o.site.before o.site.blocks o.site.awaits f) (sym ends.0) ∙ (ap (λ (x : Site). is_indented_by_spaces x.before x.blocks x.awaits s2) (same o b row) ∙ free refl)
+    rw (← ends.0, same o b row) (free refl)
 clear_way J same o b (v ∷ vs) s2 r2 gap content row filled solid free e fills begins clean clean2 =
     let next : List ℕ = spelled vs (s2 ++ r2) in
     let c = leads_on J (account_past row.0 v next) vs (s2 ++ r2) b row.3 in
-    ap (λ (x : Site). is_indented_by_spaces x.before x.blocks x.awaits gap) (same o row.0 row.1) ∙
-    subst (λ f. is_indented_by_spaces row.0.site.before row.0.site.blocks row.0.site.awaits f ≡ true) (step_here row.0 v next gap content row.2 e fills begins clean).0 (stood row.0 v next c.0 c.1).spaced
+    rw (same o row.0 row.1, ← (step_here row.0 v next gap content row.2 e fills begins clean).0) (stood row.0 v next c.0 c.1).spaced
 
 -- a reason that comes first where a TAB indents what comes is just this
 pub tab_alone : (b : Account) (separation : List ℕ) (here : Position) (rest : List ℕ) (why : Problem) (at : Position) (f : Fails b separation here rest why at) → comes_first b separation here rest why at f → is_free_of_tabs b separation ≡ false
@@ -80,13 +78,10 @@ module _ (J : Account → Account → Type 0) (same : (x y : Account) → J x y 
     at_quoted : (single : Bool) (piece gap content : List ℕ) → r1 ≡ piece ++ (gap ++ content) → IsQuoted single piece (gap ++ content) → is_separation false gap content ≡ true → begins_separation content ≡ false
         → position_after (position_after h1 piece (gap ++ content)) gap content ≡ h2
     at_quoted single piece gap content e is fills solid =
-        let v = same_quoted_value step single piece (gap ++ content) e is in
-        let cuts = one_gap gap content (sym v.2) fills solid in
-        let act : act_of step.step.shown ≡ gives_node = ap act_of (sym v.1) ∙ (node_token step single (quoted_value step single piece (gap ++ content) is)).0 in
-        let past_is = node_site_past step.account step.step step.next step.past act step.is_past in
-        let past : g.past.site.position ≡ position_after h1 piece (gap ++ content) =
-        ap (λ (x : Site). x.position) past_is ∙ (ap (λ p. position_after p step.step.piece step.next) step.position_is ∙ (ap (λ f. position_after h1 f step.next) (sym v.0) ∙ ap (λ r. position_after h1 piece r) (sym v.2))) in
-        ap (λ p. position_after p gap content) (sym past ∙ ap (λ (x : Site). x.position) site_is) ∙ (ap (λ f. position_after b.site.position f content) cuts.0 ∙ (ap (λ r. position_after b.site.position s2 r) cuts.1 ∙ sym q.is_here))
+        let v = quoted_here step single piece (gap ++ content) e is in
+        let cuts = one_gap gap content (sym v.next_is) fills solid in
+        let past_is = node_site_past step.account step.step step.next step.past v.act_is step.is_past in
+        cc (ap (λ (x : Site). x.position) past_is, ap (λ (x : Site). x.position) site_is, step.position_is, v.piece_is, v.next_is, cuts.0, cuts.1, q.is_here)
 
   -- Where a way goes on past a place, what fails there first is a TAB after a quoted scalar, which so fails at the next place.
   pub fails_before : (why1 why2 : Problem) (at1 at2 : Position) → FailsFirst a s1 h1 r1 why1 at1 → FailsFirst b s2 h2 r2 why2 at2 → (why1 ≡ why2) × (at1 ≡ at2)
@@ -184,34 +179,33 @@ module _ (text : List ℕ) {why1 why2 : Problem} {at1 at2 : Position} (f : Claim
 
   -- A colon for which no key waits is the only one of its text, and nothing else fails.
   keyless_once : Keyless text g.account g.separation g.rest g.here → (why1 ≡ ValueNotAllowed) × (at1 ≡ g.here)
-  keyless_once z = by (meet GivesUp Same (BeginsOrApart text) (keeps_apart text) f.way.steps way.steps after1 after2 first_account first_account f.account g.account (refl, tt, tt) (begins, inl (first_together, begins)) f.way.leads way.leads (f.way.spells ∙ sym way.spells) (clean_way text f.way.steps after1 f.way.spells))
+  keyless_once z = elim (meet GivesUp Same (BeginsOrApart text) (keeps_apart text) f.way.steps way.steps after1 after2 first_account first_account f.account g.account (refl, tt, tt) (begins, inl (first_together, begins)) f.way.leads way.leads (f.way.spells ∙ sym way.spells) (clean_way text f.way.steps after1 f.way.spells)) [
+    | same_place like r e ↦
+        let cut = one_cut f.stands g.stands like (clean_place f.way) e in
+        elim f.says [
+          | inl x ↦ absurd (colon_alone g.account f.account (like_sym f.account g.account like) g.separation z.more g.here z.is_value z.is_outside (rw (sym z.is_rest) z.looked) z.has_no_tab_after why1 at1 (rw (sym z.is_rest, sym cut.0, sym cut.1, sym cut.2) x))
+          | inr x ↦ (x.0, x.1 ∙ cut.2)
+        ]
+    | second_on n ↦
+        let s : StepAt f.account f.separation f.rest f.here = step Same (λ x y e. ap (λ (u : Account). u.site) e) (BeginsOrApart text) f.stands g.stands n (clean_place f.way) in
+        elim f.says [
+          | inl x ↦
+              absurd (no_step_stands s (clear Same (λ x y e. ap (λ (u : Account). u.site) e) (BeginsOrApart text) f.stands g.stands n (clean_place f.way) (λ _. z.looked.has_no_tab)) why1 at1 x.fails)
+          | inr x ↦ absurd (keyless_step text f.separation f.rest x.2.more f.account f.here s x.2.is_rest n.holds.0 x.2.place.is_filled x.2.is_value x.2.is_outside x.2.is_line_taken x.2.has_none)
+        ]
+    | first_on n ↦
+        let s : StepAt g.account g.separation g.rest g.here = step GivesUp gives_up_site (λ x y. BeginsOrApart text y x) g.stands f.stands n (clean_place g.way) in
+        elim n.holds.1 [
+          | inl r ↦ absurd (keyless_step text g.separation g.rest z.more g.account g.here s z.is_rest r.1 z.place.is_filled z.is_value z.is_outside z.is_line_taken z.has_none)
+          | inr r ↦ absurd (no_colon_here s z.more z.is_rest z.is_value z.is_outside z.is_line_taken (λ q waiting unbroken near. cc (waiting, r.1.none)))
+        ]
+  ]
     where
       way : Way Same text after2 g.account
       way = strict_way text after2 g.account z.place.begins
 
       begins : Begins text (spelled f.way.steps after1) first_account
       begins = rw f.way.spells (begins_at_start text)
-
-      by : Meet GivesUp Same (BeginsOrApart text) f.account g.account after1 after2 → (why1 ≡ ValueNotAllowed) × (at1 ≡ g.here)
-      by (same_place like r e) =
-          let cut = one_cut f.stands g.stands like (clean_place f.way) e in
-          elim f.says [
-            | inl x ↦ absurd (colon_alone g.account f.account (like_sym f.account g.account like) g.separation z.more g.here z.is_value z.is_outside (rw (sym z.is_rest) z.looked) z.has_no_tab_after why1 at1 (rw (sym z.is_rest, sym cut.0, sym cut.1, sym cut.2) x))
-            | inr x ↦ (x.0, x.1 ∙ cut.2)
-          ]
-      by (second_on n) =
-          let s : StepAt f.account f.separation f.rest f.here = step Same (λ x y e. ap (λ (u : Account). u.site) e) (BeginsOrApart text) f.stands g.stands n (clean_place f.way) in
-          elim f.says [
-            | inl x ↦
-                absurd (no_step_stands s (clear Same (λ x y e. ap (λ (u : Account). u.site) e) (BeginsOrApart text) f.stands g.stands n (clean_place f.way) (λ _. z.looked.has_no_tab)) why1 at1 x.fails)
-            | inr x ↦ absurd (keyless_step text f.separation f.rest x.2.more f.account f.here s x.2.is_rest n.holds.0 x.2.place.is_filled x.2.is_value x.2.is_outside x.2.is_line_taken x.2.has_none)
-          ]
-      by (first_on n) =
-          let s : StepAt g.account g.separation g.rest g.here = step GivesUp gives_up_site (λ x y. BeginsOrApart text y x) g.stands f.stands n (clean_place g.way) in
-          elim n.holds.1 [
-            | inl r ↦ absurd (keyless_step text g.separation g.rest z.more g.account g.here s z.is_rest r.1 z.place.is_filled z.is_value z.is_outside z.is_line_taken z.has_none)
-            | inr r ↦ absurd (no_colon_here s z.more z.is_rest z.is_value z.is_outside z.is_line_taken (λ q waiting unbroken near. cc (waiting, r.1.none)))
-          ]
 
 -- All claims of a text are one.
 pub stuck_once : (text : List ℕ) (why1 why2 : Problem) (at1 at2 : Position) → IsStuck text why1 at1 → IsStuck text why2 at2 → (why1 ≡ why2) × (at1 ≡ at2)

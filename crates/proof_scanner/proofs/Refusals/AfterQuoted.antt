@@ -1,15 +1,8 @@
 -- What may follow a scalar in quotes is not refused.
-use Rattle.proof_scanner.proofs.Common.{[], ap, append_assoc, arith, At, begins_with, Bool, check_after_quoted, ends_spaces, Err, false, Fault, glued, has_break, HasSpaces, held_of, if◌then◌else◌, in_flow, is_blank, is_blanks, is_blanks_and_comment, is_break, is_on_line, is_separation, IsGlued, leading, lexed, line_is_done, List, may_follow_quoted, nat_tests, Ok, or_left, peek, Position, position_after, quoted_may_end, Read, refl, Result, ScannerState, skip_spaces, space, spaces_are_passed, true, Whitespace, Yes, ℕ, ◌++◌, ◌==◌, ◌∙◌, ◌∷◌, ◌≡◌, eqb-true, ContentAfterQuoted, EndsAs}
-use Rattle.proof_lexers.specs.Ends as ends
+use Rattle.proof_scanner.proofs.Common.{[], append_assoc, arith, begins_with, Bool, ends_spaces, false, has_break, in_flow, is_blank, is_blanks, is_blanks_and_comment, is_break, is_on_line, is_separation, leading, line_is_done, List, may_follow_quoted, nat_tests, or_left, peek, Position, position_after, quoted_may_end, refl, ScannerState, true, Yes, ℕ, ◌++◌, ◌==◌, ◌∷◌, ◌≡◌, eqb-true}
 use Rattle.yaml_chars.specs.Class as model_classes
 use Rattle.proof_lexers.specs.PlainEnds as plains
-use Rattle.proof_scanner.proofs.Refusals.Common.{Spaced, after_blanks, blanks_alone, not_at_end, same_has_break, same_line, spaces_skipped}
-
--- a step of the model that is not refused, and what it leaves
-pub record Left (P : ScannerState → Type 0) (r : Result ScannerState Fault) : Type 0 where
-  pub value : ScannerState
-  pub is : r ≡ Ok value
-  pub holds : P value
+use Rattle.proof_scanner.proofs.Refusals.Common.{Spaced, after_blanks, blanks_alone, not_at_end, same_has_break, same_line}
 
 -- ---- the blanks after it
 
@@ -17,15 +10,6 @@ pub record Left (P : ScannerState → Type 0) (r : Result ScannerState Fault) : 
 pub unglued : (flow : Bool) (piece next : List ℕ) → quoted_may_end flow piece next ≡ true → begins_with 35 next ≡ false
 unfolding is_blank is_break
 unglued flow piece a h = grind arith
-
--- blanks and a comment after one are skipped
-skipped : (t : ScannerState) → begins_with 35 t.rest ≡ false → Left (Spaced Yes t) (skip_spaces Yes t)
-unfolding skip_spaces
-skipped t none = by (space Yes t.rest t.held.position) refl (spaces_are_passed Yes t.rest t.held.position)
-  where
-    by : (x : Result (Read Whitespace) Fault) → space Yes t.rest t.held.position ≡ x → EndsAs (HasSpaces Yes t.held.position t.rest) (IsGlued t.held.position t.rest) x → Left (Spaced Yes t) (lexed (space Yes t.rest t.held.position) t.held (λ w u. Ok u))
-    by x i (ends.reads y passed e) = record { value = _; is = (ap (λ z. lexed z t.held (λ w u. Ok u)) (i ∙ e)); holds = held_of _ (spaces_skipped Yes t) (ap (λ z. lexed z t.held (λ w u. Ok u)) (i ∙ e)) }
-    by x i (ends.refuses f (glued begins) e) = absurd (cc (begins, none))
 
 -- ---- what stands there
 
@@ -46,10 +30,6 @@ follows flow piece s rest same stays f h e may = grind (arith, nat_tests, blanks
 
 -- ---- the check
 
--- After a piece at a position the check lets through what may follow a quoted scalar.
-pub check_passes : (p : Position) (piece : List ℕ) (t : ScannerState) → t.held.position ≡ position_after p piece t.rest → quoted_may_end (in_flow t.held) piece t.rest ≡ true → Left (λ u. Unit {0}) (check_after_quoted p.line t)
-unfolding check_after_quoted
-check_passes p piece t is may =
-    let checked : ScannerState → Result ScannerState Fault = λ u. (if may_follow_quoted (in_flow u.held) (p.line == u.held.position.line) (peek u.rest) then Ok u else Err (At ContentAfterQuoted u.held.position)) in
-    let u : Left (Spaced Yes t) (skip_spaces Yes t) = skipped t (unglued (in_flow t.held) piece t.rest may) in
-    rw u.is (grind (arith, nat_tests, eqb-true, append_assoc, same_line, same_has_break, follows))
+-- After a piece at a position, and blanks and a comment, the check lets through what may follow a quoted scalar.
+pub check_passes : (p : Position) (piece : List ℕ) (t u : ScannerState) → t.held.position ≡ position_after p piece t.rest → quoted_may_end (in_flow t.held) piece t.rest ≡ true → Spaced Yes t u → may_follow_quoted (in_flow u.held) (p.line == u.held.position.line) (peek u.rest) ≡ true
+check_passes p piece t u is may s = grind (arith, nat_tests, eqb-true, append_assoc, same_line, same_has_break, follows)

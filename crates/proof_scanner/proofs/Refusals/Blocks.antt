@@ -1,8 +1,9 @@
 -- Faults of block scalars: the line is no header, or what stands after the scalar may not.
-use Rattle.proof_scanner.proofs.Common.{[], after_chars, allow_key, and_parts, ap, append-nil, are_empty, AreLines, arith, Arrives, begins_with, block, block_first, block_may_end, block_read, BlockRead, BlockStyle, body, Bool, Break, collection_of, columns, Err, false, Fault, fetch_block_scalar, folded, further_text, has_no_nul, header_of, Held, if◌then◌else◌, indicator_of, innermost, is_at_end, is_break, is_empty, is_in_line, is_literal, is_literal_style, is_nul, is_shallow, is_tabbed, IsBlockFault, leading_spaces, least_column, List, literal, nat_le, nat_lt, nat_tests, no_block, no_nul_after, None, not, Option, past, Position, position_after, Problem, read_body, read_lines, read_may_end, refl, refused_as, ScannerState, Some, spell, spell_more, split, split_spell, style_inner, subst, sym, tab, texts, true, unroll_non_block_indents, ℕ, ◌&&◌, ◌++◌, ◌||◌, ◌∙◌, ◌∷◌, ◌≡◌, eqb-true, cases_Bool, inl, inr, after_line, first_content, first_empty, first_header, further_position, is_empty_line, is_spaces, length, lines_may_end, ◌+◌, ◌≤◌, BlockScalarHeader, BlockScalarIndentation, BlockScalarTab, BlockScalarZero, CommentNotSeparated}
+use Rattle.proof_scanner.proofs.Common.{Bool, ◌&&◌, is_none, [], after_chars, allow_key, and_parts, ap, append-nil, are_empty, AreLines, arith, Arrives, begins_with, block, block_first, block_read, BlockRead, BlockStyle, Break, collection_of, columns, Err, false, Fault, fetch_block_scalar, folded, has_no_nul, header_of, Held, if◌then◌else◌, indicator_of, innermost, is_at_end, is_break, is_empty, is_in_line, is_literal, is_literal_style, is_nul, is_shallow, is_tabbed, IsBlockFault, leading_spaces, List, literal, nat_le, nat_lt, nat_tests, no_block, no_nul_after, None, not, Option, past, Position, position_after, Problem, read_lines, refl, refused_as, ScannerState, Some, spell, spell_more, split, split_spell, style_inner, sym, tab, texts, true, unroll_non_block_indents, ℕ, ◌++◌, ◌∙◌, ◌∷◌, ◌≡◌, eqb-true, after_line, first_content, first_empty, first_header, further_position, is_empty_line, is_spaces, length, ◌+◌, ◌≤◌, BlockScalarHeader, BlockScalarIndentation, BlockScalarTab, BlockScalarZero, CommentNotSeparated}
+use Rattle.std.proofs.lemmas.List.Folds.{list_all-append}
 use Rattle.model_scanner.specs.declared.kind.BlockStyle.TheVariants.{Literal, Folded}
 use Rattle.proof_lexers.proofs.Blocks.Written.{Line, put}
-use Rattle.proof_scanner.proofs.Refusals.Common.{Faults, IsWhy, LiesDeep, Told, end_no_text, goes, looked_at, none_begins, read, saved_is, saved_keys, some_chars, stuck_by, without_is}
+use Rattle.proof_scanner.proofs.Refusals.Common.{Faults, IsWhy, LiesDeep, Told, goes, looked_at, none_begins, read, saved_is, saved_keys, some_chars, stuck_by, without_is}
 use Rattle.proof_scanner.proofs.Sound.BlockEnds.{IsLeast, Written, written, spaces_col, ends_at_margin}
 use Rattle.proof_scanner.proofs.Refusals.TextsRefused.{header_alone}
 use Rattle.model_scanner.specs.declared.kind.BlockStyle as kind
@@ -27,46 +28,11 @@ none_is_empty column (l ∷ ls) p a z h = grind (arith, nat_tests, eqb-true, pas
 
 -- ---- what stands after it
 
--- the lines of a scalar that was written so, and what is asked of them
+-- the lines of a scalar that was written so
 pub lines_written : (piece next : List ℕ) (w : Written piece next) → (split piece).complete ≡ w.header.text ∷ texts w.lines
 lines_written piece next w = ap (λ x. (split x).complete) w.is ∙ ap (λ x. x.complete) (split_spell (w.header ∷ w.lines) [] w.are refl)
 
-pub lines_asked : (indent : ℕ) (b : BlockRead) (piece next bs : List ℕ) → IsLeast indent bs → block_read (collection_of indent) piece next ≡ Some b → (w : Written piece next) → lines_may_end bs b.column (w.header.text ∷ texts w.lines) next ≡ read_may_end bs (block_read (innermost bs) piece next) piece next
-lines_asked indent b piece next bs least is w =
-    ap (λ x. lines_may_end bs b.column x next) (sym (lines_written piece next w)) ∙ ap (λ o. read_may_end bs o piece next) (sym (ap (λ c. block_read c piece next) (sym least.0) ∙ is))
-
--- No TAB begins the line after a header, and what stands after a scalar without content is not both deeper than the block collection and left of the content column.
-pub record IsClear (indent : ℕ) (p : Position) (b : BlockRead) (piece next : List ℕ) : Type 0 where
-  pub untabbed : is_tabbed piece next ≡ false
-  pub deep : is_shallow indent p b piece next ≡ false
-
-module _ (indent : ℕ) (p : Position) (b : BlockRead) (piece next bs : List ℕ) (least : IsLeast indent bs) (is : block_read (collection_of indent) piece next ≡ Some b) where
-  -- before further text
-  module _ (further : is_at_end next ≡ false) (may : read_may_end bs (block_read (innermost bs) piece next) piece next ≡ true) where
-    w : Written piece next
-    w = written (collection_of indent) piece next b is further
-
-    both : (not (is_empty (texts w.lines) && begins_with tab next) ≡ true) × ((not (are_empty b.column (texts w.lines)) || nat_lt (leading_spaces next) (least_column bs true) || nat_le b.column (leading_spaces next)) ≡ true)
-    both = and_parts _ _ (lines_asked indent b piece next bs least is w ∙ may)
-
-    column_is : (further_position p piece next).col ≡ leading_spaces next
-    column_is =
-        let margin = ends_at_margin (collection_of indent) piece next b p is further in
-        let spaces = spaces_col (position_after p piece next) next in
-        omega (arith, margin, spaces)
-
-    before_text : IsClear indent p b piece next
-    before_text = grind (arith, nat_tests, eqb-true, lines_written, w, both, column_is, none_is_empty, first_header)
-
-  -- What stands after a block scalar that may end is not refused.
-  pub block_is_clear : has_no_nul next ≡ true → block_may_end bs piece next ≡ true → IsClear indent p b piece next
-  block_is_clear clean may = grind (arith, nat_tests, eqb-true, end_no_text, before_text)
-
 -- ---- texts
-
-inner_first : (a b : List ℕ) → is_in_line (a ++ b) ≡ true → is_in_line a ≡ true
-inner_first [] b h = refl
-inner_first (c ∷ a) b h = let parts = and_parts (not (is_break c)) (is_in_line (a ++ b)) h in rw parts.0 (inner_first a b parts.1)
 
 -- a fault that comes first
 abbrev FirstFault : (collection : List ℕ) (here : Position) (text : List ℕ) (why : Problem) (at : Position) → Type 0
@@ -89,37 +55,49 @@ piece_tab_fault collection o here text piece next b e is tabbed =
   where
     by : (m : List ℕ) × (next ≡ tab ∷ m) → (complete : List (List ℕ)) (last : List ℕ) → split piece ≡ record { complete = complete; last = last } → scan.is_single complete ≡ true → read_lines o complete last next false ≡ Some b
         → FirstFault collection here text BlockScalarTab here
-    by m (l ∷ []) [] lines_are single read = alone (header_of l) refl
-      where
-        alone : (y : Option defs.Header) → header_of l ≡ y → FirstFault collection here text BlockScalarTab here
-        alone None i = absurd (cc (ap (λ y. read_body y o (body [] further_text) next) i, read))
-        alone (Some h) i = (none.by_tab piece l m.0 h (e ∙ ap (λ r. piece ++ r) m.1) lines_are i, tt)
+    by m (l ∷ []) [] lines_are single read =
+        let h : (h : defs.Header) × (header_of l ≡ Some h) = grind arith in
+        (none.by_tab piece l m.0 h.0 (e ∙ ap (λ r. piece ++ r) m.1) lines_are h.1, tt)
     by m complete last lines_are single read = absurd (grind arith)
 
 -- ---- what stands after a scalar without content
 
 column_fault : (indent : ℕ) (bs : List ℕ) (here : Position) (text piece next : List ℕ) (b : BlockRead) → IsLeast indent bs → text ≡ piece ++ next → has_no_nul next ≡ true → block_read (collection_of indent) piece next ≡ Some b → is_tabbed piece next ≡ false → is_shallow indent here b piece next ≡ true
     → FirstFault bs here text BlockScalarIndentation (scan.further_position here piece next)
-column_fault indent bs here text piece next b least e clean is untabbed low = by (is_at_end next) refl (elim (cases_Bool (block_may_end bs piece next)) [ inl i ↦ absurd (cc ((block_is_clear indent here b piece next bs least is clean i).deep, low)) | inr i ↦ i ])
+column_fault indent bs here text piece next b least e clean is untabbed low =
+    (none.by_column piece w.header.text next (texts w.lines) b e read_here further (lines_written piece next w) empty (rw (least.1, ← column_is) parts.2) (rw (← column_is) parts.3), no_tab_fault)
   where
-    by : (x : Bool) → is_at_end next ≡ x → (x || read_may_end bs (block_read (innermost bs) piece next) piece next) ≡ false → FirstFault bs here text BlockScalarIndentation (scan.further_position here piece next)
-    by true further k = absurd (cc k)
-    by false further k =
-        let rest_fails : (t y l d : Bool) → t ≡ true → (t && (not y || l || d)) ≡ false → (y ≡ true) × (l ≡ false) × (d ≡ false) = λ t y l d e k. grind arith in
-        let w : Written piece next = written (collection_of indent) piece next b is further in
-        let no_tab : not (is_empty (texts w.lines) && begins_with tab next) ≡ true = grind (arith, (ap (λ x. scan.is_single x && begins_with tab next) (sym (lines_written piece next w)) ∙ untabbed)) in
-        let q = rest_fails (not (is_empty (texts w.lines) && begins_with tab next)) (are_empty b.column (texts w.lines)) (nat_lt (leading_spaces next) (least_column bs true)) (nat_le b.column (leading_spaces next)) no_tab (lines_asked indent b piece next bs least is w ∙ k) in
-        (none.by_column piece w.header.text next (texts w.lines) b e read_here further (lines_written piece next w) q.0 (grind (arith, nat_tests, q)) (grind (arith, nat_tests, q)), no_tab_fault)
+    parts : (is_at_end next ≡ false) × (is_none (first_content b.column true here piece) ≡ true) × (nat_le indent (further_position here piece next).col ≡ true) × (nat_lt (further_position here piece next).col b.column ≡ true)
+    parts = four (is_at_end next) _ _ _ low
       where
-        read_here : block_read (innermost bs) piece next ≡ Some b
-        read_here = ap (λ c. block_read c piece next) (sym least.0) ∙ is
+        four : (x y z u : Bool) → (((not x && y) && z) && u) ≡ true → (x ≡ false) × (y ≡ true) × (z ≡ true) × (u ≡ true)
+        four x y z u h = grind arith
 
-        -- no TAB stands after the header
-        no_tab_fault : (place : Position) → IsBlockFault bs here text BlockScalarTab place → ⊥
-        no_tab_fault place (none.by_tab own header more h cut one has) =
-            let alone = header_alone (innermost bs) header more own piece next b (sym e ∙ cut) one clean read_here in
-            let tabbed : is_tabbed piece next ≡ true = rw (alone.0, alone.1, one) refl in
-            cc (tabbed, untabbed)
+    further : is_at_end next ≡ false
+    further = parts.0
+
+    w : Written piece next
+    w = written (collection_of indent) piece next b is further
+
+    column_is : (further_position here piece next).col ≡ leading_spaces next
+    column_is =
+        let margin = ends_at_margin (collection_of indent) piece next b here is further in
+        let spaces = spaces_col (position_after here piece next) next in
+        omega (arith, margin, spaces)
+
+    -- no content begins in it
+    empty : are_empty b.column (texts w.lines) ≡ true
+    empty = grind (arith, nat_tests, eqb-true, w, (parts.1), none_is_empty, first_header)
+
+    read_here : block_read (innermost bs) piece next ≡ Some b
+    read_here = ap (λ c. block_read c piece next) (sym least.0) ∙ is
+
+    -- no TAB stands after the header
+    no_tab_fault : (place : Position) → IsBlockFault bs here text BlockScalarTab place → ⊥
+    no_tab_fault place (none.by_tab own header more h cut one has) =
+        let alone = header_alone (innermost bs) header more own piece next b (sym e ∙ cut) one clean read_here in
+        let tabbed : is_tabbed piece next ≡ true = rw (alone.0, alone.1, one) refl in
+        cc (tabbed, untabbed)
 
 -- ---- the scan
 
@@ -149,7 +127,7 @@ module _ {text : List ℕ} {t : ScannerState} (a : Arrives text t) (some : is_em
       λ _. none_begins a some lies BlockScalarZero _ (none.headless style line after BlockScalarZero t.held.position (ap not out) e inline ends lacks (none.by_zero zero)) tt
   header_told style line after e inline ends g (headers.comment h before more lacks is cut) =
       let place : headers.along before (past t.held.position) ≡ position_after t.held.position (indicator_of style ∷ before) (35 ∷ more) =
-      (sym (after_chars (indicator_of style ∷ before) [] (35 ∷ more) t.held.position (style_inner style before (inner_first before (35 ∷ more) (ap is_in_line (sym cut) ∙ inline)))) ∙ ap (λ w. position_after t.held.position w (35 ∷ more)) (append-nil (indicator_of style ∷ before))) in
+      (sym (after_chars (indicator_of style ∷ before) [] (35 ∷ more) t.held.position (style_inner style before (and_parts (is_in_line before) (is_in_line (35 ∷ more)) (sym (list_all-append _ before (35 ∷ more)) ∙ (ap is_in_line (sym cut) ∙ inline))).0)) ∙ ap (λ w. position_after t.held.position w (35 ∷ more)) (append-nil (indicator_of style ∷ before))) in
       rw place (λ _. none_begins a some lies CommentNotSeparated _
       (none.headless style line after CommentNotSeparated _ (ap not out) e inline ends lacks (none.by_comment h before more is cut)) tt)
   header_told style line after e inline ends g (headers.no_header lacks zero more begins) =
@@ -157,13 +135,13 @@ module _ {text : List ℕ} {t : ScannerState} (a : Arrives text t) (some : is_em
 
   block_refused : (style : BlockStyle) (indent : ℕ) (more : List ℕ) → t.rest ≡ indicator_of style ∷ more → IsLeast indent collections → (f : Fault) → block (is_literal_style style) indent t.rest t.held.position ≡ Err f → Told text f
   block_refused style indent more e deep f k =
-      by f (refused_as (ap (λ r. block (is_literal_style style) indent r t.held.position) (sym e) ∙ k) (blocks.scans_end style indent more t.held.position (some_chars more ((and_parts (not (is_nul (indicator_of style))) (has_no_nul more) (subst (λ r. has_no_nul r ≡ true) e a.is_clean)).1))))
+      by f (refused_as (ap (λ r. block (is_literal_style style) indent r t.held.position) (sym e) ∙ k) (blocks.scans_end style indent more t.held.position (some_chars more (no_nul_after (indicator_of style ∷ []) more (rw e at a.is_clean)))))
     where
       by : (g : Fault) → block_ends.IsBlockRefusal style indent t.held.position more g → Told text g
       by g (block_ends.bad_header line after cut inline ends why) = header_told style line after (e ∙ ap (λ r. indicator_of style ∷ r) cut) inline ends g why
       by g (block_ends.after_piece piece next b it (scan.shallow free low)) =
           λ _. block_stuck BlockScalarIndentation (scan.further_position t.held.position piece next)
-          (column_fault indent collections t.held.position t.rest piece next b deep (e ∙ it.is_text) (no_nul_after piece next (subst (λ r. has_no_nul r ≡ true) (e ∙ it.is_text) a.is_clean)) it.is_read free low)
+          (column_fault indent collections t.held.position t.rest piece next b deep (e ∙ it.is_text) (no_nul_after piece next (rw (e ∙ it.is_text) at a.is_clean)) it.is_read free low)
       by g (block_ends.after_piece piece next b it (scan.tabbed begins)) =
           λ _. block_stuck BlockScalarTab t.held.position (piece_tab_fault collections (collection_of indent) t.held.position t.rest piece next b (e ∙ it.is_text) it.is_read begins)
 

@@ -17,7 +17,7 @@ pub use Rattle.proof_scanner.proofs.Sound.Stales.{cut_position, stands_cut, no_e
 pub use Rattle.proof_scanner.proofs.Sound.Fetches.{Fetched, content_kept, fetch_keeps, fetched}
 pub use Rattle.proof_scanner.proofs.Sound.LastLines.{break_append, last_first, last_more, last_whole}
 pub use Rattle.proof_scanner.proofs.Sound.Passed.{Exact, least_is, same_has_break, skip_stays}
-pub use Rattle.proof_scanner.proofs.Sound.PlainKeeps.{same_innermost, solid_text}
+pub use Rattle.proof_scanner.proofs.Sound.PlainKeeps.{same_innermost, solid_text, no_comment}
 pub use Rattle.proof_scanner.proofs.Sound.QuotedEnds.{Checked, after_blanks, blanks_alone, not_at_end, quoted_checked, same_line, unglued}
 pub use Rattle.proof_scanner.proofs.Sound.QuotedKeeps.{QuotedAs, in_line, piece_of, quoted_as}
 pub use Rattle.proof_scanner.proofs.Sound.Runs.{first_fetch, reached}
@@ -27,3 +27,8 @@ pub use Rattle.proof_scanner.proofs.Sound.ToToken.{is_in, passed_stands}
 pub use Rattle.proof_scanner.proofs.Sound.WhiteSpaces.{no_tab_in, past_white, past_white_space, white_cut, white_exactly, white_first, white_of, white_or_missed}
 pub use Rattle.proof_scanner.proofs.Sound.Rolled.{AreClosed, without_is}
 pub use Rattle.proof_scanner.proofs.Sound.Reads.{held_exactly}
+pub use Rattle.proof_row.specs.Ends.{anchor_name, block_scalar, nothing, plain_scalar}
+unfoldable pub use Rattle.yaml_chars.specs.Class.{is_alpha, is_break}
+pub use Rattle.proof_scanner.specs.NoPiece.{quote_of}
+pub use Rattle.proof_row.proofs.Written.{At}
+pub use Rattle.model_scanner.specs.State.{after}

@@ -1,8 +1,7 @@
 -- The faults of a fetch: each of a kind that is told is one by which the text is stuck.
-use Rattle.proof_scanner.proofs.Common.{ap, are_marks, arith, Arrives, At, before_by, before_past, begins_document_at, begins_with, columns, eqb-true, false, fetch_content, fetch_here, fetch_stream_end, fetch_token, has_open_level, has_required, inl, inr, is_adjacent, is_document_marker, is_empty, List, may_not_stand, nat_le, nat_lt, nat_tests, next_line, not, peek, refl, ScannerState, site_here, subst, sym, Tok, true, ℕ, ◌&&◌, ◌+◌, ◌==◌, ◌||◌, ◌∙◌, ◌≡◌, ◌≤◌, cases_Bool, [], and_parts, AreLevels, Bool, if◌then◌else◌, Indent, innermost, is_deeper, IsNotRight, IsTopLevel, not_ended, ◌-◌, ◌∷◌, InvalidIndentation, KeyExpected, UnexpectedAt, UnexpectedBacktick, UnexpectedPercent}
+use Rattle.proof_scanner.proofs.Common.{ap, are_marks, arith, Arrives, At, before_by, before_past, begins_document_at, begins_with, columns, eqb-true, false, fetch_content, fetch_here, fetch_stream_end, fetch_token, has_open_level, has_required, inl, inr, is_adjacent, is_document_marker, is_empty, List, may_not_stand, nat_le, nat_lt, nat_tests, next_line, not, peek, refl, ScannerState, sym, Tok, true, ℕ, ◌&&◌, ◌+◌, ◌==◌, ◌||◌, ◌∙◌, ◌≡◌, ◌≤◌, cases_Bool, [], AreLevels, Bool, Indent, is_deeper, not_ended, ◌-◌, ◌∷◌, InvalidIndentation, KeyExpected, UnexpectedAt, UnexpectedBacktick, UnexpectedPercent}
 use Rattle.model_scanner.specs.declared.kind.Collection.TheVariants.{Sequence, Mapping}
-use Rattle.model_scanner.specs.State.{after}
-use Rattle.proof_scanner.proofs.Refusals.Common.{Faults, IsDeep, IsRowless, IsWhy, LiesDeep, Told, content_holds, either, fault, goes_on_here, no_end, none_begins, rowless_told, stuck_by, token_holds, tried}
+use Rattle.proof_scanner.proofs.Refusals.Common.{Faults, IsDeep, IsRowless, IsWhy, LiesDeep, Told, content_holds, either, fault, goes_on_here, no_end, none_begins, rowless_told, stuck_by, token_holds, tried, after}
 use Rattle.proof_scanner.proofs.Refusals.Nodes.{name_told, plain_told, tag_told, quoted_told}
 use Rattle.proof_scanner.proofs.Refusals.Blocks.{block_told}
 use Rattle.proof_scanner.proofs.Refusals.Indicators.{directive_told, marker_told, document_end_told, dash_told, question_told, colon_told, opening_told, closing_told, comma_told}
@@ -14,16 +13,7 @@ use Rattle.proof_scanner.specs.NoPiece as none
 
 pub levels_end : (col : ℕ) (bs : List ℕ) (awaits : Bool) (i : ℕ) (ds : List Indent) → AreLevels i ds → not_ended col bs ≡ columns i ds → (awaits && is_deeper col bs) ≡ has_open_level ds → i ≤ col + 1
 levels_end col bs aw i [] a e o = omega (arith, a)
-levels_end col bs aw i (d ∷ ds) a e o = by d.needs_block_end a.0 e o
-  where
-    by : (b : Bool) → IsTopLevel b i d.indent ds → not_ended col bs ≡ (if b then (i - 1) ∷ columns d.indent ds else columns d.indent ds) → (aw && is_deeper col bs) ≡ not b → i ≤ col + 1
-    by true t f o =
-        let first : i - 1 ≤ col = subst (λ x. IsNotRight (innermost x) col) f (first_stays col bs) in
-        omega (arith, first)
-    by false t f o =
-        let deeper : is_deeper col bs ≡ true = (and_parts aw (is_deeper col bs) o).1 in
-        let outer : d.indent ≤ col = grind (arith, nat_tests, eqb-true) in
-        omega (arith, t.0, outer)
+levels_end col bs aw i (d ∷ ds) a e o = grind (arith, nat_tests, first_stays col bs)
 
 module _ {text : List ℕ} {t : ScannerState} (a : Arrives text t) (some : is_empty t.rest ≡ false) where
   -- ---- the token by the first character
@@ -55,9 +45,7 @@ module _ {text : List ℕ} {t : ScannerState} (a : Arrives text t) (some : is_em
   shallow : begins_document_at t.held.position t.rest ≡ false → nat_lt (t.held.position.col + 1) t.held.indent ≡ true → IsWhy text InvalidIndentation t.held.position
   shallow none low = elim (cases_Bool (is_empty t.held.flow)) [
     | inl e ↦
-        let deep : t.held.indent ≤ t.held.position.col + 1 = levels_end t.held.position.col a.base.site.blocks a.base.site.awaits t.held.indent t.held.indents a.are_levels
-        (subst (λ b. (site_here (not b) t.held.position a.base.site).blocks ≡ columns t.held.indent t.held.indents) e a.blocks_are)
-        (subst (λ b. (site_here (not b) t.held.position a.base.site).awaits ≡ has_open_level t.held.indents) e a.awaits_is) in
+        let deep : t.held.indent ≤ t.held.position.col + 1 = levels_end _ _ _ _ _ a.are_levels (rw e at a.blocks_are) (rw e at a.awaits_is) in
         absurd (grind (arith, nat_tests, deep, low))
     | inr e ↦
         stuck_by a some InvalidIndentation t.held.position (λ b bs k. (b ≡ true) × (nat_le k t.held.position.col ≡ false)) (ap not e, grind (arith, nat_tests, low))

@@ -2,7 +2,7 @@
 use Rattle.proof_scanner.proofs.Common.{or-false, cases_Bool, innermost, IsNotRight, [], Account, account_past, Act, act_of, ap, arith, begins_free_line, begins_separation, BeginsButForKey, blocks_at, Bool, Entry, fails, false, first_account, free, gives_node, has_break, HasRow, inl, inr, is_empty, is_in_column, is_in_flow, is_marker, is_separation, IsRowFrom, IsWritten, key_waits, length, LikeEntries, LikeLine, Line, line_past, line_past_separation, List, no_key, no_nul_after, None, not, not-true, not_ended, Outside, Position, position_after, position_in_line, previous_by, refl, Row, same_flow, Site, site_at, Some, spelled, Step, subst, sym, taken, TextsWithARowAreNotStuck, Tok, true, waits, ℕ, ◌++◌, ◌+◌, ◌<◌, ◌∙◌, ◌∷◌, ◌≡◌, ◌≤◌, ◌⊎◌, eqb-true, nat_tests, append-nil, append_assoc, append_cancel_right, AreAround, AreEntries, Arrives, Begins, comma, first_position, FlowLevel, gives_closing, gives_comma, GoesThrough, has_no_nul, has_required, HasNoKey, in_flow, is_blank, is_blank_or_end, is_break, is_far, is_flow, is_nul, is_required, IsNear, IsPositionIn, Key, Leads, mapping_closing, MayChoose, Option, outside_key, position_append, ScannerState, sequence_closing, Stands, suc, top_key, ◌||◌, IsAt}
 use Rattle.proof_scanner.proofs.Refusals.Common.{IsRowless, Keeps, Same, Walked, With, account_by, at_end, cut_position, in_flow_is, index_after, no_entries, not_before_after, not_none, piece_ends, place, stands_cut, step_here, strictly, walk, whole_text, with_entries}
 use Rattle.proof_scanner.proofs.Refusals.PiecesRefused.{Here, marker_begins, whole_by}
-use Rattle.proof_scanner.proofs.Known.Made.{same_of, waited, still_there, like_past, Waits, begun, kept, waits_past, Made, outside, inside, made}
+use Rattle.proof_scanner.proofs.Known.Made.{same_of, waited, still_there, like_past, begun, kept, waits_past, Made, outside, inside, made}
 use Rattle.proof_scanner.proofs.Refusals.OtherRows.{none_ends, goes_near, keeps_on, row_begins, StepAt, RowAt, row_at, BeginsWith, begins_with_part}
 use Rattle.proof_scanner.proofs.Refusals.NoRows.{failing_places_have_no_row, no_keyless_colon}
 use Rattle.proof_row.proofs.CutColumns.{unbroken}
@@ -43,17 +43,15 @@ waiting_past s l es w next b on is e q wt = by (made s l es w next b e)
     here = position_after s.position w.separation (w.piece ++ next)
 
     by : Made s l es w next b → OnLine q b.site
-    by (outside m o none sep past line site one) = to (waits_past _ _ _ _ w.key m o q past (sym line ∙ wt))
-      where
-        unbroken : has_break w.piece ≡ false
-        unbroken = grind (arith, wt, one)
-
-        to : Waits (is_in_column here.col (site_at false s w.separation w.piece w.shown next).blocks) here (site_at false s w.separation w.piece w.shown next).blocks (act_of w.shown) m o q → OnLine q b.site
-        to (begun k f h bs) = line_after q here w.piece w.shown next b.site (ap (λ (x : Site). x.position) site) (ap (λ (x : Site). x.before) site) (ap (λ (x : Position). x.line) h) (let col = ap (λ (x : Position). x.col) h in omega (arith, col)) is.1.0 unbroken (ap is_marker k)
-        to (kept k f bs) =
-            let was = waited false (begins_free_line s.before w.separation) l m q sep f in
-            let far = here_on q s w.separation (w.piece ++ next) (on q was.0) was.1 in
-            line_after q here w.piece w.shown next b.site (ap (λ (x : Site). x.position) site) (ap (λ (x : Site). x.before) site) far.0 (omega (arith, far.1)) is.1.0 unbroken (ap is_marker k)
+    by (outside m o none sep past line site one) =
+        let unbroken : has_break w.piece ≡ false = grind (arith, wt, one) in
+        elim (waits_past _ _ _ _ w.key m o q past (sym line ∙ wt)) [
+          | begun k f h bs ↦ line_after q here w.piece w.shown next b.site (ap (λ (x : Site). x.position) site) (ap (λ (x : Site). x.before) site) (ap (λ (x : Position). x.line) h) (let col = ap (λ (x : Position). x.col) h in omega (arith, col)) is.1.0 unbroken (ap is_marker k)
+          | kept k f bs ↦
+              let was = waited false (begins_free_line s.before w.separation) l m q sep f in
+              let far = here_on q s w.separation (w.piece ++ next) (on q was.0) was.1 in
+              line_after q here w.piece w.shown next b.site (ap (λ (x : Site). x.position) site) (ap (λ (x : Site). x.before) site) far.0 (omega (arith, far.1)) is.1.0 unbroken (ap is_marker k)
+        ]
     by (inside some sep site one) =
         let unmarked : (c : Bool) → is_marker (act_of w.shown) ≡ c → suc q.col ≤ here.col → is_marker (act_of w.shown) ≡ false = λ c h e. grind (arith, nat_tests, eqb-true, marker_begins, next, is) in
         let was = waited true (begins_free_line s.before w.separation) l b.line q sep wt in
@@ -86,27 +84,25 @@ known_after s l m ds es w c next a b i j on known e1 e2 q wt = by (made s l ds w
     broken : Bool
     broken = begins_free_line s.before w.separation
 
-    both : (n o : Line) (u v : Outside) → line_past_separation false broken l ≡ Some n → line_past_separation false broken m ≡ Some o
-        → line_past (is_in_column at.position.col at.blocks) at.position at.blocks (act_of w.shown) c o ≡ Some v → Waits (is_in_column at.position.col at.blocks) at.position at.blocks (act_of w.shown) n u q
-        → IsNotRight (innermost u.blocks) q.col × (is_in_column q.col u.blocks ≡ true → v.line ≡ waits q)
-    both n o u v sep1 sep2 past (begun act fr h bs) =
-        -- a node that must be a key is one
-        let must_wait : (must : Bool) (here : Position) (bs : List ℕ) (k : Act) (c : Bool) (n o : Line) (v : Outside) → LikeLine n o → n ≡ free → k ≡ gives_node → must ≡ true → line_past must here bs k c o ≡ Some v → v.line ≡ waits here = λ must here bs k a n o v i f g m e. grind arith in
-        let going : at.blocks ≡ not_ended at.position.col s.blocks = ap (λ k. blocks_at false k at.position.col s.blocks) act in
-        rw (bs, ← h) (rw going (first_stays at.position.col s.blocks), λ col. must_wait _ at.position at.blocks _ c n o v (like_past false broken l m n o i sep1 sep2) fr act col past)
-    both n o u v sep1 sep2 past (kept act is bs) =
-        -- after a node a key still waits
-        let waits_on : (must : Bool) (here : Position) (bs : List ℕ) (k : Act) (c : Bool) (o : Line) (v : Outside) (q : Position) → o ≡ waits q → k ≡ gives_node → line_past must here bs k c o ≡ Some v → v.line ≡ waits q = λ must here bs k c o v q w g e. grind arith in
-        -- where none is right of a column, none ends there or right of it
-        let all_stay : (q c : ℕ) (bs : List ℕ) → IsNotRight (innermost bs) q → q ≤ c → not_ended c bs ≡ bs = λ q c a h l. grind (arith, nat_tests) in
-        let was : (l ≡ waits q) × (broken ≡ false) = waited false broken l n q sep1 is in
-        let right = (here_on q s w.separation (w.piece ++ next) (on q was.0) was.1).1 in
-        let going : at.blocks ≡ s.blocks = ap (λ k. blocks_at false k at.position.col s.blocks) act ∙ all_stay q.col at.position.col s.blocks (known q was.0).0 (omega (arith, right)) in
-        rw (bs, going) ((known q was.0).0, λ col. waits_on _ at.position at.blocks _ c o v q (still_there false broken m o q ((known q was.0).1 col) sep2).1 act past)
-
     by : Made s l ds w next a → Made s m es (With w c) next b → IsNotRight (innermost a.site.blocks) q.col × (is_in_column q.col a.site.blocks ≡ true → b.line ≡ waits q)
     by (outside n u n1 sep1 past1 line1 site1 one1) (outside o v n2 sep2 past2 line2 site2 one2) =
-        let r = both n o u v sep1 sep2 past2 (waits_past _ _ _ (act_of w.shown) w.key n u q past1 (sym line1 ∙ wt)) in rw site1 (r.0, λ col. line2 ∙ r.1 col)
+        let r : IsNotRight (innermost u.blocks) q.col × (is_in_column q.col u.blocks ≡ true → v.line ≡ waits q) = elim (waits_past _ _ _ (act_of w.shown) w.key n u q past1 (sym line1 ∙ wt)) [
+          | begun act fr h bs ↦
+              -- a node that must be a key is one
+              let must_wait : (must : Bool) (here : Position) (bs : List ℕ) (k : Act) (c : Bool) (n o : Line) (v : Outside) → LikeLine n o → n ≡ free → k ≡ gives_node → must ≡ true → line_past must here bs k c o ≡ Some v → v.line ≡ waits here = λ must here bs k a n o v i f g m e. grind arith in
+              let going : at.blocks ≡ not_ended at.position.col s.blocks = ap (λ k. blocks_at false k at.position.col s.blocks) act in
+              rw (bs, ← h) (rw going (first_stays at.position.col s.blocks), λ col. must_wait _ at.position at.blocks _ c n o v (like_past false broken l m n o i sep1 sep2) fr act col past2)
+          | kept act is bs ↦
+              -- after a node a key still waits
+              let waits_on : (must : Bool) (here : Position) (bs : List ℕ) (k : Act) (c : Bool) (o : Line) (v : Outside) (q : Position) → o ≡ waits q → k ≡ gives_node → line_past must here bs k c o ≡ Some v → v.line ≡ waits q = λ must here bs k c o v q w g e. grind arith in
+              -- where none is right of a column, none ends there or right of it
+              let all_stay : (q c : ℕ) (bs : List ℕ) → IsNotRight (innermost bs) q → q ≤ c → not_ended c bs ≡ bs = λ q c a h l. grind (arith, nat_tests) in
+              let was : (l ≡ waits q) × (broken ≡ false) = waited false broken l n q sep1 is in
+              let right = (here_on q s w.separation (w.piece ++ next) (on q was.0) was.1).1 in
+              let going : at.blocks ≡ s.blocks = ap (λ k. blocks_at false k at.position.col s.blocks) act ∙ all_stay q.col at.position.col s.blocks (known q was.0).0 (omega (arith, right)) in
+              rw (bs, going) ((known q was.0).0, λ col. waits_on _ at.position at.blocks _ c o v q (still_there false broken m o q ((known q was.0).1 col) sep2).1 act past2)
+        ] in
+        rw site1 (r.0, λ col. line2 ∙ r.1 col)
     by (outside n u n1 sep1 past1 line1 site1 one1) (inside some sep2 site2 one2) = absurd (cc (sym (ap is_in_flow n1) ∙ same_flow ds es j ∙ some))
     by (inside some sep1 site1 one1) (outside o v n2 sep2 past2 line2 site2 one2) = absurd (cc (sym some ∙ same_flow ds es j ∙ ap is_in_flow n2))
     by (inside some1 sep1 site1 one1) (inside some2 sep2 site2 one2) =
@@ -220,9 +216,7 @@ further_in text f rest p at = record {
 }
 
 place_past : (text : List ℕ) (x y : Account) (w : Step) (next : List ℕ) → IsPositionIn text (w.separation ++ (w.piece ++ next)) x.site.position → account_past x w next ≡ Some y → IsPositionIn text next y.site.position
-place_past text x y w next at e =
-    let place : Made x.site x.line x.entries w next y → y.site.position ≡ position_after (position_after x.site.position w.separation (w.piece ++ next)) w.piece next = λ h. grind (arith, nat_tests, eqb-true, outside, inside) in
-    subst (IsPositionIn text next) (sym (place (made x.site x.line x.entries w next y e))) (further_in text w.piece next _ (further_in text w.separation (w.piece ++ next) x.site.position at))
+place_past text x y w next at e = grind (arith, (made x.site x.line x.entries w next y e), further_in)
 
 -- A separation after a beginning of a row ends where the scanner is, before the same text.
 same_place : (text separation rest : List ℕ) (p : Position) (b : Account) → has_no_nul text ≡ true → IsPositionIn text rest p → Begins text (separation ++ rest) b → p ≡ position_after b.site.position separation rest
@@ -247,12 +241,8 @@ near_there text after q g waiting separation rest cut filled = by g.steps g.is_r
         let n = goes_near w ws g.last g.account q waiting row in
         let on = here_on q g.account.site w.separation next (begins_waiting text after g.account g.begins q waiting) n.unbroken in
         let whole : position_after p w.separation next ≡ position_after here part.more next = ap (λ f. position_after p f next) part.whole_is ∙ (position_append p separation part.more next ∙ ap (λ r. position_after (position_after p separation r) part.more next) (sym part.rest_is)) in
-        let line = ap (λ (x : Position). x.line) (sym whole) ∙ on.0 in
-        let index = ap (λ (x : Position). x.index) whole in
-        let near = n.near in
         let later = (not_before_after here part.more next).0 in
-        let many = index_after here part.more next in
-        grind (arith, nat_tests, line, index, near, later, many)
+        grind (arith, nat_tests, whole, on.0, n.near, later, index_after here part.more next)
 
 -- At the text's end no key waits in the row.
 none_at_end : (text separation rest : List ℕ) (q : Position) (g : GoesThrough text (separation ++ rest)) → g.account.line ≡ waits q → is_separation false separation rest ≡ true → rest ≡ [] → ⊥

@@ -1,5 +1,5 @@
 -- Faults of names, tags, plain and quoted scalars: no such piece begins with the text.
-use Rattle.proof_scanner.proofs.Common.{anchor_name, and_parts, ap, are_single, Arrives, context, false, Fault, fetch_anchor, fetch_flow_scalar, fetch_tag, has_no_nul, in_flow, is_empty, is_nul, List, mark_of, NameKind, names_end, node_start, not, Ok, quoted, Quotes, Read, refused_as, ScannerState, subst, sym, tags_end, true, ℕ, ◌∙◌, ◌∷◌, ◌≡◌, [], columns, Context, Position, position_after, ◌++◌, arith, eqb-true, nat_tests, AnchorName, Alias, Anchor, allow_key, before_by, before_past, begins_left, collection_of, comes_plain, fetch_plain_scalar, goes_on, goes_over, HasNoPlainFault, HasTab, innermost, is_adjacent, IsPlainFault, IsPlainRefusal, least_column, nat_le, nat_lt, no_plain, Option, plain_first, Problem, scans_end, unroll_non_block_indents, without_open, FlowIndentation, PlainDashInFlow, PlainTab}
+use Rattle.proof_scanner.proofs.Common.{no_nul_after, anchor_name, ap, are_single, Arrives, context, false, Fault, fetch_anchor, fetch_flow_scalar, fetch_tag, has_no_nul, in_flow, is_empty, List, mark_of, NameKind, names_end, node_start, Ok, quoted, Quotes, Read, refused_as, ScannerState, subst, sym, tags_end, true, ℕ, ◌∙◌, ◌∷◌, ◌≡◌, [], columns, Context, Position, position_after, ◌++◌, arith, eqb-true, nat_tests, AnchorName, Alias, Anchor, allow_key, before_by, before_past, begins_left, collection_of, comes_plain, fetch_plain_scalar, goes_on, goes_over, HasNoPlainFault, HasTab, innermost, is_adjacent, IsPlainFault, IsPlainRefusal, least_column, nat_le, nat_lt, no_plain, Option, plain_first, Problem, scans_end, unroll_non_block_indents, without_open, FlowIndentation, PlainDashInFlow, PlainTab}
 use Rattle.proof_scanner.proofs.Refusals.Common.{Faults, IsDeep, LiesDeep, QuotedAs, Told, goes, in_turn, looked_at, none_begins, quoted_as, read, saved_is, AreClosed, IsWhy, less_or, saved_keys, solid_text, stuck_by, without_is}
 use Rattle.proof_scanner.proofs.Refusals.Quotes.{after_told, refused_told, tab_told}
 use Rattle.model_scanner.specs.Tag as tags
@@ -94,7 +94,7 @@ module _ {text : List ℕ} {t : ScannerState} (a : Arrives text t) (some : is_em
   unfolding fetch_flow_scalar
   quoted_told deep quotes more e =
       let same : (context (node_start t.held)).indent ≡ t.held.indent = ap (λ h. h.indent) (saved_is t.held) in
-      let clean : has_no_nul more ≡ true = (and_parts (not (is_nul (none.quote_of (are_single quotes)))) (has_no_nul more) (subst (λ r. has_no_nul r ≡ true) e a.is_clean)).1 in
+      let clean : has_no_nul more ≡ true = no_nul_after (none.quote_of (are_single quotes) ∷ []) more (rw e at a.is_clean) in
       let read_as : (x : Read (List ℕ)) → quoted (are_single quotes) (context (node_start t.held)) t.rest t.held.position ≡ Ok x → QuotedAs (are_single quotes) (context (node_start t.held)) t.held.position t.rest x = λ x k.
       rw e
       (quoted_as quotes (context (node_start t.held)) t.held.position more x clean (subst (λ r. quoted (are_single quotes) (context (node_start t.held)) r t.held.position ≡ Ok x) e k)) in

@@ -1,8 +1,7 @@
 -- Faults on the way to the next token, from a state between two fetches.
-use Rattle.proof_scanner.proofs.Common.{take, [], and_parts, ap, append-nil, append_assoc, arith, begins_white, Bool, chained, chosen, drop_stale, either, eqb-true, Err, fails, false, Fault, fetch, fetch_here, fetch_next, follows_plain, Held, Holds, in_flow, is_empty, is_far, is_indented_by_spaces, is_one_of, is_renewed, is_separation, IsPlace, IsReadOn, IsStuck, Key, key_waits, List, map, may_not_stand, MayChoose, not, Ok, on_held, or_right, outside_key, Position, position_after, position_append, Previous, refl, refused, Result, ScannerState, skip_to_next_token, Some, stale, Stands, still, sym, top_key, tried, true, unroll_indent, went, ℕ, ◌++◌, ◌+◌, ◌<◌, ◌==◌, ◌∙◌, ◌∷◌, ◌≡◌, nat_tests, cases_Bool, inl, inr, TabInBlockIndentation, At, begins_line, begins_separation, between, fills_blank, Gap, has_tab_within, is_before_indent, is_blanks, IsTabRefusal, last_line, least_column, length, not-true, same_blank, same_break, separations_are_passed, skip, suc, ◌&&◌, ◌||◌, ◌≤◌, EndsAs, reads, refuses, tab_left}
-use Rattle.proof_scanner.proofs.Refusals.Common.{Exact, index_after, is_in, last_more, least_is, no_entries, not_before_after, same_flow, separation_append, skip_stays}
-use Rattle.proof_scanner.proofs.Refusals.Places.{Faults, mapped, entries_alike, Told, Where, placed, behind, where_is, fault, goes}
-use Rattle.yaml_chars.specs.Class.{is_break}
+use Rattle.proof_scanner.proofs.Common.{take, [], and_parts, ap, append-nil, append_assoc, arith, begins_white, Bool, chained, drop_stale, either, eqb-true, Err, fails, false, Fault, fetch, fetch_here, fetch_next, follows_plain, Held, Holds, in_flow, is_empty, is_far, is_indented_by_spaces, is_one_of, is_renewed, is_separation, IsReadOn, Key, List, map, may_not_stand, not, Ok, on_held, or_right, outside_key, Position, position_after, position_append, Previous, refl, refused, Result, ScannerState, skip_to_next_token, Some, stale, Stands, still, sym, top_key, tried, true, unroll_indent, went, ℕ, ◌++◌, ◌+◌, ◌<◌, ◌==◌, ◌∙◌, ◌∷◌, ◌≡◌, nat_tests, cases_Bool, inl, inr, TabInBlockIndentation, At, begins_line, begins_separation, between, fills_blank, Gap, has_tab_within, is_before_indent, is_blanks, IsTabRefusal, last_line, least_column, length, not-true, same_blank, same_break, separations_are_passed, skip, suc, ◌&&◌, ◌||◌, ◌≤◌, EndsAs, reads, refuses, tab_left}
+use Rattle.proof_scanner.proofs.Refusals.Common.{Exact, index_after, is_in, last_more, least_is, no_entries, not_before_after, separation_append, skip_stays, is_break}
+use Rattle.proof_scanner.proofs.Refusals.Places.{stuck_at, Faults, mapped, Told, fault, goes}
 use Rattle.proof_scanner.proofs.Sound.Skips.{line_more, IsLeast, IsAt, IsIn, IsPassed, skip_tells}
 use Rattle.proof_scanner.specs.Failing as defs
 use Rattle.defs_text.specs.Classes as classes
@@ -70,16 +69,19 @@ module _ (before : Previous) (least : ℕ) where
 
 -- ---- what is said of it
 
--- A separation before which the way to the next token is refused: the position there, and a TAB that indents the line.
-pub record TabStands (bs : List ℕ) (awaits : Bool) (before : Previous) (separation text : List ℕ) (p : Position) (f : Fault) : Type 0 where
+-- After a separation that was read from a position, the way to the next token is refused: what was passed on it, and a TAB that indents the line.
+pub record TabStands (bs : List ℕ) (awaits : Bool) (before : Previous) (begin : Position) (separation text : List ℕ) (p : Position) (f : Fault) : Type 0 where
   pub passed : List ℕ
   pub rest : List ℕ
   pub is_some : is_empty text ≡ false
   pub cut : text ≡ passed ++ rest
-  pub is_filled : is_separation false passed rest ≡ true
+  pub whole : separation ++ text ≡ (separation ++ passed) ++ rest
+  pub is_passed : is_separation false passed rest ≡ true
+  pub is_filled : is_separation false (separation ++ passed) rest ≡ true
   pub goes_on : is_empty rest ≡ false
   pub is_solid : begins_separation rest ≡ false
-  pub is_fault : f ≡ At TabInBlockIndentation (position_after p passed rest)
+  pub is_fault : f ≡ At TabInBlockIndentation (position_after begin (separation ++ passed) rest)
+  pub is_later : p.line ≤ (position_after begin (separation ++ passed) rest).line
   pub is_indented_by_tab : is_indented_by_spaces before bs awaits (separation ++ passed) ≡ false
 
 blanks_fill : (bs rest : List ℕ) → is_blanks bs ≡ true → is_separation false bs rest ≡ true
@@ -89,13 +91,13 @@ blanks_fill (c ∷ bs) rest h = grind (arith, fills_blank, same_blank, blanks_fi
 tabbed_is : (before : Previous) (bs : List ℕ) (awaits : Bool) (g : List ℕ) → begins_line before g ≡ true → has_tab_within (least_column bs awaits) (last_line g) ≡ true → is_indented_by_spaces before bs awaits g ≡ false
 tabbed_is before bs awaits g b h =
     let more : has_tab_within (least_column bs (awaits || follows_plain before g)) (last_line g ++ []) ≡ true = within_more (least_column bs awaits) (least_column bs (awaits || follows_plain before g)) (last_line g) [] (grind arith) h in
-    ap (λ x. not x || not (has_tab_within (least_column bs (awaits || follows_plain before g)) (last_line g))) b ∙ ap (λ x. not (has_tab_within (least_column bs (awaits || follows_plain before g)) x)) (sym (append-nil (last_line g))) ∙ ap not more
+    rw (b, rw append-nil at more) refl
 
 -- Where the way to the next token is refused, after a separation that was read so.
-pub skip_refused : (before : Previous) (bs : List ℕ) (awaits : Bool) (separation : List ℕ) (t : ScannerState) → IsLeast before (least_column bs awaits) t.held →
-    (begins_separation t.rest ≡ true → IsIn before (least_column bs awaits) between separation t.held t.rest) → Faults (TabStands bs awaits before separation t.rest t.held.position) (skip_to_next_token t)
+pub skip_refused : (before : Previous) (bs : List ℕ) (awaits : Bool) (begin : Position) (separation : List ℕ) (t : ScannerState) → is_separation false separation t.rest ≡ true → t.held.position ≡ position_after begin separation t.rest → IsLeast before (least_column bs awaits) t.held →
+    (begins_separation t.rest ≡ true → IsIn before (least_column bs awaits) between separation t.held t.rest) → Faults (TabStands bs awaits before begin separation t.rest t.held.position) (skip_to_next_token t)
 unfolding skip_to_next_token classes.is_blank
-skip_refused before bs awaits separation t l known = elim (cases_Bool (begins_separation t.rest)) [
+skip_refused before bs awaits begin separation t filled here l known = elim (cases_Bool (begins_separation t.rest)) [
   | inl h ↦ told h (skip between t.rest t.held) (separations_are_passed t.held t.rest) (tabs_tell before least t.rest between separation t.held l (known h))
   | inr h ↦ rw (skip_stays t.rest t.held h) goes
 ]
@@ -104,7 +106,7 @@ skip_refused before bs awaits separation t l known = elim (cases_Bool (begins_se
     least = least_column bs awaits
 
     Own : Fault → Type 0
-    Own f = TabStands bs awaits before separation t.rest t.held.position f
+    Own f = TabStands bs awaits before begin separation t.rest t.held.position f
 
     told : begins_separation t.rest ≡ true → (x : Result ScannerState Fault) → EndsAs (Exact t) (IsTabRefusal t.held t.rest) x → Faults (TabbedAt before least separation t.rest t.held) x → Faults Own x
     told begins x p goes = goes
@@ -113,22 +115,24 @@ skip_refused before bs awaits separation t l known = elim (cases_Bool (begins_se
         -- two beginnings of a text that are equally long are the same
         let same_length : (a b r s : List ℕ) → a ++ r ≡ b ++ s → length a ≡ length b → a ≡ b = λ a b r s e n. sym (take-append_seam a r) ∙ (ap (λ k. take k (a ++ r)) n ∙ (ap (λ x. take (length b) x) e ∙ take-append_seam b s)) in
         let q : Position = position_after t.held.position (first ++ 9 ∷ blanks) rest in
-        let same : At TabInBlockIndentation d.place ≡ At TabInBlockIndentation q = sym d.is_fault ∙ fault_of e in
-        let place : d.place ≡ q = cc same in
-        let i : q.index ≡ t.held.position.index + length (first ++ 9 ∷ blanks) = index_after t.held.position (first ++ 9 ∷ blanks) rest in
-        let j : d.place.index ≡ q.index = ap (λ y. y.index) place in
-        let k : d.place.index ≡ t.held.position.index + length d.passed = d.index_is in
+        let place : d.place ≡ q = cc (d.is_fault, fault_of e) in
+        let index : d.place.index ≡ q.index = ap (λ y. y.index) place in
         let whole : t.rest ≡ (first ++ 9 ∷ blanks) ++ rest = cut ∙ sym (append_assoc first (9 ∷ blanks) rest) in
-        let passed_is : d.passed ≡ first ++ 9 ∷ blanks = same_length d.passed (first ++ 9 ∷ blanks) d.rest rest (sym d.cut ∙ whole) (omega (arith, i, j, k)) in
+        let passed_is : d.passed ≡ first ++ 9 ∷ blanks = same_length d.passed (first ++ 9 ∷ blanks) d.rest rest (sym d.cut ∙ whole) (omega (arith, index, d.index_is, index_after t.held.position (first ++ 9 ∷ blanks) rest)) in
+        let fill : is_separation false (first ++ 9 ∷ blanks) rest ≡ true = separation_append false first (9 ∷ blanks) rest fills (blanks_fill (9 ∷ blanks) rest are) in
+        let there : q ≡ position_after begin (separation ++ (first ++ 9 ∷ blanks)) rest = ap (λ p. position_after p (first ++ 9 ∷ blanks) rest) (here ∙ ap (position_after begin separation) whole) ∙ sym (position_append begin separation (first ++ 9 ∷ blanks) rest) in
         fault (record {
           passed = first ++ 9 ∷ blanks;
           rest = rest;
           is_some = grind arith;
           cut = whole;
-          is_filled = separation_append false first (9 ∷ blanks) rest fills (blanks_fill (9 ∷ blanks) rest are);
+          whole = ap (λ r. separation ++ r) whole ∙ sym (append_assoc separation (first ++ 9 ∷ blanks) rest);
+          is_passed = fill;
+          is_filled = separation_append false separation (first ++ 9 ∷ blanks) rest (rw (← whole) filled) fill;
           goes_on = grind arith;
           is_solid = grind (arith, not-true);
-          is_fault = fault_of e;
+          is_fault = fault_of e ∙ ap (λ p. At TabInBlockIndentation p) there;
+          is_later = rw (← there) ((not_before_after t.held.position (first ++ 9 ∷ blanks) rest).0);
           is_indented_by_tab = tabbed_is before bs awaits (separation ++ (first ++ 9 ∷ blanks))
               (rw (sym passed_is) d.tabbed.0) (rw (sym passed_is) d.tabbed.1);
         })
@@ -159,18 +163,21 @@ fetch_near t started = either t.held.started (λ _. next_near t) (λ n. absurd (
 
 module _ (text : List ℕ) (t : ScannerState) (s : Stands text t) (near : HasNear t.held) where
   -- a TAB indents the line of what comes next
-  tab_stuck : {f : Fault} → TabStands s.base.site.blocks s.base.site.awaits s.base.site.before s.separation t.rest t.held.position f → Told text f
+  tab_stuck : {f : Fault} → TabStands s.base.site.blocks s.base.site.awaits s.base.site.before s.base.site.position s.separation t.rest t.held.position f → Told text f
   unfolding is_far
-  tab_stuck d = rw d.is_fault (λ _. record { is_stuck = by (where_is (outside_key s.base.entries t.held.keys) t.held.position t.rest d.is_some); stands = λ k. absurd (cc k) })
+  tab_stuck d = rw d.is_fault (λ _. record {
+    is_stuck = (stuck_at text _ t s.base [] (s.separation ++ d.passed) d.rest TabInBlockIndentation here here refl (λ c may. rw (← d.whole) (s.completes true c [] may).0) (rw (← d.whole) s.carries) s.are_entries is_near d.is_some d.is_filled d.goes_on d.is_solid d.is_later
+        (λ c may. record { fails = may_not_stand (defs.tab_indents d.is_indented_by_tab); is_first = no_plain })).2;
+    stands = λ k. absurd (cc k);
+  })
     where
       here : Position
-      here = position_after t.held.position d.passed d.rest
+      here = position_after s.base.site.position (s.separation ++ d.passed) d.rest
 
-      filled : is_separation false (s.separation ++ d.passed) d.rest ≡ true
-      filled = separation_append false s.separation d.passed d.rest (rw (sym d.cut) s.is_filled) d.is_filled
-
-      here_is : here ≡ position_after s.base.site.position (s.separation ++ d.passed) d.rest
-      here_is = ap (λ p. position_after p d.passed d.rest) (s.position_is ∙ ap (position_after s.base.site.position s.separation) d.cut) ∙ sym (position_append s.base.site.position s.separation d.passed d.rest)
+      is_near : is_empty t.held.flow ≡ true → (x : Key) → outside_key s.base.entries t.held.keys ≡ Some x → x.position.line < t.held.position.line → ⊥
+      is_near out x e late =
+          let none : s.base.entries ≡ [] = no_entries t.held.key_allowed (is_renewed s.base.site.before s.separation) t.held.flow t.held.keys s.base.entries out s.are_entries in
+          absurd (grind (arith, (near out x (ap (λ es. outside_key es t.held.keys) (sym none) ∙ e)), late))
 
       -- after a plain scalar all blanks and breaks were passed, so a comment stands here
       no_plain : follows_plain s.base.site.before (s.separation ++ d.passed) ≡ false
@@ -185,27 +192,6 @@ module _ (text : List ℕ) (t : ScannerState) (s : Stands text t) (near : HasNea
           comment : (passed : List ℕ) → t.rest ≡ passed ++ d.rest → is_separation false passed d.rest ≡ true → begins_white t.rest ≡ false → is_indented_by_spaces s.base.site.before s.base.site.blocks s.base.site.awaits (s.separation ++ passed) ≡ false → is_one_of (s.separation ++ passed) 35 ≡ true
           comment passed h e f g = grind (arith, nat_tests, eqb-true, append-nil, and_parts, hash)
 
-      place : (c : Bool) → MayChoose true c (outside_key s.base.entries t.held.keys) t.held.position t.rest → IsPlace text (chosen c [] t.held.keys s.base) (s.separation ++ d.passed) d.rest here
-      place c may = record {
-        begins = rw (sym (ap (λ r. s.separation ++ r) d.cut ∙ sym (append_assoc s.separation d.passed d.rest))) (s.completes true c [] may).0;
-        is_filled = filled;
-        is_here = here_is;
-      }
-
-      by : Where (outside_key s.base.entries t.held.keys) t.held.position t.rest → IsStuck text TabInBlockIndentation here
-      by (placed c may) = fails (chosen c [] t.held.keys s.base) (s.separation ++ d.passed) d.rest TabInBlockIndentation here here (place c may) d.goes_on d.is_solid (record { fails = may_not_stand (defs.tab_indents d.is_indented_by_tab); is_first = no_plain })
-      by (behind x e must late) = elim (cases_Bool (is_empty t.held.flow)) [
-        | inl out ↦
-            let none : s.base.entries ≡ [] = no_entries t.held.key_allowed (is_renewed s.base.site.before s.separation) t.held.flow t.held.keys s.base.entries out s.are_entries in
-            absurd (grind (arith, (near out x (ap (λ es. outside_key es t.held.keys) (sym none) ∙ e)), late))
-        | inr i ↦
-            let later = (not_before_after t.held.position d.passed d.rest).0 in
-            let inside : is_empty s.base.entries ≡ false = sym (same_flow t.held.key_allowed (is_renewed s.base.site.before s.separation) t.held.flow t.held.keys s.base.entries s.are_entries) ∙ i in
-            key_waits (chosen false [] t.held.keys s.base) (s.separation ++ d.passed) d.rest TabInBlockIndentation x.position here here
-            (rw (sym (ap (λ r. s.separation ++ r) d.cut ∙ sym (append_assoc s.separation d.passed d.rest))) (s.carries [] x e must inside d.is_some))
-            (ap not (entries_alike [] t.held.keys s.base.entries ∙ inside)) filled here_is (omega (arith, later, late)) d.goes_on d.is_solid (record { fails = may_not_stand (defs.tab_indents d.is_indented_by_tab); is_first = no_plain })
-      ]
-
   pub passing_told : Faults (Told text) (skip_to_next_token t)
   passing_told =
-      mapped (λ f d. tab_stuck d) (skip_refused s.base.site.before s.base.site.blocks s.base.site.awaits s.separation t (least_is s.base.site.blocks s.base.site.awaits t.held s.blocks_are s.awaits_is s.are_levels) (λ h. is_in text t s h))
+      mapped (λ f d. tab_stuck d) (skip_refused s.base.site.before s.base.site.blocks s.base.site.awaits s.base.site.position s.separation t s.is_filled s.position_is (least_is s.base.site.blocks s.base.site.awaits t.held s.blocks_are s.awaits_is s.are_levels) (λ h. is_in text t s h))

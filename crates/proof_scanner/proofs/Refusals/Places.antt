@@ -1,5 +1,5 @@
 -- Where a piece begins, a row of the text may begin with all pieces before it; or a node which must be an implicit key waits there, and its line has ended.
-use Rattle.proof_scanner.proofs.Common.{[], Account, ap, AreEntries, arith, Arrives, At, begins_document_at, Bool, chosen, columns, entries_by, Entry, Err, fails, FailsFirst, false, Fault, FlowLevel, followed_first, gives_node, has_open_level, HasRow, if◌then◌else◌, in_flow, is_empty, is_full, is_in_flow, is_taken, is_told, IsFollowed, IsLookedAt, IsNear, IsPlace, IsStuck, Key, key_waits, least_here, length, List, MayChoose, nat_lt, nat_tests, no_piece, no_piece_first, None, NoPiece, not, Ok, Option, or_left, or_right, OutOfMemory, outside_key, Position, Problem, refl, Row, ScannerState, site_at_place, site_in, Some, subst, sym, true, ℕ, ◌-◌, ◌<◌, ◌∙◌, ◌≡◌, is_shown, IsThere, eqb-true, cases_Bool, inl, inr, go_on, Held, lexed, Read, Result, with_held, ◌>>=◌, begins_separation, begins_white_space, begins_with, begins_with_space_or_break, ends_spaces, glued, HasNoWhiteSpace, HasPassed, Holds, is_at_gap, is_blank, is_blank_or_end, is_break, is_breakz, is_nul, is_separation, IsGlued, peek, refused_as, skip_spaces, skip_yaml_whitespace, SkipTabs, space, spaces_are_passed, white_space_is_passed, Yes, ◌++◌, ◌∷◌, CommentNotSeparated, EndsAs}
+use Rattle.proof_scanner.proofs.Common.{Begins, IsCarriedOn, position_after, ◌≤◌, [], Account, ap, AreEntries, arith, Arrives, At, begins_document_at, Bool, chosen, columns, entries_by, Entry, Err, fails, FailsFirst, false, Fault, FlowLevel, followed_first, gives_node, has_open_level, HasRow, if◌then◌else◌, in_flow, is_empty, is_full, is_in_flow, is_taken, is_told, IsFollowed, IsLookedAt, IsNear, IsPlace, IsStuck, Key, key_waits, least_here, length, List, MayChoose, nat_lt, nat_tests, no_piece, no_piece_first, None, NoPiece, not, Ok, Option, or_left, or_right, OutOfMemory, outside_key, Position, Problem, refl, Row, ScannerState, site_at_place, site_in, Some, subst, sym, true, ℕ, ◌-◌, ◌<◌, ◌∙◌, ◌≡◌, is_shown, IsThere, eqb-true, cases_Bool, inl, inr, go_on, Held, lexed, Read, Result, with_held, ◌>>=◌, begins_separation, begins_white_space, begins_with, begins_with_space_or_break, ends_spaces, glued, HasNoWhiteSpace, HasPassed, Holds, is_at_gap, is_blank, is_blank_or_end, is_break, is_breakz, is_nul, is_separation, IsGlued, peek, refused_as, skip_spaces, skip_yaml_whitespace, SkipTabs, space, spaces_are_passed, white_space_is_passed, Yes, ◌++◌, ◌∷◌, CommentNotSeparated, EndsAs}
 use Rattle.proof_scanner.proofs.Sound.StreamEnds.{same_flow}
 use Rattle.proof_scanner.proofs.Cut.Stoods.{IsDeep}
 use Rattle.proof_scanner.specs.Failing.{followed}
@@ -100,6 +100,23 @@ many_levels allowed again a ks es h = grind (arith, many_around)
 pub entries_alike : (cs : List Bool) (ks : List (Option Key)) (es : List Entry) → is_empty (entries_by cs ks es) ≡ is_empty es
 entries_alike cs ks a = grind arith
 
+-- What fails, whatever is chosen for the open keys, where a separation ends that was read to the scanner's position and on, is what the text is stuck by.
+pub stuck_at : (text : List ℕ) (again : Bool) (t : ScannerState) (base : Account) (cs : List Bool) (separation rest : List ℕ) (why : Problem) (here at : Position) → here ≡ position_after base.site.position separation rest → (let k : Option Key = outside_key base.entries t.held.keys in
+    ((c : Bool) → MayChoose true c k t.held.position t.rest → Begins text (separation ++ rest) (chosen c cs t.held.keys base)) → IsCarriedOn text (separation ++ rest) t.rest t.held.keys base → AreEntries t.held.key_allowed again t.held.flow t.held.keys base.entries
+    → (is_empty t.held.flow ≡ true → (x : Key) → k ≡ Some x → x.position.line < t.held.position.line → ⊥)
+    → is_empty t.rest ≡ false → is_separation false separation rest ≡ true → is_empty rest ≡ false → begins_separation rest ≡ false → t.held.position.line ≤ here.line
+    → ((c : Bool) → (is_empty t.held.flow ≡ true → MayChoose true c k t.held.position t.rest) → FailsFirst (chosen c cs t.held.keys base) separation here rest why at) → (c : Bool) × FailsFirst (chosen c cs t.held.keys base) separation here rest why at × IsStuck text why at)
+stuck_at text again t base cs separation rest why here at is_here begins carries are near some filled goes_on solid later h = elim (where_is (outside_key base.entries t.held.keys) t.held.position t.rest some) [
+  | placed c may ↦ let f = h c (λ _. may) in (c, f, fails (chosen c cs t.held.keys base) separation rest why here at (record { begins = begins c may; is_filled = filled; is_here = is_here }) goes_on solid f)
+  | behind x e must late ↦ elim (cases_Bool (is_empty t.held.flow)) [
+    | inl o ↦ absurd (near o x e late)
+    | inr i ↦
+        let f = h false (λ o. absurd (cc (o, i))) in
+        let entries : is_empty base.entries ≡ false = sym (same_flow t.held.key_allowed _ t.held.flow t.held.keys base.entries are) ∙ i in
+        (false, f, key_waits (chosen false cs t.held.keys base) separation rest why x.position here at (carries cs x e must entries some) (ap not (entries_alike cs t.held.keys base.entries ∙ entries)) filled is_here (omega (arith, late, later)) goes_on solid f)
+  ]
+]
+
 -- what comes lies deep enough, unless it is a line for the document
 abbrev pub LiesDeep : ScannerState → Type 0
 LiesDeep t = begins_document_at t.held.position t.rest ≡ false → IsDeep t.held
@@ -122,19 +139,10 @@ module _ {text : List ℕ} {t : ScannerState} (a : Arrives text t) (some : is_em
 
   -- What fails here, whatever is chosen, is what the text is stuck by.
   pub stuck : (cs : List Bool) (why : Problem) (at : Position) → ((c : Bool) → IsAllowed c → FailsFirst (account_by c cs) a.separation t.held.position t.rest why at) → IsWhy text why at
-  stuck cs why at h = elim (where_is (outside_key a.base.entries t.held.keys) t.held.position t.rest some) [
-    | placed c may ↦ record { is_stuck = fails (account_by c cs) a.separation t.rest why t.held.position at (place c cs may) some a.is_solid (h c (λ _. may)); stands = shown.stands text t a c cs why at (h c (λ _. may)).fails }
-    | behind x e must late ↦ elim (cases_Bool (is_empty t.held.flow)) [
-      | inl o ↦ let near : IsNear (Some x) t.held.position = subst (λ k. IsNear k t.held.position) e (a.is_near o) in absurd (omega (arith, near.0, late))
-      | inr i ↦
-          let entries : is_empty a.base.entries ≡ false = sym (same_flow t.held.key_allowed _ t.held.flow t.held.keys a.base.entries a.are_entries) ∙ i in
-          let first = h false (λ o. absurd (cc (o, i))) in
-          record {
-            is_stuck = key_waits (account_by false cs) a.separation t.rest why x.position t.held.position at (a.carries cs x e must entries some) (in_flow_is false cs ∙ ap not i) a.is_filled a.position_is late some a.is_solid first;
-            stands = shown.stands text t a false cs why at first.fails;
-          }
-    ]
-  ]
+  stuck cs why at h =
+      let near : is_empty t.held.flow ≡ true → (x : Key) → outside_key a.base.entries t.held.keys ≡ Some x → x.position.line < t.held.position.line → ⊥ = λ o x e late. let n : IsNear (Some x) t.held.position = subst (λ k. IsNear k t.held.position) e (a.is_near o) in absurd (omega (arith, n.0, late)) in
+      let r = stuck_at text _ t a.base cs a.separation t.rest why t.held.position at a.position_is (λ c may. (a.completes true c cs may).0) a.carries a.are_entries near some a.is_filled some a.is_solid (omega arith) h in
+      record { is_stuck = r.2; stands = shown.stands text t a r.0 cs why at r.1.fails }
 
   -- the block collections and what is awaited at a place
   pub blocks_by : (c : Bool) (cs : List Bool) → (site_at_place (account_by c cs) t.held.position).blocks ≡ columns t.held.indent t.held.indents
@@ -151,10 +159,7 @@ module _ {text : List ℕ} {t : ScannerState} (a : Arrives text t) (some : is_em
   pub stuck_by : (why : Problem) (at : Position) (F : Bool → List ℕ → ℕ → Type 0) → F (in_flow t.held) (columns t.held.indent t.held.indents) (t.held.indent - 1)
       → ((c : Bool) → IsAllowed c → F (is_in_flow (account_by c []).entries) (site_at_place (account_by c []) t.held.position).blocks (least_here (account_by c []) t.held.position)
       → FailsFirst (account_by c []) a.separation t.held.position t.rest why at) → IsWhy text why at
-  stuck_by why at F x first =
-      stuck [] why at (λ c may.
-      first c may (subst (λ b. F b (site_at_place (account_by c []) t.held.position).blocks (least_here (account_by c []) t.held.position)) (sym (in_flow_is c []))
-      (subst (λ bs. F (in_flow t.held) bs (least_here (account_by c []) t.held.position)) (sym (blocks_by c [])) (subst (λ k. F (in_flow t.held) (columns t.held.indent t.held.indents) k) (sym (least_by c [])) x))))
+  stuck_by why at F x first = stuck [] why at (λ c may. first c may (rw (least_by c [], blocks_by c [], in_flow_is c []) x))
 
   module _ (deep : LiesDeep t) where
     -- a piece is looked at here, whatever is chosen

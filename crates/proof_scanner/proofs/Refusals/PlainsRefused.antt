@@ -1,14 +1,11 @@
 -- Where a plain scalar begins and is none, no row of the text goes on.
-use Rattle.proof_scanner.proofs.Common.{[], IsPlainFault, Problem, splits, More, append-nil, stand_after, is_gap, ◌⊎◌, inl, inr, Account, act_of, after_blank, and_parts, ap, append_assoc, are_marks, arith, before_by, before_past, begins_flow, begins_plain, begins_token, Bool, comes_plain, dashes, ends_with_content, ends_with_dash, false, flow_solid, goes_on, goes_over, has_dash_before_flow, innermost, is_adjacent, is_apart, is_at_gap, is_blanks, is_deep_enough, is_document_marker, is_flow, is_in_flow, is_indented_by_spaces, is_nul, is_whole_plain, least_column, List, may_begin, may_precede, nat_lt, not, on_line, Option, or_true, plain_lines_fit, Position, previous_by, refl, same_flow, scalar, Site, site_at_place, site_past, Stand, stops, subst, sym, true, ℕ, ◌&&◌, ◌++◌, ◌==◌, ◌∙◌, ◌∷◌, ◌≡◌, eqb-true, nat_tests, and_false, zero, ◌-◌, ◌+◌, ◌<◌, suc, length, has_break, further_on, has_tab_within, last_line, or-true, begins_separation, is_empty, kind_at, is_break, is_blank, tab_blank}
+use Rattle.proof_scanner.proofs.Common.{is_marker, [], IsPlainFault, Problem, splits, append-nil, stand_after, is_gap, ◌⊎◌, inl, inr, Account, act_of, after_blank, and_parts, ap, append_assoc, are_marks, arith, before_by, before_past, begins_flow, begins_token, Bool, comes_plain, dashes, ends_with_content, ends_with_dash, false, flow_solid, goes_on, goes_over, has_dash_before_flow, innermost, is_adjacent, is_apart, is_at_gap, is_blanks, is_deep_enough, is_flow, is_in_flow, is_indented_by_spaces, is_nul, is_whole_plain, least_column, List, nat_lt, on_line, Option, or_true, plain_lines_fit, Position, previous_by, refl, same_flow, scalar, Site, site_at_place, site_past, Stand, stops, subst, sym, true, ℕ, ◌&&◌, ◌++◌, ◌∙◌, ◌∷◌, ◌≡◌, eqb-true, nat_tests, and_false, zero, ◌-◌, ◌+◌, ◌<◌, suc, length, has_break, further_on, has_tab_within, last_line, or-true, begins_separation, is_empty, kind_at, is_break, is_blank, tab_blank}
 use Rattle.defs_token.specs.Plain.{inside, past}
-use Rattle.proof_row.specs.Ends.{plain_scalar}
 use Rattle.proof_row.proofs.Plains.{plains}
-use Rattle.proof_row.proofs.Written.{At}
 use Rattle.proof_scanner.proofs.Refusals.OtherRows.{StepAt, IsClearGapAfter}
 use Rattle.proof_scanner.proofs.Refusals.PiecesRefused.{Here, acct, whole_at, node_site_past, flow_is, node_site, node_stands, here_stood}
-use Rattle.proof_scanner.proofs.Sound.PlainKeeps.{same_innermost, no_comment}
 use Rattle.proof_row.proofs.Runs.{joined, neither}
-use Rattle.proof_scanner.proofs.Refusals.Common.{break_append, last_first, last_whole}
+use Rattle.proof_scanner.proofs.Refusals.Common.{break_append, last_first, last_whole, plain_scalar, At, same_innermost, no_comment}
 use Rattle.proof_scanner.proofs.Sound.PlainLines.{first_line, line_is, all_lines, feed_first, first_is, others_are}
 use Rattle.defs_text.specs.Classes as classes
 use Rattle.defs_token.specs.Account as pieces
@@ -26,6 +23,14 @@ stand_over s (c ∷ r) g = stand_over (past s c) r g
 pub stand_content : (s : Stand) (c : ℕ) (r : List ℕ) → ends_with_content c r ≡ true → stand_after (past s c) r ≡ inside
 stand_content s c [] h = grind arith
 stand_content s c (d ∷ r) h = stand_content (past s c) d r h
+
+stand_inside : (d : ℕ) (r : List ℕ) → ends_with_content d r ≡ true → stand_after inside r ≡ inside
+stand_inside d [] h = refl
+stand_inside d (c ∷ r) h = stand_content inside c r h
+
+-- a whole scalar has a character, and ends with content
+whole_parts : (fl : Bool) (coll : Option ℕ) (piece next : List ℕ) → is_whole_plain fl coll piece next ≡ true → (d : ℕ) × (r : List ℕ) × (piece ≡ d ∷ r) × (ends_with_content d r ≡ true) × (stops fl coll inside next ≡ true)
+whole_parts fl coll a next h = grind arith
 
 -- ---- where one comes
 
@@ -102,13 +107,14 @@ pub goes_later : (fl : Bool) (coll : Option ℕ) (s : Stand) (r q x : List ℕ) 
 goes_later fl coll s [] q x h = h
 goes_later fl coll s (c ∷ r) q x h = goes_later fl coll (past s c) r q x (further_on fl coll s c (r ++ q) x h).1
 
+-- blanks are a gap on one line
+blanks_gap : (l : List ℕ) → is_blanks l ≡ true → (is_gap l ≡ true) × (has_break l ≡ false)
+blanks_gap [] h = (refl, refl)
+blanks_gap (c ∷ l) h = grind (arith, blanks_gap l, blank_in_line)
+
 pub gap_more : (q blanks : List ℕ) → is_gap q ≡ true → is_blanks blanks ≡ true → is_gap (q ++ 9 ∷ blanks) ≡ true
 unfolding is_blank
-gap_more [] blanks g b = gap_of blanks b
-  where
-    gap_of : (l : List ℕ) → is_blanks l ≡ true → is_gap l ≡ true
-    gap_of [] h = refl
-    gap_of (c ∷ l) h = grind (arith, gap_of l)
+gap_more [] blanks g b = (blanks_gap blanks b).0
 gap_more (c ∷ q) blanks g b = grind (arith, gap_more q blanks)
 
 -- whether a line's start and blanks stand before a position
@@ -129,17 +135,9 @@ tab_among : (n : ℕ) (q blanks : List ℕ) → length q < n → has_tab_within 
 tab_among (suc n) (c ∷ q) blanks h = grind (arith, tab_among n q blanks)
 tab_among a q blanks h = grind arith
 
-blanks_break : (blanks : List ℕ) → is_blanks blanks ≡ true → has_break (9 ∷ blanks) ≡ false
-unfolding is_break is_blank
-blanks_break blanks h = by blanks h
-  where
-    by : (l : List ℕ) → is_blanks l ≡ true → has_break l ≡ false
-    by [] h = refl
-    by (c ∷ l) h = grind (arith, by l, blank_in_line)
-
 tab_in_last : (n k : ℕ) (s : Stand) (q blanks : List ℕ) → is_gap q ≡ true → is_blanks blanks ≡ true → k < n → has_break q ≡ true → stand_after s q ≡ on_line k → has_tab_within n (last_line (q ++ 9 ∷ blanks)) ≡ true
 tab_in_last n k s [] blanks g b low br e = absurd (cc br)
-tab_in_last n k s (c ∷ q) blanks g b low br e = grind (arith, nat_tests, eqb-true, last_first, and_parts, break_append, or-true, last_whole, blanks_break, column_is, tab_among, tab_in_last n k (past s c) q blanks)
+tab_in_last n k s (c ∷ q) blanks g b low br e = grind (arith, nat_tests, eqb-true, last_first, and_parts, break_append, or-true, last_whole, (blanks_gap blanks b), (blank_in_line 9 tab_blank), column_is, tab_among, tab_in_last n k (past s c) q blanks)
 
 -- A TAB in the gap after a scalar indents the line after it.
 pub gap_tab : (n k : ℕ) (q blanks : List ℕ) → is_gap q ≡ true → is_blanks blanks ≡ true → nat_lt k n ≡ true → stand_after inside q ≡ on_line k → (has_break (q ++ 9 ∷ blanks) ≡ true) × (has_tab_within n (last_line (q ++ 9 ∷ blanks)) ≡ true)
@@ -184,7 +182,7 @@ module _ {a : Account} {separation rest : List ℕ} {here : Position} (s : StepA
   ]
 
   site_is : At s.account s.step s.next ≡ site_at_place a here
-  site_is = node_site s (ap act_of plain_here.2)
+  site_is = node_site s (ap (λ t. is_marker (act_of t)) plain_here.2)
 
   -- its piece is whole
   whole : is_whole_plain (is_in_flow a.entries) (innermost (site_at_place a here).blocks) s.step.piece s.next ≡ true
@@ -197,23 +195,23 @@ module _ {a : Account} {separation rest : List ℕ} {here : Position} (s : StepA
       cc (ap (λ b. is_deep_enough b (scalar tokens.plain plain_here.0) (site_at_place a here)) flow ∙ left, (node_stands s (scalar tokens.plain plain_here.0) plain_here.2 refl).0)
   -- a dash before a flow indicator
   no_plain_stands is_clear why at (none.by_dash [] more flow cut begins over apart) =
-      let none_begins : may_begin true (is_adjacent seen_here.before) 45 more ≡ false = rw begins (and_false (not (is_at_gap more))) in
-      let may : may_begin true (is_adjacent seen_here.before) 45 more ≡ true =
-      let all : begins_plain (pieces.is_in_flow seen_here) (is_adjacent seen_here.before) seen_here.position.col (45 ∷ more) ≡ true = ap (begins_plain (pieces.is_in_flow seen_here) (is_adjacent seen_here.before) seen_here.position.col) (sym (s.text_is ∙ cut)) ∙ plain_here.1.0 in
-      ap (λ b. may_begin b (is_adjacent seen_here.before) 45 more) (sym (flow_is s ∙ flow)) ∙ (and_parts (may_begin (pieces.is_in_flow seen_here) (is_adjacent seen_here.before) 45 more) (not ((seen_here.position.col == 0) && is_document_marker (45 ∷ more))) all).0 in
-      cc (may, none_begins)
+      let wrong = rw (s.text_is ∙ cut, flow_is s ∙ flow, begins, and_false) at plain_here.1.0 in
+      cc wrong
   no_plain_stands is_clear why at (none.by_dash (c ∷ p) more flow cut begins over apart) =
       let coll : Option ℕ = innermost (site_at_place a here).blocks in
       let own : is_whole_plain true coll (c ∷ (p ++ 45 ∷ [])) more ≡ true = rw (goes_both true coll inside p (45 ∷ []) more (ap (λ b. goes_on b coll inside p (45 ∷ more)) (sym flow) ∙ over) (dash_goes coll (stand_after inside p) more begins), content_end c p, flow_stops coll inside more begins) refl in
       let same : (s.step.piece ≡ c ∷ (p ++ 45 ∷ [])) × (s.next ≡ more) = plains true coll s.step.piece (c ∷ (p ++ 45 ∷ [])) s.next more (ap (λ b. is_whole_plain b coll s.step.piece s.next) (sym flow) ∙ whole) own (s.text_is ∙ (cut ∙ ap (λ r. c ∷ r) (sym (append_assoc p (45 ∷ []) more)))) in
-      let dashed_there : has_dash_before_flow s.step.piece s.next ≡ true = ap (λ x. has_dash_before_flow x s.next) same.0 ∙ (ap (λ r. has_dash_before_flow (c ∷ (p ++ 45 ∷ [])) r) same.1 ∙ rw (ends_dashed after_blank c p apart, begins) refl) in
-      cc (
-        (here_stood s).precedes,
-        ap (λ t. may_precede (is_in_flow s.account.entries) (At s.account s.step s.next).blocks t s.step.piece s.next) plain_here.2 ∙
-            (ap (λ b. not (b && has_dash_before_flow s.step.piece s.next)) (sym (same_flow a.entries s.account.entries s.is_like.2) ∙ flow) ∙ ap not dashed_there),
-      )
+      let dashed_there : has_dash_before_flow s.step.piece s.next ≡ true = rw (same.0, same.1, ends_dashed after_blank c p apart, begins) refl in
+      let wrong = rw (plain_here.2, ← same_flow a.entries s.account.entries s.is_like.2, flow, dashed_there) at (here_stood s).precedes in
+      cc wrong
   -- a TAB that indents a line of it, or the one after it
-  no_plain_stands is_clear why at (none.by_tab before blanks more column cut over stands low are token) = by s.step.piece refl (splits s.step.piece before s.next (9 ∷ (blanks ++ more)) (s.text_is ∙ cut))
+  no_plain_stands is_clear why at (none.by_tab before blanks more column cut over stands low are token) = elim (splits s.step.piece before s.next (9 ∷ (blanks ++ more)) (s.text_is ∙ cut)) [
+    | inl m ↦
+        let goes : goes_on fl coll inside (w.1 ++ m.more) (9 ∷ (blanks ++ more)) ≡ true = ap (λ b. goes_over fl coll b (9 ∷ (blanks ++ more))) (sym (m.longer ∙ ap (λ p. p ++ m.more) w.2)) ∙ over in
+        in_gap m.more m.rest (ap (λ t. stand_after t m.more) (sym after) ∙ (sym (stand_over after_blank s.step.piece m.more) ∙ (ap (stand_after after_blank) (sym m.longer) ∙ stands)))
+        (ap (λ t. goes_on fl coll t m.more (9 ∷ (blanks ++ more))) (sym (stand_inside w.0 w.1 w.3)) ∙ goes_later fl coll inside w.1 m.more (9 ∷ (blanks ++ more)) goes) w.4
+    | inr m ↦ in_piece m.more m.longer m.rest
+  ]
     where
       least : ℕ
       least = least_column (site_at_place a here).blocks true
@@ -243,37 +241,20 @@ module _ {a : Account} {separation rest : List ℕ} {here : Position} (s : StepA
           let gap : is_gap q ≡ true = white_between fl coll inside q (9 ∷ (blanks ++ more)) goes (ap (stops fl coll inside) (sym e) ∙ ends) in
           let whole : is_gap (q ++ 9 ∷ blanks) ≡ true = gap_more q blanks gap are in
           let tab = gap_tab least column q blanks gap are low stand in
-          let solid = token_begins in
           let spaced : is_indented_by_spaces steps.plain_scalar s.past.site.blocks s.past.site.awaits (q ++ 9 ∷ blanks) ≡ true =
-          subst (λ y. is_indented_by_spaces y s.past.site.blocks s.past.site.awaits (q ++ 9 ∷ blanks) ≡ true) before_is (is_clear before_is (q ++ 9 ∷ blanks) more (e ∙ sym (append_assoc q (9 ∷ blanks) more)) whole solid.0 solid.1) in
+          subst (λ y. is_indented_by_spaces y s.past.site.blocks s.past.site.awaits (q ++ 9 ∷ blanks) ≡ true) before_is (is_clear before_is (q ++ 9 ∷ blanks) more (e ∙ sym (append_assoc q (9 ∷ blanks) more)) whole token_begins.0 token_begins.1) in
           cc (tab.1, next_clear least s.past.site.blocks (q ++ 9 ∷ blanks) s.past.site.awaits whole (ap (λ (x : Site). least_column x.blocks true) past_is ∙ ap (λ (x : Site). least_column x.blocks true) site_is) spaced tab.0)
 
-      by : (piece : List ℕ) → s.step.piece ≡ piece → More s.step.piece before s.next (9 ∷ (blanks ++ more)) ⊎ More before s.step.piece (9 ∷ (blanks ++ more)) s.next → ⊥
-      by [] e m = let w : is_whole_plain fl coll [] s.next ≡ true = ap (λ x. is_whole_plain fl coll x s.next) (sym e) ∙ whole in cc w
-      by (d ∷ r) e m =
-          let w : is_whole_plain fl coll (d ∷ r) s.next ≡ true = ap (λ x. is_whole_plain fl coll x s.next) (sym e) ∙ whole in
-          let q = and_parts (goes_on fl coll inside r s.next && ends_with_content d r) (stops fl coll inside s.next) w in
-          let z = and_parts (goes_on fl coll inside r s.next) (ends_with_content d r) q.0 in
-          of z.1 q.1 m
-        where
-          here_stands : (r : List ℕ) (d : ℕ) → ends_with_content d r ≡ true → stand_after inside r ≡ inside
-          here_stands [] d h = refl
-          here_stands (x ∷ r) d h = stand_content inside x r h
+      w : (d : ℕ) × (r : List ℕ) × (s.step.piece ≡ d ∷ r) × (ends_with_content d r ≡ true) × (stops fl coll inside s.next ≡ true)
+      w = whole_parts fl coll s.step.piece s.next whole
 
-          of : ends_with_content d r ≡ true → stops fl coll inside s.next ≡ true → More s.step.piece before s.next (9 ∷ (blanks ++ more)) ⊎ More before s.step.piece (9 ∷ (blanks ++ more)) s.next → ⊥
-          of content ends (inl m) =
-              let longer : before ≡ d ∷ (r ++ m.more) = m.longer ∙ ap (λ p. p ++ m.more) e in
-              let stand : stand_after (past after_blank d) (r ++ m.more) ≡ on_line column = ap (stand_after after_blank) (sym longer) ∙ stands in
-              let goes : goes_on fl coll inside (r ++ m.more) (9 ∷ (blanks ++ more)) ≡ true = ap (λ b. goes_over fl coll b (9 ∷ (blanks ++ more))) (sym longer) ∙ over in
-              in_gap m.more m.rest (ap (λ t. stand_after t m.more) (sym (stand_content after_blank d r content)) ∙ (sym (stand_over (past after_blank d) r m.more) ∙ stand))
-              (ap (λ t. goes_on fl coll t m.more (9 ∷ (blanks ++ more))) (sym (here_stands r d content)) ∙ goes_later fl coll inside r m.more (9 ∷ (blanks ++ more)) goes) ends
-          of content ends (inr m) = tail m.more m.longer m.rest
-            where
-              tail : (z : List ℕ) → s.step.piece ≡ before ++ z → 9 ∷ (blanks ++ more) ≡ z ++ s.next → ⊥
-              tail [] longer rest =
-                  let same : before ≡ d ∷ r = sym (append-nil before) ∙ (sym longer ∙ e) in
-                  cc (stands, ap (stand_after after_blank) same, stand_content after_blank d r content)
-              tail (x ∷ z) longer rest =
-                  let first : x ≡ 9 = cc rest in
-                  let cut : s.step.piece ≡ before ++ 9 ∷ z = longer ∙ ap (λ y. before ++ y ∷ z) first in
-                  (blanks_end 9 z blanks more s.next tab_blank (ends_later before d r 9 z (sym e ∙ cut) content) (tab_line least column before z stands low (ap (plain_lines_fit least) (sym cut) ∙ lines)) (cc rest) are token)
+      after : stand_after after_blank s.step.piece ≡ inside
+      after = ap (stand_after after_blank) w.2 ∙ stand_content after_blank w.0 w.1 w.3
+
+      -- in the piece
+      in_piece : (z : List ℕ) → s.step.piece ≡ before ++ z → 9 ∷ (blanks ++ more) ≡ z ++ s.next → ⊥
+      in_piece [] longer rest = cc (stands, ap (stand_after after_blank) (sym (append-nil before) ∙ sym longer), after)
+      in_piece (x ∷ z) longer rest =
+          let first : x ≡ 9 = cc rest in
+          let cut : s.step.piece ≡ before ++ 9 ∷ z = longer ∙ ap (λ y. before ++ y ∷ z) first in
+          blanks_end 9 z blanks more s.next tab_blank (ends_later before w.0 w.1 9 z (sym w.2 ∙ cut) w.3) (tab_line least column before z stands low (ap (plain_lines_fit least) (sym cut) ∙ lines)) (cc rest) are token

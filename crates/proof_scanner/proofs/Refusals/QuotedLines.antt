@@ -1,5 +1,5 @@
 -- The scan of a quoted scalar reads one, or refuses the text for what is wrong with it first.
-use Rattle.proof_scanner.proofs.Common.{position_append, [], cases_Bool, inl, inr, after_element, after_escaped, after_gap, after_quote, along, along_more, and_false, and_parts, ap, append-nil, arith, At, at_start, begins_further, begins_marked, Begun, begun, blank, Bool, break_further, content, Context, drop, element_of, ends_before, eqb-true, Err, escape, escaped_break, false, Fault, first_is_gap, first_fails, Folded, gap, in_gap, inside, is_document_marker, is_marked, is_some, append_cancel_right, ◌++◌, quoted_lines_fit, joined, line_break, LineStand, List, list_all, marked, Mode, nat_lt, nat_tests, None, not, not-true, nothing, off_margin, Ok, Option, OutOfMemory, past, past_element, past_escaped, past_is, Position, position_after, position_past, Problem, quoted, Read, refl, Result, scan, shallow, Some, Spelled, step, StepOf, steps, subst, suc, sym, take, true, white_stands, with_break, with_escaped_break, within, zero, ℕ, ◌&&◌, ◌+◌, ◌==◌, ◌∙◌, ◌∷◌, ◌≡◌, ◌≤◌, past_elements, QuotedDocumentMarker, QuotedEnd, QuotedIndentation, TabAsIndentation, break_leads}
+use Rattle.proof_scanner.proofs.Common.{position_past, position_append, [], cases_Bool, inl, inr, after_element, after_escaped, after_gap, after_quote, along, along_more, and_false, and_parts, ap, append-nil, arith, At, at_start, begins_further, begins_marked, Begun, begun, blank, Bool, break_further, content, Context, drop, element_of, ends_before, eqb-true, Err, escape, escaped_break, false, Fault, first_is_gap, first_fails, Folded, gap, in_gap, inside, is_document_marker, is_marked, is_some, append_cancel_right, ◌++◌, quoted_lines_fit, joined, line_break, LineStand, List, list_all, marked, Mode, nat_lt, nat_tests, None, not, not-true, nothing, off_margin, Ok, Option, OutOfMemory, past, past_element, past_escaped, past_is, Position, position_after, Problem, quoted, Read, refl, Result, scan, shallow, Some, Spelled, step, StepOf, steps, subst, suc, sym, take, true, white_stands, with_break, with_escaped_break, within, zero, ℕ, ◌&&◌, ◌+◌, ◌==◌, ◌∙◌, ◌∷◌, ◌≡◌, ◌≤◌, past_elements, QuotedDocumentMarker, QuotedEnd, QuotedIndentation, TabAsIndentation, break_leads}
 use Rattle.yaml_chars.specs.Class.{is_break, is_blank}
 use Rattle.model_scanner.specs.Quoted.{after}
 use Rattle.model_scanner.specs.Quoted as model
@@ -101,62 +101,43 @@ module _ (single : Bool) (ctx : Context) (start : Position) (least : ℕ) (limit
       let no_escaped : (s : LineStand) (m : Mode) (p : Position) (t : Folded) (c : ℕ) → Stood p t s m → (single ≡ false → (c == quote_of single) ≡ false) → s ≡ past_escaped → (c == quote_of single) ≡ false = λ s m p t c a unlike h. grind arith in
       started c b s m p t solid stood (no_escaped s m p t c stood (not_quote c b (spelled (content code) k) is s p)) (λ none deep i. go none deep (subst (λ o. StepOf single ctx start c b [] p t o) is (step single ctx start c b [] p t refl)))
     where
-      here : Result (Read (List ℕ)) Fault
-      here = scan single ctx start (c ∷ b) gap p t
-
-      on : nat_lt p.col least ≡ false → ((p.col == 0) && is_document_marker (c ∷ b)) ≡ false → (q : Position) (now : Folded) → q ≡ along (c ∷ take k b) p → here ≡ scan single ctx start (drop k b) gap q now → Ends s p (c ∷ b) here
-      on deep none q now at i =
+      go : ((p.col == 0) && is_document_marker (c ∷ b)) ≡ false → nat_lt p.col least ≡ false → Step single ctx start c b [] p t (spelled (content code) k) → Ends s p (c ∷ b) (scan single ctx start (c ∷ b) gap p t)
+      go none deep (steps _ q at in_gap full unmarked marks j) =
           let further : p.col ≤ (along (c ∷ take k b) p).col = along_more (c ∷ take k b) p in
           let place : q ≡ after_it single c b (spelled (content code) k) is p = at ∙ sym (content_after single c b code k is p) in
           let still : nat_lt q.col least ≡ false = ap (λ (z : Position). nat_lt z.col least) at ∙ grind (arith, nat_tests, further, deep) in
-          ends_grown c b (spelled (content code) k) is s p here _ i (deep_stands s p.col deep) none (rw (sym place) (later within q gap now (in_line still)))
-
-      go : ((p.col == 0) && is_document_marker (c ∷ b)) ≡ false → nat_lt p.col least ≡ false → Step single ctx start c b [] p t (spelled (content code) k) → Ends s p (c ∷ b) here
-      go none deep (steps _ q at in_gap full unmarked marks j) =
-          on deep none q _ at (ap (λ r. scan single ctx start (c ∷ r) gap p t) (sym (append-nil b)) ∙ (j ∙ ap (λ r. scan single ctx start r gap q (after_element (content code) t)) (append-nil (drop k b))))
+          ends_grown c b (spelled (content code) k) is s p _ _ (ap (λ r. scan single ctx start (c ∷ r) gap p t) (sym (append-nil b)) ∙ (j ∙ ap (λ r. scan single ctx start r gap q (after_element (content code) t)) (append-nil (drop k b))))
+          (deep_stands s p.col deep) none (rw (sym place) (later within q gap _ (in_line still)))
       go none deep (steps _ q at (after_escaped double f g) full unmarked marks j) = absurd (cc g)
       go none deep (is_marked h j) = absurd (cc (none, ap (λ r. (p.col == 0) && is_document_marker (c ∷ r)) (sym (append-nil b)), h))
       go none deep (is_shallow h j) = absurd (cc (h, limit p.col, deep))
 
+  -- where a line begins left of the column
+  opens : (s : LineStand) (m : Mode) (p : Position) (t : Folded) → Stood p t s m → nat_lt p.col least ≡ true → begins_further s false ≡ true
+  opens s m p t a low = grind arith
+
+  -- a blank that is not refused may stand
+  blank_stands : (c : ℕ) (s : LineStand) (m : Mode) (p : Position) (t : Folded) → Stood p t s m → (t.leading && (c == 9) && nat_lt (p.col + 1) ctx.indent) ≡ false → stands least s p.col (blank c) ≡ true
+  blank_stands c s m p t a h = grind (arith, nat_tests, limit)
+
+  blank_goes : (c : ℕ) (s : LineStand) (m : Mode) (p : Position) (t : Folded) → Stood p t s m → Stood (past p) (after_element (blank c) t) (past_element s (blank c)) gap
+  blank_goes c s m p t a = grind (arith, nat_tests, in_line, begins_here)
+
   -- blanks
   blank_ends : (c : ℕ) (b : List ℕ) → element_of single c b ≡ Some (spelled (blank c) 0) → is_break c ≡ false → is_blank c ≡ true → (s : LineStand) (p : Position) (m : Mode) (t : Folded) → Stood p t s m → Later b → Ends s p (c ∷ b) (scan single ctx start (c ∷ b) gap p t)
-  blank_ends c b is f g s p m t stood later = by s m stood
-    where
-      here : Result (Read (List ℕ)) Fault
-      here = scan single ctx start (c ∷ b) gap p t
-
-      none : ((p.col == 0) && is_document_marker (c ∷ b)) ≡ false
-      none = white_stands single ctx start c b p.col (rw (f, g) refl)
-
-      on : (s : LineStand) → stands least s p.col (blank c) ≡ true → (t.leading && (c == 9) && nat_lt (p.col + 1) ctx.indent) ≡ false → Stood (past p) (after_element (blank c) t) (past_element s (blank c)) gap → Ends s p (c ∷ b) here
-      on s fit h next =
-          ends_grown c b (spelled (blank c) 0) is s p here _ (rw (f, g, h) refl) fit none
-          (subst (λ q. Ends (past_element s (blank c)) q b (scan single ctx start b gap (past p) (after_element (blank c) t))) (sym (past_is p c b f)) (later (past_element s (blank c)) (past p) gap (after_element (blank c) t) next))
-
-      still : t.leading ≡ true → (after_element (blank c) t).leading ≡ true
-      still e = rw e refl
-
-      -- where a line begins a TAB is refused that stands left of the column
-      no_tab : t.leading ≡ true → (t.leading && (c == 9) && nat_lt (p.col + 1) ctx.indent) ≡ false → not ((c == 9) && nat_lt p.col least) ≡ true
-      no_tab leads h = grind arith
-
-      tabbed : (s : LineStand) → begins_further s false ≡ true → (t.leading && (c == 9) && nat_lt (p.col + 1) ctx.indent) ≡ true → Ends s p (c ∷ b) here
-      tabbed s further h =
-          let fails : here ≡ Err (At TabAsIndentation p) = rw (f, g, h) refl in
-          let parts = and_parts (t.leading && (c == 9)) (nat_lt (p.col + 1) ctx.indent) h in
-          let is_tab : c ≡ 9 = eqb-true c 9 (and_parts t.leading (c == 9) parts.0).1 in
-          refused TabAsIndentation p (arrived (placed _ _ none (by_tab b (ap (λ x. x ∷ b) is_tab) further (sym (limit p.col) ∙ parts.1)))) fails
-
-      open_line : (s : LineStand) → begins_further s false ≡ true → past_element s (blank c) ≡ at_start → t.leading ≡ true → Ends s p (c ∷ b) here
-      open_line s further next leads = elim (cases_Bool (t.leading && (c == 9) && nat_lt (p.col + 1) ctx.indent)) [
-        | inl h ↦ tabbed s further h
-        | inr h ↦ on s (ap (λ x. not (x && (c == 9) && nat_lt p.col least)) further ∙ no_tab leads h) h (rw next (begins_here (still leads)))
+  blank_ends c b is f g s p m t stood later =
+      let none : ((p.col == 0) && is_document_marker (c ∷ b)) ≡ false = white_stands single ctx start c b p.col (rw (f, g) refl) in
+      elim (cases_Bool (t.leading && (c == 9) && nat_lt (p.col + 1) ctx.indent)) [
+        | inl h ↦
+            let parts = and_parts (t.leading && (c == 9)) (nat_lt (p.col + 1) ctx.indent) h in
+            let low : nat_lt p.col least ≡ true = sym (limit p.col) ∙ parts.1 in
+            let is_tab : c ≡ 9 = eqb-true c 9 (and_parts t.leading (c == 9) parts.0).1 in
+            refused TabAsIndentation p (arrived (placed _ _ none (by_tab b (ap (λ x. x ∷ b) is_tab) (opens s m p t stood low) low))) (rw (f, g, h) refl)
+        | inr h ↦
+            let next : Result (Read (List ℕ)) Fault = scan single ctx start b gap (past p) (after_element (blank c) t) in
+            ends_grown c b (spelled (blank c) 0) is s p _ next (rw (f, g, h) refl) (blank_stands c s m p t stood h) none
+            (subst (λ q. Ends (past_element s (blank c)) q b next) (sym (past_is p c b f)) (later (past_element s (blank c)) (past p) gap (after_element (blank c) t) (blank_goes c s m p t stood)))
       ]
-
-      by : (s : LineStand) (m : Mode) → Stood p t s m → Ends s p (c ∷ b) here
-      by s m (in_line deep) = on within refl (grind (arith, nat_tests, deep, limit)) (in_line (grind (arith, nat_tests, deep)))
-      by s m (begins_here leads) = open_line at_start refl refl leads
-      by s m (escaped double leads) = open_line past_escaped refl refl leads
 
   -- ---- breaks
 
@@ -232,12 +213,9 @@ module _ (single : Bool) (ctx : Context) (start : Position) (least : ℕ) (limit
   each_ends zero (c ∷ b) full = let q = and_parts (is_some c) (list_all is_some b) full in by_element c b (element_of single c b) refl (not-true (c == 0) q.0) (λ n. each_ends n b q.1)
 
   -- the whole scalar, where it may begin
-  whole_ends : nat_lt ((start.col + 1) + 1) ctx.indent ≡ false → (more : List ℕ) → list_all is_some more ≡ true → Ends within (past start) more (quoted single ctx (quote_of single ∷ more) start)
+  pub whole_ends : nat_lt ((start.col + 1) + 1) ctx.indent ≡ false → (more : List ℕ) → list_all is_some more ≡ true → Ends within (past start) more (quoted single ctx (quote_of single ∷ more) start)
   unfolding quoted
   whole_ends low more full = ends_on within (past start) more _ _ (first_is_gap single ctx start more (past start) (off_margin start.col 0) low) (each_ends 0 more full within (past start) gap nothing (in_line (sym (limit (start.col + 1)) ∙ low)))
-
-  pub quoted_ends : ctx.indent ≤ start.col + 1 → (more : List ℕ) → list_all is_some more ≡ true → Ends within (past start) more (quoted single ctx (quote_of single ∷ more) start)
-  quoted_ends deep = whole_ends (grind (arith, nat_tests, deep))
 
   -- what is read is a body whose lines are indented
   pub record IsBody (q : ℕ) (body : List ℕ) (x : Read (List ℕ)) : Type 0 where
@@ -262,7 +240,7 @@ module _ (single : Bool) (ctx : Context) (start : Position) (least : ℕ) (limit
           let v = parted single least start _ within (past start) (body ++ quote_of single ∷ x.rest) w in
           let same : body ≡ v.body = append_cancel_right body v.body (quote_of single ∷ x.rest) (v.is_text ∙ ap (λ r. v.body ++ r) (v.holds.is_quote ∙ ap (λ (z : Read (List ℕ)). quote_of single ∷ z.rest) read)) in
           record {
-            lines = rw (body_between (quote_of single) body, same, v.are) (lines_close least (start.col + 1) v.es ∙ v.fits (before_quote (past_elements within v.es)) v.holds.fit);
+            lines = rw (body_between (quote_of single) body, same, v.are) (lines_close least within (start.col + 1) v.es ∙ v.fits (before_quote (past_elements within v.es)) v.holds.fit);
             end_is = position_of x.position (cc (v.holds.end_is, read, same, v.holds.is_quote));
           }
 

@@ -1,5 +1,5 @@
 -- Why the text after an opening quote is refused, told of the text from an element on.
-use Rattle.proof_scanner.proofs.Common.{past, [], are_marks, after_own, and_false, ap, append_assoc, are_indented, arith, at_start, begins_further, begins_solid, begins_with, begun_with, blank, Bool, content, drop, Element, element_of, elements, escaped_break, false, further_lines_fit, has_more, is_document_marker, IsBadEscape, line_break, Lines, lines_fit, lines_of, LineStand, List, local, LocalOf, marked_from, nat_lt, nat_tests, not, past_element, past_elements, past_escaped, past_is, Position, position_after, position_append, Problem, refl, replicate, Some, Spelled, subst, suc, sym, take, take-append-drop, true, within, zero, ℕ, ◌&&◌, ◌++◌, ◌+◌, ◌==◌, ◌∙◌, ◌∷◌, ◌≡◌, eqb-true, or-false, after_chars, along, along_more, append-nil, break_further, digit_value, double_quoted_element, escape, escape_by, feed_is_no_marker, has_marker, hexadecimal, in_line_position, is_cr_lf, is_in_line, line_position, None, numeric_escape, Option, past_break, plain_element, position_past, same_blank, same_break, same_feed, single_quoted_element, ◌*◌, ◌≤◌, QuotedDocumentMarker, QuotedEnd, QuotedIndentation, TabAsIndentation, and_parts, drop-append-le, ends_before, inl, inr, length, length-take, Local, lookup, number_at, numbered, numeric_escapes, take-append-le, cases_Bool, ◌||◌, ◌⊎◌, if◌then◌else◌, EscapedCode, HexadecimalDigit, UnknownEscape, feed_past}
+use Rattle.proof_scanner.proofs.Common.{past, [], after_own, and_false, ap, append_assoc, are_indented, arith, at_start, begins_further, begins_solid, begins_with, begun_with, blank, Bool, content, drop, Element, element_of, elements, escaped_break, false, further_lines_fit, has_more, is_document_marker, IsBadEscape, line_break, Lines, lines_fit, lines_of, LineStand, List, local, LocalOf, marked_from, nat_lt, nat_tests, not, past_element, past_elements, past_escaped, past_is, Position, position_after, position_append, Problem, refl, replicate, Some, Spelled, subst, suc, sym, take, take-append-drop, true, within, zero, ℕ, ◌&&◌, ◌++◌, ◌+◌, ◌==◌, ◌∙◌, ◌∷◌, ◌≡◌, eqb-true, or-false, after_chars, along, along_more, append-nil, break_further, digit_value, double_quoted_element, escape, escape_by, feed_is_no_marker, has_marker, hexadecimal, in_line_position, is_cr_lf, is_in_line, line_position, None, numeric_escape, Option, past_break, plain_element, position_past, same_blank, same_break, same_feed, single_quoted_element, ◌*◌, ◌≤◌, QuotedDocumentMarker, QuotedEnd, QuotedIndentation, TabAsIndentation, and_parts, drop-append-le, ends_before, inl, inr, length, length-take, Local, lookup, number_at, numbered, numeric_escapes, take-append-le, cases_Bool, ◌||◌, ◌⊎◌, EscapedCode, HexadecimalDigit, UnknownEscape, feed_past}
 use Rattle.proof_scanner.proofs.Sound.QuotedBreaks.{Kind, has_content, has_blank, has_line, has_escaped, fits_from, lines_from, lines_here, empty_here, KindOf, kind, is_white}
 use Rattle.proof_scanner.specs.NoPiece.{quote_of}
 use Rattle.yaml_chars.specs.Class.{is_break, is_blank}
@@ -9,27 +9,14 @@ use Rattle.proof_lexers.specs.QuotedEnds as bad
 
 -- ---- content stands on one line
 
-abbrev InLineBy : ℕ → List ℕ → Element → ℕ → Type 0
-InLineBy c b (content code) k = is_in_line (c ∷ take k b) ≡ true
-InLineBy c b _ k = Unit {0}
-
-abbrev InLineOf : ℕ → List ℕ → Option Spelled → Type 0
-InLineOf c b None = Unit {0}
-InLineOf c b (Some s) = InLineBy c b s.element s.further
-
 digits_in_line : (n value code : ℕ) (w : List ℕ) → hexadecimal value (take n w) ≡ Some code → is_in_line (take n w) ≡ true
 unfolding classes.is_break
 digits_in_line (suc n) value code (c ∷ w) h = grind (arith, digits_in_line n (value * 16 + digit_value c) code w)
 digits_in_line a value code w h = grind arith
 
-module _ (d : ℕ) (b : List ℕ) (unbroken : classes.is_break d ≡ false) where
-  row_in_line : (o n : Option ℕ) → InLineOf 92 (d ∷ b) (escape_by o n b)
-  unfolding numeric_escape classes.is_break
-  row_in_line o n = grind (arith, (refl), unbroken, digits_in_line)
-
-double_in_line : (c : ℕ) (b : List ℕ) → InLineOf c b (double_quoted_element c b)
-unfolding double_quoted_element escape plain_element
-double_in_line c b = grind (arith, row_in_line)
+row_in_line : (d : ℕ) (b : List ℕ) (o n : Option ℕ) (code k : ℕ) → classes.is_break d ≡ false → escape_by o n b ≡ Some (spelled (content code) k) → is_in_line (92 ∷ take k (d ∷ b)) ≡ true
+unfolding numeric_escape classes.is_break
+row_in_line d b o n code k unbroken is = grind (arith, digits_in_line)
 
 -- in double quotes no element begins with the quote
 pub no_quote : (c : ℕ) (b : List ℕ) (s : Spelled) → double_quoted_element c b ≡ Some s → (c == 34) ≡ false
@@ -81,10 +68,14 @@ module _ (single : Bool) (c : ℕ) (b : List ℕ) (e : Spelled) (is : element_of
   pub kind_of : Kind single c b e
   kind_of = subst (λ o. KindOf single c b o) is (kind single c b)
 
+escape_in_line : (b : List ℕ) (code k : ℕ) → escape b ≡ Some (spelled (content code) k) → is_in_line (92 ∷ take k b) ≡ true
+unfolding escape
+escape_in_line b code k is = grind (arith, row_in_line)
+
 -- content ends in its line
 pub content_in_line : (single : Bool) (c : ℕ) (b : List ℕ) (code k : ℕ) → element_of single c b ≡ Some (spelled (content code) k) → is_in_line (c ∷ take k b) ≡ true
-unfolding single_quoted_element classes.is_break plain_element
-content_in_line single c b code k is = subst (λ o. InLineOf c b o) is (grind (arith, nat_tests, eqb-true, double_in_line))
+unfolding single_quoted_element double_quoted_element plain_element classes.is_break
+content_in_line single c b code k is = grind (arith, nat_tests, eqb-true, escape_in_line)
 
 pub content_after : (single : Bool) (c : ℕ) (b : List ℕ) (code k : ℕ) → (is : element_of single c b ≡ Some (spelled (content code) k)) → (p : Position) → after_it single c b (spelled (content code) k) is p ≡ along (c ∷ take k b) p
 content_after single c b code k is p = ap (λ l. position_after p l (drop k b)) (sym (append-nil (c ∷ take k b))) ∙ after_chars (c ∷ take k b) [] (drop k b) p (content_in_line single c b code k is)
@@ -151,35 +142,26 @@ spaces_fit : (n k least : ℕ) → least ≡ k + n → fits_at least at_start k 
 spaces_fit zero k least e = deep_is k least ∙ grind (arith, nat_tests, e)
 spaces_fit (suc n) k least e = fits_past least at_start k (blank 32) (replicate n (blank 32)) ∙ spaces_fit n (suc k) least (omega (arith, e))
 
-fits_are : (least : ℕ) (s : LineStand) (k : ℕ) (es : List Element) → fits_at least s k (es ++ line_break ∷ replicate least (blank 32)) ≡ all_stand least s k es
-fits_are least s k [] = fits_past least s k line_break (replicate least (blank 32)) ∙ spaces_fit least 0 least (omega arith)
-fits_are least s k (e ∷ es) = fits_past least s k e (es ++ line_break ∷ replicate least (blank 32)) ∙ ap (λ b. stands least s k e && b) (fits_are least (past_element s e) (column_past k e) es)
-
 -- The lines of elements are indented as far as they go, if each element may stand.
-pub indented_are : (least k : ℕ) (es : List Element) → are_indented least es ≡ all_stand least within k es
-indented_are least k es = fits_are least within k es
+pub indented_are : (least : ℕ) (s : LineStand) (k : ℕ) (es : List Element) → fits_at least s k (es ++ line_break ∷ replicate least (blank 32)) ≡ all_stand least s k es
+indented_are least s k [] = fits_past least s k line_break (replicate least (blank 32)) ∙ spaces_fit least 0 least (omega arith)
+indented_are least s k (e ∷ es) = fits_past least s k e (es ++ line_break ∷ replicate least (blank 32)) ∙ ap (λ b. stands least s k e && b) (indented_are least (past_element s e) (column_past k e) es)
 
 -- what may stand before a closing quote that begins a line, stands there too; after an escaped break the quote begins none
 abbrev pub before_quote : LineStand → List Element
 before_quote past_escaped = []
 before_quote s = content 92 ∷ []
 
-fits_closed : (least : ℕ) (s : LineStand) (k : ℕ) (es : List Element) → fits_at least s k es ≡ all_stand least s k (es ++ before_quote (past_elements s es))
-fits_closed least s k [] = grind (arith, deep_is, empty_here)
-fits_closed least s k (e ∷ es) = fits_past least s k e es ∙ ap (λ b. stands least s k e && b) (fits_closed least (past_element s e) (column_past k e) es)
-
 -- The lines of a whole body are indented just where each element may stand, and the closing quote.
-pub lines_close : (least k : ℕ) (es : List Element) → further_lines_fit least (lines_of es) ≡ all_stand least within k (es ++ before_quote (past_elements within es))
-lines_close least k es = fits_closed least within k es
+pub lines_close : (least : ℕ) (s : LineStand) (k : ℕ) (es : List Element) → fits_at least s k es ≡ all_stand least s k (es ++ before_quote (past_elements s es))
+lines_close least s k [] = grind (arith, deep_is, empty_here)
+lines_close least s k (e ∷ es) = fits_past least s k e es ∙ ap (λ b. stands least s k e && b) (lines_close least (past_element s e) (column_past k e) es)
 
 -- within a line the column does not matter
 within_alike : (least k j : ℕ) (es : List Element) → all_stand least within k es ≡ all_stand least within j es
 within_alike least k j (content c ∷ es) = within_alike least k j es
 within_alike least k j (blank c ∷ es) = within_alike least (suc k) (suc j) es
 within_alike least k j a = grind arith
-
-own : (single : Bool) (c : ℕ) (b : List ℕ) (s : Spelled) → element_of single c b ≡ Some s → Local (element_of single c) b s
-own single c b s is = subst (λ o. LocalOf (element_of single c) b o) is (local single c b)
 
 -- ---- escapes that are none
 
@@ -216,20 +198,6 @@ bad_none r why (bad.no_character c digits code s i j k l) = let n = no_break c d
 none_here : (single : Bool) (r : List ℕ) (why : Problem) → single ≡ false → IsBadEscape r why → element_of single 92 r ≡ None
 unfolding double_quoted_element classes.is_nul
 none_here single r why e b = grind (arith, bad_none)
-
--- ---- what is wrong with a text first, by computing
-
-not_solid : (c : ℕ) (b : List ℕ) → is_white c ≡ true → begins_solid (c ∷ b) ≡ true → ⊥
-not_solid c b h e = grind (arith, same_break, same_blank)
-
--- the element that begins there, and what follows it
-abbrev further_of : Option Spelled → ℕ
-further_of None = 0
-further_of (Some e) = e.further
-
-abbrev stand_of : LineStand → Option Spelled → LineStand
-stand_of s None = s
-stand_of s (Some e) = past_element s e.element
 
 -- ---- reasons
 
@@ -342,13 +310,13 @@ module _ (single : Bool) (least : ℕ) (start : Position) where
             arrived (subst (λ x. (all_stand least (past_elements s x) p.col last ≡ true → is_marked p r ≡ false → k ≡ false → G (past_elements s x) p r) → all_stand least s p.col (x ++ last) ≡ true → G s p r) none (λ f x. f x g (sym own ∙ g)) end fit)
       ]
   walk_of G last k r no_feed marker zero (c ∷ b) es s p l h fit m end =
-      -- its characters are there
-      let enough : (single : Bool) (c : ℕ) (b : List ℕ) (s : Spelled) → element_of single c b ≡ Some s → s.further ≤ length b = λ single c b s is. let f = (own single c b s is).fits in omega (arith, f, length-take s.further b) in
       -- the elements of a body begin with one
       let f : (x : Spelled) × (element_of single c b ≡ Some x) × (others : List Element) × (elements (element_of single) x.further b ≡ Some others) × (es ≡ x.element ∷ others) = grind arith in
       let e : Spelled = f.0 in
-      let fits : e.further ≤ length b = enough single c b e f.1 in
-      let is : element_of single c (b ++ r) ≡ Some e = (own single c b e f.1).onward r no_feed in
+      -- its characters are there
+      let own : Local (element_of single c) b e = subst (λ o. LocalOf (element_of single c) b o) f.1 (local single c b) in
+      let fits : e.further ≤ length b = let k = own.fits in omega (arith, k, length-take e.further b) in
+      let is : element_of single c (b ++ r) ≡ Some e = own.onward r no_feed in
       let q : Position = after_it single c (b ++ r) e is p in
       let rest : drop e.further (b ++ r) ≡ drop e.further b ++ r = drop-append-le e.further b r fits in
       let whole : take e.further (b ++ r) ++ drop e.further b ≡ b = ap (λ x. x ++ drop e.further b) (take-append-le e.further b r fits) ∙ take-append-drop e.further b in
@@ -364,80 +332,71 @@ module _ (single : Bool) (least : ℕ) (start : Position) where
             (walk_of G last k r no_feed marker e.further b f.2 (past_element s e.element) q fits f.3 (sym (columns_are c (b ++ r) e is s p (f.2 ++ last)) ∙ parts.1) marks later))
       ]
 
-  -- an element that may not stand
-  abbrev misplaced : Position → Element → Problem × Position
-  misplaced p (blank c) = (TabAsIndentation, p)
-  misplaced p e = (QuotedIndentation, start)
+  -- ---- two walks from one place
 
-  -- by the element that begins there; where none does, a quote closes the scalar or begins a line, or an escape is none
-  abbrev judged_by : Option Spelled → LineStand → Position → (c : ℕ) (b : List ℕ) → (later : Option (Problem × Position)) → Option (Problem × Position)
-  judged_by None s p c b later =
-      (if begins_further s (c == quote_of single) && nat_lt p.col least then Some (QuotedIndentation, start) else (if c == quote_of single then None else Some (escape_problem b, start)))
-  judged_by (Some e) s p c b later = (if stands least s p.col e.element then later else Some (misplaced p e.element))
+  -- Where this holds no element begins that may stand.
+  abbrev Stops : (LineStand → Position → List ℕ → Type 0) → Type 0
+  Stops E = (s : LineStand) (p : Position) (c : ℕ) (b : List ℕ) (e : Spelled) → element_of single c b ≡ Some e → stands least s p.col e.element ≡ true → is_marked p (c ∷ b) ≡ false → E s p (c ∷ b) → ⊥
 
-  -- What is wrong with a text first, from so many characters on; nothing is, if a quote closes the scalar.
-  abbrev judge : ℕ → LineStand → Position → List ℕ → Option (Problem × Position)
-  judge n s p [] = Some (QuotedEnd, start)
-  judge (suc n) s p (c ∷ b) = judge n s p b
-  judge zero s p (c ∷ b) =
-      (if is_marked p (c ∷ b) then Some (QuotedDocumentMarker, start) else
-      judged_by (element_of single c b) s p c b (judge (further_of (element_of single c b)) (stand_of s (element_of single c b)) (position_after p (c ∷ take (further_of (element_of single c b)) b) (drop (further_of (element_of single c b)) b)) b))
+  -- two walks that stop come to one place
+  meets : (E F : LineStand → Position → List ℕ → Type 0) (R : Type 0) → Stops E → Stops F → ((s : LineStand) (p : Position) (text : List ℕ) → E s p text → F s p text → R)
+      → (s : LineStand) (p : Position) (text : List ℕ) → Walk E s p text → Walk F s p text → R
+  meets E F R e f both s p text (arrived x) (arrived y) = both s p text x y
+  meets E F R e f both s p text (arrived x) (stepped c b v is fit none w) = absurd (e s p c b v is fit none x)
+  meets E F R e f both s p text (stepped c b v is fit none w) (arrived y) = absurd (f s p c b v is fit none y)
+  meets E F R e f both s p text (stepped c b v is fit none w) (stepped _ _ u also other free z) =
+      let same : u ≡ v = cc (is, also) in
+      meets E F R e f both _ _ _ w (subst (λ x. Walk F (past_element s x.element) (position_after p (c ∷ take x.further b) (drop x.further b)) (drop x.further b)) same z)
 
-  judge_past : (n : ℕ) (b : List ℕ) (s : LineStand) (p : Position) → judge n s p b ≡ judge 0 s p (drop n b)
-  judge_past zero b s p = refl
-  judge_past (suc n) [] s p = refl
-  judge_past (suc n) (c ∷ b) s p = judge_past n b s p
+  -- what is said so of a place
+  abbrev Said : LineStand → Position → List ℕ → Problem → Position → Type 0
+  Said s p text why at =
+      ((is_marked p text ≡ true) × (why ≡ QuotedDocumentMarker) × (at ≡ start)) ⊎
+      ((is_marked p text ≡ false) × (((text ≡ []) × (why ≡ QuotedEnd) × (at ≡ start)) ⊎
+      (((next : List ℕ) × (text ≡ 92 ∷ next) × (element_of single 92 next ≡ None) × (stands least s p.col (content 92) ≡ true) × (why ≡ escape_problem next) × (at ≡ start)) ⊎
+      (((begins_solid text ≡ true) × (begins_further s (begins_with (quote_of single) text) ≡ true) × (nat_lt p.col least ≡ true) × (why ≡ QuotedIndentation) × (at ≡ start)) ⊎
+      ((next : List ℕ) × (text ≡ 9 ∷ next) × (begins_further s false ≡ true) × (nat_lt p.col least ≡ true) × (why ≡ TabAsIndentation) × (at ≡ p))))))
 
-  -- what is so where a walk ends is so where it begins
-  judged : (E : LineStand → Position → List ℕ → Type 0) (J : Option (Problem × Position) → Type 0) → ((s : LineStand) (p : Position) (text : List ℕ) → E s p text → J (judge 0 s p text))
-      → (s : LineStand) (p : Position) (text : List ℕ) → Walk E s p text → J (judge 0 s p text)
-  judged E J end s p text (arrived a) = end s p text a
-  judged E J end s p text (stepped c b e is fit none w) = rw (none, is, fit, judge_past e.further b) (judged E J end _ _ _ w)
+  said : (why : Problem) (at : Position) (s : LineStand) (p : Position) (text : List ℕ) → Wrong s p text why at → Said s p text why at
+  said why at s p text (by_marker h) = inl (h, refl, refl)
+  said why at s p text (placed _ _ none (by_end e)) = inr (none, inl (e, refl, refl))
+  said why at s p text (placed _ _ none (by_escape next _ double cut bad may)) = inr (none, inr (inl (next, cut, none_here single next why double bad, grind arith, sym (bad_is next why bad), refl)))
+  said why at s p text (placed _ _ none (by_column solid further low)) = inr (none, inr (inr (inl (solid, further, low, refl, refl))))
+  said why at s p text (placed _ _ none (by_tab next cut further low)) = inr (none, inr (inr (inr (next, cut, further, low, refl, refl))))
 
-  wrong_judged : (why : Problem) (at : Position) (s : LineStand) (p : Position) (text : List ℕ) → Wrong s p text why at → judge 0 s p text ≡ Some (why, at)
-  unfolding single_quoted_element double_quoted_element plain_element classes.is_blank classes.is_break classes.is_nul is_blank is_break are_marks
-  wrong_judged why at s p [] (by_marker h) = absurd (grind arith)
-  wrong_judged why at s p [] (placed _ _ none (by_column solid further low)) = absurd (cc solid)
-  wrong_judged why at s p (c ∷ b) (by_marker h) = rw h refl
-  wrong_judged why at s p text (placed _ _ none (by_end e)) = rw e refl
-  wrong_judged why at s p text (placed _ _ none (by_escape next _ double cut bad may)) =
-      let low : (begins_further s (92 == quote_of single) && nat_lt p.col least) ≡ false = grind arith in
-      rw cut (let free = rw cut at none in let empty = none_here single next why double bad in let is = bad_is next why bad in grind (arith, free, empty, is, low))
-  wrong_judged why at s p text (placed _ _ none (by_tab next cut further low)) = rw cut (let free = rw cut at none in grind (arith, free))
-  wrong_judged why at s p (c ∷ b) (placed _ _ none (by_column solid further low)) = by (element_of single c b) refl
+  wrong_stops : (why : Problem) (at : Position) → Stops (λ t q x. Wrong t q x why at)
+  unfolding is_blank is_break
+  wrong_stops why at s p c b e is fit none x = by e is fit (kind_of single c b e is) (said why at s p (c ∷ b) x)
     where
-      open_here : begins_further s false ≡ true
-      open_here = grind arith
+      by : (e : Spelled) → element_of single c b ≡ Some e → stands least s p.col e.element ≡ true → Kind single c b e → Said s p (c ∷ b) why at → ⊥
+      by e is fit (has_content code k solid) x = grind (arith, nat_tests, eqb-true, none)
+      by e is fit (has_blank f g) x = grind (arith, nat_tests, eqb-true, none, same_blank, same_break)
+      by e is fit (has_line f) x = grind (arith, nat_tests, eqb-true, none, same_blank, same_break)
+      by e is fit (has_escaped d a double same_c same_b f) x = grind (arith, nat_tests, none)
 
-      by_kind : (e : Spelled) → element_of single c b ≡ Some e → Kind single c b e → judge 0 s p (c ∷ b) ≡ Some (QuotedIndentation, start)
-      by_kind e is b = grind (arith, nat_tests, eqb-true, open_here, not_solid)
-
-      by : (o : Option Spelled) → element_of single c b ≡ o → judge 0 s p (c ∷ b) ≡ Some (QuotedIndentation, start)
-      by None is = rw (none, is, further, low) refl
-      by (Some e) is = by_kind e is (kind_of single c b e is)
-
-  same_fault : (why1 why2 : Problem) (at1 at2 : Position) → ◌≡◌ {A = Option (Problem × Position)} (Some (why1, at1)) (Some (why2, at2)) → (why1 ≡ why2) × (at1 ≡ at2)
-  same_fault why1 why2 at1 at2 e = let pair : ◌≡◌ {A = Problem × Position} (why1, at1) (why2, at2) = cc e in (ap (λ z. z.0) pair, ap (λ z. z.1) pair)
+  one_wrong : (why1 why2 : Problem) (at1 at2 : Position) (s : LineStand) (p : Position) (text : List ℕ) → Said s p text why1 at1 → Said s p text why2 at2 → (why1 ≡ why2) × (at1 ≡ at2)
+  unfolding classes.is_blank classes.is_break
+  one_wrong why1 why2 at1 at2 a p text x y = grind (arith, nat_tests)
 
   -- What is wrong first with a text is one thing at one position.
   pub one_reason : (s : LineStand) (p : Position) (text : List ℕ) (why1 why2 : Problem) (at1 at2 : Position) → Reason s p text why1 at1 → Reason s p text why2 at2 → (why1 ≡ why2) × (at1 ≡ at2)
-  one_reason s p text why1 why2 at1 at2 x y =
-      same_fault why1 why2 at1 at2 (sym (judged _ (λ o. o ≡ Some (why1, at1)) (wrong_judged why1 at1) s p text x) ∙ judged _ (λ o. o ≡ Some (why2, at2)) (wrong_judged why2 at2) s p text y)
+  one_reason s p text why1 why2 at1 at2 = meets _ _ _ (wrong_stops why1 at1) (wrong_stops why2 at2) (λ s p text x y. one_wrong why1 why2 at1 at2 s p text (said why1 at1 s p text x) (said why2 at2 s p text y)) s p text
 
-  closed_judged : (s : LineStand) (p : Position) (next : List ℕ) → ends_before single next ≡ true → all_stand least s p.col (before_quote s) ≡ true → is_marked p (quote_of single ∷ next) ≡ false → judge 0 s p (quote_of single ∷ next) ≡ None
+  -- A marker begins a line here, or the closing quote stands here and may.
+  abbrev Ends : List ℕ → LineStand → Position → List ℕ → Type 0
+  Ends next s p text = (is_marked p text ≡ true) ⊎ Closes s p text next (past p)
+
+  ends_stop : (next : List ℕ) → ends_before single next ≡ true → Stops (Ends next)
   unfolding single_quoted_element double_quoted_element classes.is_nul
-  closed_judged s p next ends fit none = grind (arith, nat_tests, eqb-true, ends_before, element_of, quote_of)
+  ends_stop next ends s p c b e is fit none x = grind (arith, nat_tests, eqb-true, ends_before)
+
+  no_end : (next : List ℕ) (why : Problem) (at : Position) → (why ≡ QuotedDocumentMarker → ⊥) → (s : LineStand) (p : Position) (text : List ℕ) → Said s p text why at → Ends next s p text → ⊥
+  no_end next why at unlike a p text x y = grind (arith, nat_tests)
 
   -- Nothing but a marker is wrong where a body stands whose lines are indented, and its closing quote.
   pub not_closed : (s : LineStand) (p : Position) (body next : List ℕ) (es : List Element) → ends_before single next ≡ true → elements (element_of single) 0 body ≡ Some es → all_stand least s p.col (es ++ before_quote (past_elements s es)) ≡ true
       → (why : Problem) (at : Position) → (why ≡ QuotedDocumentMarker → ⊥) → Reason s p (body ++ quote_of single ∷ next) why at → ⊥
   not_closed s p body next es ends are fits why at unlike x =
-      let wrong : judge 0 s p (body ++ quote_of single ∷ next) ≡ Some (why, at) = judged _ (λ o. o ≡ Some (why, at)) (wrong_judged why at) s p _ x in
-      let Right : Option (Problem × Position) → Type 0 = λ o. (o ≡ Some (QuotedDocumentMarker, start)) ⊎ (o ≡ None) in
-      let right : Right (judge 0 s p (body ++ quote_of single ∷ next)) = judged (λ t q y. Right (judge 0 t q y)) Right (λ t q y h. h) s p _
-      (walk_of (λ t q y. Right (judge 0 t q y)) (before_quote (past_elements s es)) (marked_from p.col body (quote_of single ∷ next)) (quote_of single ∷ next) (grind arith)
-      (λ t q y h i. inl (wrong_judged QuotedDocumentMarker start t q y (by_marker h))) 0 body es s p (omega arith) are fits refl (λ fit free k. inr (closed_judged _ _ next ends fit free))) in
-      elim right [
-        | inl m ↦ unlike (same_fault why QuotedDocumentMarker at start (sym wrong ∙ m)).0
-        | inr n ↦ let none : ◌≡◌ {A = Option (Problem × Position)} (Some (why, at)) None = sym wrong ∙ n in cc none
-      ]
+      meets _ (Ends next) ⊥ (wrong_stops why at) (ends_stop next ends) (λ s p text x. no_end next why at unlike s p text (said why at s p text x)) s p _ x
+      (walk_of (Ends next) (before_quote (past_elements s es)) (marked_from p.col body (quote_of single ∷ next)) (quote_of single ∷ next) (grind arith) (λ t q y h i. inl h) 0 body es s p (omega arith) are fits refl
+      (λ fit free k. inr (record { is_quote = refl; fit = fit; end_is = refl })))

@@ -1,13 +1,13 @@
 -- Faults of quoted scalars: a further line is not indented, or what stands after the scalar may not follow it.
-use Rattle.proof_scanner.proofs.Common.{inr, inl, cases_Bool, [], ap, append-nil, append_assoc, are_indented, AreNotIndented, arith, Arrives, At, begins_separation, begins_with, bodies_are_read, Bool, check_after_quoted, closed_first, content, Context, element_of, ends_before, Err, false, Fault, go_on, has_marker, has_no_nul, held_of, in_flow, is_breakz, is_document_marker, is_empty, IsBadEscape, IsQuoted, IsQuotedFault, lines_first, List, may_follow_quoted, nat_lt, no_quoted, node_start, not-true, off_margin, Ok, on_held, past, past_elements, peek, Position, position_after, Problem, quote_of, quoted, quoted_lines_fit, quoted_may_end, Read, refl, Result, ScannerState, skip_spaces, Some, sym, tab, true, unled, value_of, within, Yes, ℕ, ◌++◌, ◌+◌, ◌-◌, ◌==◌, ◌∙◌, ◌∷◌, ◌≡◌, further_lines_fit, lines_of, eqb-true, nat_tests, and_parts, CommentNotSeparated, ContentAfterQuoted, QuotedDocumentMarker, QuotedEnd, QuotedIndentation, TabAsIndentation, neither, subst, columns, has_break, has_open_level, is_indented_by_spaces, is_separation, may_not_stand, no_nul_after, position_append, quoted_scalar, site_at_place, skip_to_next_token, TabInBlockIndentation}
+use Rattle.proof_scanner.proofs.Common.{elements, inr, inl, cases_Bool, [], ap, append-nil, append_assoc, are_indented, AreNotIndented, arith, Arrives, At, begins_separation, begins_with, bodies_are_read, Bool, check_after_quoted, closed_first, content, Context, element_of, ends_before, Err, false, Fault, go_on, has_marker, has_no_nul, held_of, in_flow, is_breakz, is_document_marker, is_empty, IsBadEscape, IsQuoted, IsQuotedFault, lines_first, List, may_follow_quoted, nat_lt, no_quoted, node_start, not-true, off_margin, Ok, on_held, past, past_elements, peek, Position, position_after, Problem, quote_of, quoted, quoted_lines_fit, quoted_may_end, Read, refl, Result, ScannerState, skip_spaces, Some, sym, tab, true, unled, value_of, within, Yes, ℕ, ◌++◌, ◌+◌, ◌-◌, ◌==◌, ◌∙◌, ◌∷◌, ◌≡◌, further_lines_fit, lines_of, eqb-true, nat_tests, and_parts, CommentNotSeparated, ContentAfterQuoted, QuotedDocumentMarker, QuotedEnd, QuotedIndentation, TabAsIndentation, neither, subst, columns, has_break, has_open_level, may_not_stand, no_nul_after, quoted_scalar, skip_to_next_token, TabInBlockIndentation}
 use Rattle.proof_lexers.specs.QuotedScan as scans
-use Rattle.proof_scanner.proofs.Refusals.Common.{Faults, IsDeep, IsWhy, LiesDeep, QuotedAs, Told, Spaced, either, fault, followed_stuck, goes, in_turn, looked_at, none_begins, piece_of, saved_is, solid_past, some_chars, spaces_skipped, spaces_told, stuck_by, unglued, Checked, account_by, awaits_by, blocks_by, in_line, least_by, least_is, mapped, quoted_checked, same_has_break, separation_append, stuck}
+use Rattle.proof_scanner.proofs.Refusals.Common.{Faults, IsDeep, IsWhy, LiesDeep, QuotedAs, Told, Spaced, either, fault, followed_stuck, goes, in_turn, looked_at, none_begins, piece_of, saved_is, solid_past, some_chars, spaces_skipped, spaces_told, stuck_by, unglued, Checked, awaits_by, blocks_by, in_line, least_by, least_is, mapped, quoted_checked, same_has_break, stuck}
 use Rattle.proof_scanner.proofs.Sound.QuotedBreaks.{same_limit, has_elements, body_between}
 use Rattle.proof_scanner.proofs.Refusals.AfterQuoted.{check_passes, unglued as not_glued}
 use Rattle.proof_scanner.proofs.Refusals.QuotedReasons.{not_closed, after_quote_at, all_stand, indented_are, is_marked, by_end, by_escape, by_column, by_tab, by_marker, placed, Wrong, Reason, Parted, parted, lines_close}
 use Rattle.proof_scanner.specs.NoPiece as none
 use Rattle.proof_scanner.specs.QuotedLines as lines
-use Rattle.proof_scanner.proofs.Refusals.QuotedLines.{is_of_lines, refused, reads, quoted_ends}
+use Rattle.proof_scanner.proofs.Refusals.QuotedLines.{is_of_lines, refused, reads, whole_ends}
 use Rattle.proof_scanner.proofs.Refusals.Passing.{TabStands, skip_refused}
 use Rattle.proof_scanner.specs.Failing as defs
 
@@ -59,14 +59,9 @@ module _ {text : List ℕ} {t : ScannerState} (a : Arrives text t) (some : is_em
       λ _. rw q.end_is
       (followed_stuck a some lies CommentNotSeparated (position_after t.held.position piece x.rest) (none.glued_to_quoted single piece x.rest q.cut is h) (λ c may. fits))
 
-  refuses : (v : ScannerState) → skip_spaces Yes closed ≡ Ok v → may_follow_quoted (in_flow v.held) (t.held.position.line == v.held.position.line) (peek v.rest) ≡ false
-      → check_after_quoted t.held.position.line closed ≡ Err (At ContentAfterQuoted v.held.position)
-  unfolding check_after_quoted
-  refuses v e n = rw (e, n) refl
-
-  may_not_end : (v : ScannerState) → skip_spaces Yes closed ≡ Ok v → may_follow_quoted (in_flow v.held) (t.held.position.line == v.held.position.line) (peek v.rest) ≡ false → quoted_may_end (in_flow t.held) piece x.rest ≡ false
-  may_not_end v e n = elim (cases_Bool (quoted_may_end (in_flow t.held) piece x.rest)) [
-    | inl i ↦ absurd (cc ((check_passes t.held.position piece closed q.end_is (ap (λ b. quoted_may_end b piece x.rest) (ap in_flow (saved_is t.held)) ∙ i)).is, refuses v e n))
+  may_not_end : (v : ScannerState) → Spaced Yes closed v → may_follow_quoted (in_flow v.held) (t.held.position.line == v.held.position.line) (peek v.rest) ≡ false → quoted_may_end (in_flow t.held) piece x.rest ≡ false
+  may_not_end v s n = elim (cases_Bool (quoted_may_end (in_flow t.held) piece x.rest)) [
+    | inl i ↦ absurd (cc (check_passes t.held.position piece closed v q.end_is (ap (λ b. quoted_may_end b piece x.rest) (ap in_flow (saved_is t.held)) ∙ i) s, n))
     | inr i ↦ i
   ]
 
@@ -81,7 +76,7 @@ module _ {text : List ℕ} {t : ScannerState} (a : Arrives text t) (some : is_em
       let place : v.held.position ≡ position_after end passed v.rest = ap (λ h. h.position) s.is_held ∙ ap (λ p. position_after p passed v.rest) q.end_is in
       λ _. rw place
       (followed_stuck a some lies ContentAfterQuoted (position_after end passed v.rest)
-      (none.after_quoted single piece x.rest passed v.rest q.cut is (may_not_end v e n) (record { is_text = s.is_rest ∙ sym (append_assoc s.blanks s.comment v.rest); is_filled = s.is_filled; is_on_line = s.no_break })
+      (none.after_quoted single piece x.rest passed v.rest q.cut is (may_not_end v s n) (record { is_text = s.is_rest ∙ sym (append_assoc s.blanks s.comment v.rest); is_filled = s.is_filled; is_on_line = s.no_break })
       solid_left) (λ c may. (fits, held_of v (unglued Yes closed) e)))
 
   pub after_told : Faults (Told text) (check_after_quoted t.held.position.line closed)
@@ -105,26 +100,22 @@ module _ {text : List ℕ} {t : ScannerState} (a : Arrives text t) (some : is_em
     no_break : has_break spaces ≡ false
     no_break = sym (same_has_break spaces) ∙ c.spaces.no_break
 
-    tab_stuck : {f : Fault} → TabStands blocks awaits quoted_scalar spaces v.rest v.held.position f → Told text f
+    tab_stuck : {f : Fault} → TabStands blocks awaits quoted_scalar x.position spaces v.rest v.held.position f → Told text f
     tab_stuck d =
         let gap : List ℕ = spaces ++ d.passed in
-        let cut : x.rest ≡ gap ++ d.rest = c.spaces.is_rest ∙ (sym (append_assoc c.spaces.blanks c.spaces.comment v.rest) ∙ (ap (λ r. spaces ++ r) d.cut ∙ sym (append_assoc spaces d.passed d.rest))) in
-        let is_filled : is_separation false gap d.rest ≡ true = separation_append false spaces d.passed d.rest (rw (sym d.cut) c.spaces.is_filled) d.is_filled in
+        let cut : x.rest ≡ gap ++ d.rest = c.spaces.is_rest ∙ (sym (append_assoc c.spaces.blanks c.spaces.comment v.rest) ∙ d.whole) in
         let end : Position = position_after t.held.position piece (gap ++ d.rest) in
-        let place : position_after v.held.position d.passed d.rest ≡ position_after end gap d.rest =
-        ap (λ p. position_after p d.passed d.rest) (ap (λ h. h.position) c.spaces.is_held ∙ ap (λ r. position_after x.position spaces r) d.cut) ∙
-        (sym (position_append x.position spaces d.passed d.rest) ∙ ap (λ p. position_after p gap d.rest) (q.end_is ∙ ap (λ r. position_after t.held.position piece r) cut)) in
+        let place : position_after x.position gap d.rest ≡ position_after end gap d.rest = ap (λ p. position_after p gap d.rest) (q.end_is ∙ ap (λ r. position_after t.held.position piece r) cut) in
         rw d.is_fault (λ _. rw place
         (stuck a some [] TabInBlockIndentation (position_after end gap d.rest) (λ k may.
         record {
-          fails = may_not_stand (defs.tab_after_quoted single piece gap d.rest (q.cut ∙ ap (λ r. piece ++ r) cut) (rw (sym cut) (is)) is_filled d.goes_on d.is_solid
-              (ap (λ bs. is_indented_by_spaces quoted_scalar bs (site_at_place (account_by a some k []) t.held.position).awaits gap) (blocks_by a some k []) ∙
-              (ap (λ w. is_indented_by_spaces quoted_scalar blocks w gap) (awaits_by a some k []) ∙ d.is_indented_by_tab)));
+          fails = may_not_stand (defs.tab_after_quoted single piece gap d.rest (q.cut ∙ ap (λ r. piece ++ r) cut) (rw (sym cut) (is)) d.is_filled d.goes_on d.is_solid
+              (rw (blocks_by a some k [], awaits_by a some k []) d.is_indented_by_tab));
           is_first = (looked_at a some lies k [], rw (least_by a some k []) (fits), rw (sym cut) (not_glued (in_flow closed.held) piece x.rest c.may_end));
         })))
 
     told : Faults (Told text) (skip_to_next_token v)
-    told = mapped (λ f d. tab_stuck d) (skip_refused quoted_scalar blocks awaits spaces v (grind (arith, nat_tests, eqb-true, least_is, saved_is)) (λ _. (inr (record { leading_is = λ i. ap (λ h. h.leading) c.spaces.is_held ∙ sym no_break; col_is = λ b. absurd (cc (b, no_break)); spaced = λ b. absurd (cc (b, no_break)) }))))
+    told = mapped (λ f d. tab_stuck d) (skip_refused quoted_scalar blocks awaits x.position spaces v c.spaces.is_filled (ap (λ h. h.position) c.spaces.is_held) (grind (arith, nat_tests, eqb-true, least_is, saved_is)) (λ _. (inr (record { leading_is = λ i. ap (λ h. h.leading) c.spaces.is_held ∙ sym no_break; col_is = λ b. absurd (cc (b, no_break)); spaced = λ b. absurd (cc (b, no_break)) }))))
 
   -- what stands on the way to the next token after a quoted piece
   pub tab_told : (v : ScannerState) → check_after_quoted t.held.position.line closed ≡ Ok v → Faults (Told text) (skip_to_next_token v)
@@ -166,50 +157,50 @@ module _ {text : List ℕ} {t : ScannerState} (a : Arrives text t) (some : is_em
             let es = has_elements single b.body b.value b.value_is in
             let whole : quoted_lines_fit least (element_of single) (none.quote_of single ∷ (b.body ++ none.quote_of single ∷ [])) ≡ true = ap (quoted_lines_fit least (element_of single)) (sym b.piece_is) ∙ i in
             let fit : further_lines_fit least (lines_of es.0) ≡ true = rw (body_between (none.quote_of single) b.body, es.1) at whole in
-            absurd (not_closed single least here within (past here) b.body next es.0 b.ends es.1 (sym (lines_close least (past here).col es.0) ∙ fit) why at unlike (rw (sym b.is_text) x))
+            absurd (not_closed single least here within (past here) b.body next es.0 b.ends es.1 (sym (lines_close least within (past here).col es.0) ∙ fit) why at unlike (rw (sym b.is_text) x))
         | inr i ↦ i
       ]
 
       -- what is wrong with the text after the quote is what the whole text is stuck by
       told_by : (why : Problem) (at : Position) → At why at ≡ f → Reason single least here within (past here) more why at → IsWhy text why at
-      told_by why at is w = by why at is w (parted single least here _ within (past here) more w)
+      told_by why at is w = of why at is w x.holds
         where
-          by : (why : Problem) (at : Position) → At why at ≡ f → Reason single least here within (past here) more why at → Parted single least here (λ t q x. Wrong single least here t q x why at) within (past here) more → IsWhy text why at
-          by why at is w x = of why at is w x.holds
-            where
-              indented : are_indented least x.es ≡ true
-              indented = indented_are least (past here).col x.es ∙ (ap (all_stand least within (past here).col) (sym (append-nil x.es)) ∙ x.fits [] refl)
+          x : Parted single least here (λ t q y. Wrong single least here t q y why at) within (past here) more
+          x = parted single least here _ within (past here) more w
 
-              marks : (b : Bool) → is_marked (position_after (past here) x.body x.rest) x.rest ≡ b → has_marker x.body x.rest ≡ b
-              marks b h = rw (off_margin here.col 0) at (x.marks ∙ h)
+          indented : are_indented least x.es ≡ true
+          indented = indented_are least within (past here).col x.es ∙ (ap (all_stand least within (past here).col) (sym (append-nil x.es)) ∙ x.fits [] refl)
 
-              of : (why : Problem) (at : Position) → At why at ≡ f → Reason single least here within (past here) more why at → Wrong single least here (past_elements within x.es) (position_after (past here) x.body x.rest) x.rest why at → IsWhy text why at
-              of why at is w (by_marker h) =
-                  none_begins a some lies QuotedDocumentMarker _
-                  (none.unquoted single more QuotedDocumentMarker e (none_there (ap is_of_lines (sym is))) (none.by_marker x.body x.rest x.is_text (x.es, x.are) (marks true h)))
-                  ((and_parts ((position_after (past here) x.body x.rest).col == 0) (is_document_marker x.rest) h).1, indented)
-              of why at is w (placed _ _ free (by_end ends)) =
-                  let all : more ≡ x.body = x.is_text ∙ (ap (λ r. x.body ++ r) ends ∙ append-nil x.body) in
-                  none_begins a some lies QuotedEnd _
-                  (none.unquoted single more QuotedEnd e (none_there (ap is_of_lines (sym is))) (none.by_end (x.es, rw all x.are)))
-                  (ap (λ b. has_marker b []) all ∙ (ap (λ r. has_marker x.body r) (sym ends) ∙ marks false free), indented)
-              of why at is w (placed _ _ free (by_escape next _ double cut bad may)) =
-                  none_begins a some lies why _
-                  (none.unquoted single more why e (none_there (ap is_of_lines (sym is) ∙ not_of_lines next why here bad)) (none.by_escape x.body next why double (x.is_text ∙ ap (λ r. x.body ++ r) cut) (x.es, x.are) bad))
-                  (ap (λ r. has_marker x.body r) (sym cut) ∙ marks false free, indented_are least (past here).col (x.es ++ content 92 ∷ []) ∙ x.fits (content 92 ∷ []) may)
-              of why at is w (placed _ _ free (by_column solid further low)) =
-                  lines_stuck single QuotedIndentation here (none_fits why at (λ k. absurd (cc k)) w)
-                  (lines.by_column x.body x.rest x.es (e ∙ ap (λ r. none.quote_of single ∷ r) x.is_text) x.are solid further (ap (λ (q : Position). nat_lt q.col least) (after_quote_at single here x.body x.rest) ∙ low))
-                  (marks false free, indented)
-              of why at is w (placed _ _ free (by_tab next cut further low)) =
-                  let same_place : position_after (past here) x.body x.rest ≡ position_after here (none.quote_of single ∷ x.body) (tab ∷ next) = sym (after_quote_at single here x.body x.rest) ∙ ap (λ r. position_after here (none.quote_of single ∷ x.body) r) cut in
-                  rw same_place
-                  (lines_stuck single TabAsIndentation (position_after here (none.quote_of single ∷ x.body) (tab ∷ next)) (none_fits why at (λ k. absurd (cc k)) w)
-                  (lines.by_tab x.body next x.es (e ∙ ap (λ r. none.quote_of single ∷ r) (x.is_text ∙ ap (λ r. x.body ++ r) cut)) x.are further (ap (λ (q : Position). nat_lt q.col least) (sym same_place) ∙ low))
-                  (ap (λ r. has_marker x.body r) (sym cut) ∙ marks false free, indented))
+          marks : (b : Bool) → is_marked (position_after (past here) x.body x.rest) x.rest ≡ b → has_marker x.body x.rest ≡ b
+          marks b h = rw (off_margin here.col 0) at (x.marks ∙ h)
+
+          of : (why : Problem) (at : Position) → At why at ≡ f → Reason single least here within (past here) more why at → Wrong single least here (past_elements within x.es) (position_after (past here) x.body x.rest) x.rest why at → IsWhy text why at
+          of why at is w (by_marker h) =
+              none_begins a some lies QuotedDocumentMarker _
+              (none.unquoted single more QuotedDocumentMarker e (none_there (ap is_of_lines (sym is))) (none.by_marker x.body x.rest x.is_text (x.es, x.are) (marks true h)))
+              ((and_parts ((position_after (past here) x.body x.rest).col == 0) (is_document_marker x.rest) h).1, indented)
+          of why at is w (placed _ _ free (by_end ends)) =
+              let all : more ≡ x.body = x.is_text ∙ (ap (λ r. x.body ++ r) ends ∙ append-nil x.body) in
+              none_begins a some lies QuotedEnd _
+              (none.unquoted single more QuotedEnd e (none_there (ap is_of_lines (sym is))) (none.by_end (x.es, subst (λ b. elements (element_of single) 0 b ≡ Some x.es) (sym all) x.are)))
+              (ap (λ b. has_marker b []) all ∙ (ap (λ r. has_marker x.body r) (sym ends) ∙ marks false free), indented)
+          of why at is w (placed _ _ free (by_escape next _ double cut bad may)) =
+              none_begins a some lies why _
+              (none.unquoted single more why e (none_there (ap is_of_lines (sym is) ∙ not_of_lines next why here bad)) (none.by_escape x.body next why double (x.is_text ∙ ap (λ r. x.body ++ r) cut) (x.es, x.are) bad))
+              (rw (← cut) (marks false free), indented_are least within (past here).col (x.es ++ content 92 ∷ []) ∙ x.fits (content 92 ∷ []) may)
+          of why at is w (placed _ _ free (by_column solid further low)) =
+              lines_stuck single QuotedIndentation here (none_fits why at (λ k. absurd (cc k)) w)
+              (lines.by_column x.body x.rest x.es (e ∙ ap (λ r. none.quote_of single ∷ r) x.is_text) x.are solid further (ap (λ (q : Position). nat_lt q.col least) (after_quote_at single here x.body x.rest) ∙ low))
+              (marks false free, indented)
+          of why at is w (placed _ _ free (by_tab next cut further low)) =
+              let same_place : position_after (past here) x.body x.rest ≡ position_after here (none.quote_of single ∷ x.body) (tab ∷ next) = sym (after_quote_at single here x.body x.rest) ∙ ap (λ r. position_after here (none.quote_of single ∷ x.body) r) cut in
+              rw same_place
+              (lines_stuck single TabAsIndentation (position_after here (none.quote_of single ∷ x.body) (tab ∷ next)) (none_fits why at (λ k. absurd (cc k)) w)
+              (lines.by_tab x.body next x.es (e ∙ ap (λ r. none.quote_of single ∷ r) (x.is_text ∙ ap (λ r. x.body ++ r) cut)) x.are further (ap (λ (q : Position). nat_lt q.col least) (sym same_place) ∙ low))
+              (rw (← cut) (marks false free), indented))
 
     pub refused_told : has_no_nul more ≡ true → (f : Fault) → quoted single ctx (none.quote_of single ∷ more) here ≡ Err f → Told text f
-    refused_told clean f fails = elim (quoted_ends single ctx here least limit (omega (arith, deep, same)) more (some_chars more clean)) [
+    refused_told clean f fails = elim (whole_ends single ctx here least limit (grind (arith, nat_tests, deep, same)) more (some_chars more clean)) [
       | reads y w i ↦ absurd (cc (i, fails))
       | refused why at h i ↦ let is : At why at ≡ f = cc (i, fails) in rw (sym is) (λ _. told_by f fails why at is h)
     ]

@@ -1,7 +1,7 @@
 -- Where the scanner's model refuses a text with a fault of a kind that is told, the text is stuck.
 use Rattle.proof_scanner.proofs.Common.{[], ap, Arrives, At, begins, cleared, drop_stale, false, Fares, Fault, fetch, fetch_here, fetch_next, fetch_stream_end, fetch_stream_start, has_no_nul, has_required, held_of, here, Holds, in_flow, inl, inr, is_empty, is_far, is_overdue, IsRefused, Key, List, list_any, map, next_line, not-false, Ok, on_held, Option, outside_key, over, peek, Position, Reaches, refl, RefusedTextsAreStuck, ScannerState, Some, stale, Stands, start, still, sym, there, top_key, true, unroll_indent, ℕ, ◌+◌, ◌==◌, ◌∙◌, ◌∷◌, ◌≡◌, ◌⊎◌, arith, eqb-true, nat_tests, Account, Bool, Fails, fails, IsStuck, key_waits, AnchorIndentation, KeyExpected, KeyWithoutColon, goes}
 use Rattle.model_scanner.specs.Keys.{with_keys}
-use Rattle.proof_scanner.proofs.Refusals.Common.{Faults, Told, content_kept, either, fault_is, fetch_keeps, first_fetch, goes_on_here, kind, no_entries, one_key, passed_stands, reached, rowless_told, tried}
+use Rattle.proof_scanner.proofs.Refusals.Common.{Faults, IsRowless, Told, content_kept, either, fault_is, fetch_keeps, first_fetch, goes_on_here, kind, no_entries, one_key, passed_stands, reached, rowless_told, tried}
 use Rattle.proof_scanner.specs.Never.{AnchorIndentationNeverComes}
 use Rattle.proof_scanner.proofs.Refusals.Fetches.{here_told}
 use Rattle.proof_scanner.proofs.Refusals.Passing.{HasNear, fetch_near, passing_told}
@@ -27,18 +27,22 @@ stuck_never text at (key_waits a separation rest _ begin spot _ g flowing filled
 
 -- ---- a fetch
 
-stale_told : (text : List ℕ) → has_no_nul text ≡ true → (u : ScannerState) → Stands text u → Faults (Told text) (stale u.held)
+-- keys that must be ones and are far, where there are none in a text with a row
+overdue_told : (text : List ℕ) (t : ScannerState) → (in_flow t.held ≡ false → list_any (is_overdue t.held.position) t.held.keys ≡ true → IsRowless text) → Faults (Told text) (stale t.held)
 unfolding stale drop_stale
-stale_told text nul u s =
+overdue_told text t rowless =
+    either (in_flow t.held) (λ _. faults.goes) (λ o. faults.kept (with_keys t.held) (λ e. refl) (λ x. faults.goes)
+    (rowless_told text (list_any (is_overdue t.held.position) t.held.keys) KeyWithoutColon t.held.position (map (still t.held.position) t.held.keys) refl (rowless o)))
+
+stale_told : (text : List ℕ) → has_no_nul text ≡ true → (u : ScannerState) → Stands text u → Faults (Told text) (stale u.held)
+stale_told text nul u s = overdue_told text u (λ o h.
     -- the open key is far and must be one
     let overdue : (p : Position) (k : Option Key) (ks : List (Option Key)) → ks ≡ k ∷ [] → list_any (is_overdue p) ks ≡ true → (x : Key) × (k ≡ Some x) × (is_far x.position p ≡ true) × (x.required ≡ true) = λ p k ks e h. grind arith in
-    either (in_flow u.held) (λ _. faults.goes) (λ o. faults.kept (with_keys u.held) (λ e. refl) (λ x. faults.goes)
-    (rowless_told text (list_any (is_overdue u.held.position) u.held.keys) KeyWithoutColon u.held.position (map (still u.held.position) u.held.keys) refl (λ h.
     let out : is_empty u.held.flow ≡ true = not-false (is_empty u.held.flow) o in
     let only = one_key u.held.keys u.held.flow s.one_each out in
     let far = overdue u.held.position only.0 u.held.keys only.1 h in
     let none_in : s.base.entries ≡ [] = no_entries u.held.key_allowed _ u.held.flow u.held.keys s.base.entries out s.are_entries in
-    stale_rowless text u s nul far.0 (ap (λ es. outside_key es u.held.keys) none_in ∙ (ap top_key only.1 ∙ far.1)) far.3 far.2)))
+    stale_rowless text u s nul far.0 (ap (λ es. outside_key es u.held.keys) none_in ∙ (ap top_key only.1 ∙ far.1)) far.3 far.2)
 
 -- where no key must be one none is refused
 none_overdue : (p : Position) (ks : List (Option Key)) → has_required ks ≡ false → list_any (is_overdue p) ks ≡ false
@@ -62,11 +66,8 @@ unfolding fetch_here
 here_stands text t a = holds.either (peek t.rest == 0) (λ _. holds.weakened (λ u x. inr x) (end_cleared t)) (λ e. holds.weakened (λ u x. inl x.stands) (content_kept text t a (goes_on_here t.rest e)))
 
 left_told : (text : List ℕ) → has_no_nul text ≡ true → (t : ScannerState) → StandsOrEnds text t → Faults (Told text) (stale t.held)
-unfolding stale drop_stale
 left_told text nul t (inl s) = stale_told text nul t s
-left_told text nul t (inr none) =
-    either (in_flow t.held) (λ _. faults.goes) (λ _. faults.kept (with_keys t.held) (λ e. refl) (λ x. faults.goes)
-    (rowless_told text (list_any (is_overdue t.held.position) t.held.keys) KeyWithoutColon t.held.position (map (still t.held.position) t.held.keys) refl (λ h. absurd (cc (h, none_overdue t.held.position t.held.keys none)))))
+left_told text nul t (inr none) = overdue_told text t (λ _ h. absurd (cc (h, none_overdue t.held.position t.held.keys none)))
 
 next_told : (text : List ℕ) → has_no_nul text ≡ true → (t : ScannerState) → Stands text t → HasNear t.held → Faults (Told text) (fetch_next t)
 unfolding fetch_next
@@ -104,15 +105,14 @@ known_on text nul t u (there {u = v} going e run) k = known_on text nul v u run 
 
 -- What a refusal says of the text.
 pub refusal_told : (text : List ℕ) (f : Fault) → has_no_nul text ≡ true → IsRefused text f → Told text f
-refusal_told text f nul r = by k.fares
+refusal_told text f nul r = elim k.fares [
+  | begins b ↦ absurd (cc (sym (first_fetch text) ∙ (ap fetch (sym b) ∙ r.refused)))
+  | goes s ↦ fault_is f (fetch_told text nul r.last s k.near) r.refused
+  | over g n m ↦ absurd (cc (g, r.going))
+]
   where
     k : Known text r.last
     k = known_on text nul (start text) r.last r.run (record { fares = begins refl; near = λ o k e. absurd (cc e) })
-
-    by : Fares text r.last → Told text f
-    by (begins b) = absurd (cc (sym (first_fetch text) ∙ (ap fetch (sym b) ∙ r.refused)))
-    by (goes s) = fault_is f (fetch_told text nul r.last s k.near) r.refused
-    by (over g n m) = absurd (cc (g, r.going))
 
 pub refused_texts_are_stuck : RefusedTextsAreStuck
 refused_texts_are_stuck text why at nul r told = (refusal_told text (At why at) nul r (kind told)).is_stuck

@@ -1,20 +1,16 @@
 -- Where a tag, a directive or a block scalar's header is none, no row of the text goes on.
-use Rattle.proof_scanner.proofs.Common.{is_on_line, cases_Bool, [], NoPiece, IsBlockFault, IsQuotedFault, tab, nat_tests, is_marker, act_of, directive_token, Directive, alias_name, is_name, goes_on_with_name, all_of, arith, ◌==◌, Account, after, all_of, alpha_starts, and_parts, ap, append-nil, are_marks, AreNotIndented, At, begins_flow, begins_with, begins_with_mark, block_may_end, block_read, block_token, BlockRead, BlockStyle, Body, body, Bool, decoded_some, directive_begins, directive_line, directive_of, double_quoted, eqb-true, Err, false, first_line, folded, further, further_text, has_header, has_no_break, has_no_nul, Header, header_of, if◌then◌else◌, in_double_quotes, in_single_quotes, indicator_of, inl, inr, is_adjacent, is_alpha, is_at_end, is_at_gap, is_blank, is_blank_or_end, is_break, is_decimal_digit, is_empty, is_flow, is_further_text, is_in_flow, is_in_line, is_letter, is_nul, is_past, is_tag, is_uri, IsTagRefusal, kind_at, leading, leading_all, least_column, length, line_is, line_more, lines_after, List, literal, local_goes_on, local_octets, may_follow, may_precede, More, no_lines, no_nul_after, no_suffix, None, not, of_lines, Option, past, Position, Problem, put_first, read_body, read_lines, refl, same_end, scalar, single_quoted, site_at_place, slice_index, Some, split, split_append, splits, subst, suffix_goes_on, suffix_octets, sym, tag_text, tags_are_read, true, unclosed, up_to_break, verbatim_goes_on, verbatim_octets, word, written_tag, ℕ, ◌&&◌, ◌++◌, ◌==◌, ◌||◌, ◌∙◌, ◌∷◌, ◌≡◌, ◌⊎◌, arith, ends_run, runs, nat_tests, TagEnd, VerbatimTagEnd}
+use Rattle.proof_scanner.proofs.Common.{and_false, blocks, innermost, is_on_line, cases_Bool, [], NoPiece, IsBlockFault, IsQuotedFault, tab, nat_tests, is_marker, act_of, directive_token, Directive, alias_name, is_name, goes_on_with_name, all_of, arith, ◌==◌, Account, after, alpha_starts, and_parts, ap, append-nil, are_marks, AreNotIndented, At, begins_flow, begins_with, begins_with_mark, block_may_end, block_read, block_token, BlockRead, BlockStyle, Body, body, Bool, decoded_some, directive_begins, directive_line, directive_of, double_quoted, eqb-true, Err, false, first_line, folded, further, further_text, has_header, has_no_break, has_no_nul, Header, header_of, if◌then◌else◌, in_double_quotes, in_single_quotes, indicator_of, inl, inr, is_adjacent, is_alpha, is_at_end, is_at_gap, is_blank, is_blank_or_end, is_break, is_decimal_digit, is_empty, is_flow, is_further_text, is_in_flow, is_in_line, is_letter, is_nul, is_past, is_tag, is_uri, IsTagRefusal, kind_at, leading, leading_all, least_column, length, line_is, line_more, lines_after, List, literal, local_goes_on, local_octets, may_follow, no_lines, no_nul_after, no_suffix, None, not, of_lines, Option, past, Position, Problem, put_first, read_body, read_lines, refl, same_end, scalar, single_quoted, site_at_place, slice_index, Some, split, split_append, splits, subst, suffix_goes_on, suffix_octets, sym, tag_text, tags_are_read, true, unclosed, up_to_break, verbatim_goes_on, verbatim_octets, word, written_tag, ℕ, ◌&&◌, ◌++◌, ◌||◌, ◌∙◌, ◌∷◌, ◌≡◌, ends_run, runs, TagEnd, VerbatimTagEnd}
 use Rattle.defs_token.specs.Account as pieces
 use Rattle.model_scanner.specs.Tag as tags
 use Rattle.model_scanner.specs.Tag.{verbatim_end, verbatim, named, shorthand, tag_end, tag}
-use Rattle.proof_row.specs.Ends.{block_scalar}
 use Rattle.proof_row.proofs.TagEnds.{mark_is_first}
 use Rattle.proof_lexers.specs.DirectiveEnds as directives
 use Rattle.proof_scanner.specs.NoPiece as none
-use Rattle.proof_row.specs.Ends.{anchor_name}
 use Rattle.proof_lexers.specs.HeaderEnds.{ends_line}
 use Rattle.proof_lexers.proofs.Properties.Uris.{uris_are_read}
-use Rattle.proof_row.proofs.Written as written
-use Rattle.proof_scanner.specs.NoPiece.{quote_of}
 use Rattle.proof_scanner.proofs.Refusals.OtherRows.{StepAt}
-use Rattle.proof_scanner.proofs.Refusals.PiecesRefused.{Here, acct, whole_by, rest_of, flow_is, node_stands, here_stood, marker_begins, is_piece, spot, no_block_end}
-use Rattle.proof_scanner.proofs.Refusals.Common.{end_no_text}
+use Rattle.proof_scanner.proofs.Refusals.PiecesRefused.{Here, acct, block_there, here_by, whole_by, rest_of, flow_is, node_stands, marker_begins, is_piece, spot, no_block_end}
+use Rattle.proof_scanner.proofs.Refusals.Common.{end_no_text, block_scalar, anchor_name, quote_of}
 
 -- ---- tags
 
@@ -97,6 +93,11 @@ module _ (collection : Option ℕ) (header more : List ℕ) where
       let lines : split (own ++ 9 ∷ q) ≡ lines_after (header ∷ []) (split (9 ∷ q)) = split_append own (9 ∷ q) (header ∷ []) one refl in
       by ((split q).complete) ((split q).last) (is_at_end next) (ap (λ z. read_lines collection z.complete z.last next (is_at_end next)) (sym lines) ∙ is)
 
+  -- where all of a header's line stands before a text, no line is in it
+  no_more : (l : List ℕ) (ls complete : List (List ℕ)) (last : List ℕ) → of_lines ((l ∷ ls) ++ complete) last ≡ of_lines (header ∷ []) [] → of_lines complete last ≡ of_lines [] []
+  no_more l [] complete last e = grind arith
+  no_more l (k ∷ ls) complete last e = absurd (let lines : l ∷ k ∷ (ls ++ complete) ≡ header ∷ [] = ap (λ z. z.complete) e in cc lines)
+
   -- a piece that ends before the header's break does
   shorter : (own : List ℕ) (d : ℕ) (q next : List ℕ) (r : BlockRead) → split (own ++ d ∷ q) ≡ of_lines (header ∷ []) [] → has_no_nul (d ∷ next) ≡ true → block_read collection own (d ∷ next) ≡ Some r → ⊥
   shorter own d q next r one clean is = by ((split own).complete) ((split own).last) (is_at_end (d ∷ next)) refl refl refl is
@@ -106,15 +107,8 @@ module _ (collection : Option ℕ) (header more : List ℕ) where
 
       two : (l : List ℕ) (ls : List (List ℕ)) → split own ≡ of_lines (l ∷ ls) [] → (d == 10) ≡ false → ⊥
       two l ls e other =
-          let all : of_lines ((l ∷ ls) ++ (split (d ∷ q)).complete) ((split (d ∷ q)).last) ≡ of_lines (header ∷ []) [] = sym (split_append own (d ∷ q) (l ∷ ls) e other) ∙ one in
-          let lines : (l ∷ ls) ++ (split (d ∷ q)).complete ≡ header ∷ [] = ap (λ z. z.complete) all in
-          let last : (split (d ∷ q)).last ≡ [] = ap (λ z. z.last) all in
-          let none : d ∷ q ≡ [] = no_lines (d ∷ q) (no_more ls ((split (d ∷ q)).complete) ((split (d ∷ q)).last) (cc lines) last) in
+          let none : d ∷ q ≡ [] = no_lines (d ∷ q) (no_more l ls (split (d ∷ q)).complete (split (d ∷ q)).last (sym (split_append own (d ∷ q) (l ∷ ls) e other) ∙ one)) in
           cc none
-        where
-          no_more : (ls complete : List (List ℕ)) (last : List ℕ) → ls ++ complete ≡ [] → last ≡ [] → of_lines complete last ≡ of_lines [] []
-          no_more [] complete last e f = rw (e, f) refl
-          no_more (k ∷ ls) complete last e f = absurd (cc e)
 
       by : (complete : List (List ℕ)) (last : List ℕ) (ended : Bool) → (split own).complete ≡ complete → (split own).last ≡ last → is_at_end (d ∷ next) ≡ ended → read_lines collection ((split own).complete) ((split own).last) (d ∷ next) (is_at_end (d ∷ next)) ≡ Some r → ⊥
       by (l ∷ ls) [] false e f g k =
@@ -130,21 +124,20 @@ module _ (collection : Option ℕ) (header more : List ℕ) where
 
   -- A block scalar that has this header, after which a TAB begins the next line, is the header alone.
   pub header_alone : (own piece next : List ℕ) (r : BlockRead) → piece ++ next ≡ own ++ 9 ∷ more → split own ≡ of_lines (header ∷ []) [] → has_no_nul next ≡ true → block_read collection piece next ≡ Some r → (piece ≡ own) × (next ≡ 9 ∷ more)
-  header_alone own piece next r cut one clean is = by (splits piece own next (9 ∷ more) cut)
+  header_alone own piece next r cut one clean is = elim (splits piece own next (9 ∷ more) cut) [
+    | inl m ↦ before m.more m.longer m.rest
+    | inr m ↦ behind m.more m.longer m.rest
+  ]
     where
-      by : More piece own next (9 ∷ more) ⊎ More own piece (9 ∷ more) next → (piece ≡ own) × (next ≡ 9 ∷ more)
-      by (inl m) = on m.more m.longer m.rest
-        where
-          on : (q : List ℕ) → own ≡ piece ++ q → next ≡ q ++ 9 ∷ more → (piece ≡ own) × (next ≡ 9 ∷ more)
-          on [] e f = (sym (append-nil piece) ∙ sym e, f)
-          on (d ∷ q) e f = grind (arith, nat_tests, shorter, more, split, one, clean, block_read, is, eqb-true)
-      by (inr m) = on m.more m.longer m.rest
-        where
-          on : (q : List ℕ) → piece ≡ own ++ q → 9 ∷ more ≡ q ++ next → (piece ≡ own) × (next ≡ 9 ∷ more)
-          on [] e f = (e ∙ append-nil own, sym f)
-          on (d ∷ q) e f =
-              let same : 9 ≡ d = cc f in
-              absurd (longer own q next r one (ap (λ x. block_read collection x next) (ap (λ x. own ++ x ∷ q) same ∙ sym e) ∙ is))
+      before : (q : List ℕ) → own ≡ piece ++ q → next ≡ q ++ 9 ∷ more → (piece ≡ own) × (next ≡ 9 ∷ more)
+      before [] e f = (sym (append-nil piece) ∙ sym e, f)
+      before (d ∷ q) e f = grind (arith, nat_tests, shorter, more, split, one, clean, block_read, is, eqb-true)
+
+      behind : (q : List ℕ) → piece ≡ own ++ q → 9 ∷ more ≡ q ++ next → (piece ≡ own) × (next ≡ 9 ∷ more)
+      behind [] e f = (e ∙ append-nil own, sym f)
+      behind (d ∷ q) e f =
+          let same : 9 ≡ d = cc f in
+          absurd (longer own q next r one (ap (λ x. block_read collection x next) (ap (λ x. own ++ x ∷ q) same ∙ sym e) ∙ is))
 
   -- It may not end there.
   tab_follows : (own piece next : List ℕ) (bs : List ℕ) (r : BlockRead) → piece ++ next ≡ own ++ 9 ∷ more → split own ≡ of_lines (header ∷ []) [] → has_no_nul next ≡ true → block_read collection piece next ≡ Some r → block_may_end bs piece next ≡ false
@@ -207,8 +200,7 @@ module _ {a : Account} {separation rest : List ℕ} {here : Position} (s : StepA
   no_piece_stands why at (none.headless style line after _ _ out e inner ends lacks n) =
       let w : Here s block_scalar = block_here style (line ++ after) out e in
       let clean : has_no_nul s.next ≡ true = no_nul_after s.step.piece s.next (ap has_no_nul s.text_is ∙ s.is_clean) in
-      let own : up_to_break s.step.piece ≡ indicator_of style ∷ line =
-      sym (piece_line (pieces.collection_column (acct s)) s.step.piece s.next w.0 clean w.1) ∙ (ap up_to_break (s.text_is ∙ e) ∙ (ap (λ b. if b then [] else indicator_of style ∷ up_to_break (line ++ after)) (unbroken style) ∙ ap (λ r. indicator_of style ∷ r) (first_of line after inner ends))) in
+      let own : up_to_break s.step.piece ≡ indicator_of style ∷ line = rw (← piece_line (pieces.collection_column (acct s)) s.step.piece s.next w.0 clean w.1, s.text_is ∙ e, unbroken style, first_of line after inner ends) refl in
       has_header (pieces.collection_column (acct s)) ((split s.step.piece).complete) ((split s.step.piece).last) s.next (is_at_end s.next) w.0 w.1 (ap header_of (line_is s.step.piece ∙ own) ∙ lacks)
   no_piece_stands why at (none.undirected line after _ _ col e one ends lacks n) =
       let no_nul_more : (r : List ℕ) → has_no_nul (37 ∷ r) ≡ true → has_no_nul r ≡ true = λ r h. (and_parts (not (is_nul 37)) (has_no_nul r) h).1 in
@@ -221,18 +213,18 @@ module _ {a : Account} {separation rest : List ℕ} {here : Position} (s : StepA
 
   -- The row's block scalar may stand before what follows it.
   pub no_block_stands : is_in_flow a.entries ≡ false → (why : Problem) (at : Position) → IsBlockFault (site_at_place a here).blocks here rest why at → ⊥
-  no_block_stands out why at (none.by_column piece header more lines b cut is further lines_are empty deep left) = no_block_end s piece header more lines b out cut is further lines_are empty deep left
+  no_block_stands out why at (none.by_column piece header more lines b cut is further lines_are empty deep left) =
+      let bs : List ℕ = (site_at_place a here).blocks in
+      let w : Here s block_scalar = here_by s block_scalar (innermost bs) piece more (block_token b.style b.text) cut (b, is, flow_is s ∙ out, refl) in
+      let same = blocks (innermost bs) piece s.step.piece more s.next (b, is, ap has_no_nul (sym cut) ∙ s.is_clean) (w.0, block_there s w, ap has_no_nul s.text_is ∙ s.is_clean) (sym cut ∙ sym s.text_is) in
+      let may_not : block_may_end bs piece more ≡ false = grind (arith, nat_tests, eqb-true, and_false) in
+      no_block_end s w (ap (λ p. block_may_end bs p s.next) (sym same.0) ∙ (ap (λ n. block_may_end bs piece n) (sym same.1) ∙ may_not))
   -- a TAB begins the line after the header
   no_block_stands out why at (none.by_tab own header more h e one is) =
-      let same_end_by : (style : BlockStyle) (text : List ℕ) → may_precede (is_in_flow s.account.entries) (written.At s.account s.step s.next).blocks (block_token style text) s.step.piece s.next ≡ block_may_end (written.At s.account s.step s.next).blocks s.step.piece s.next = λ a b. grind (arith, nat_tests, eqb-true) in
       let first = first_char own header h (sym (line_is own) ∙ ap (λ z. first_line z.complete z.last) one) is in
       let w : Here s block_scalar = block_here first.0 (first.1 ++ 9 ∷ more) out (e ∙ ap (λ p. p ++ 9 ∷ more) first.2) in
       let clean : has_no_nul s.next ≡ true = no_nul_after s.step.piece s.next (ap has_no_nul s.text_is ∙ s.is_clean) in
-      cc (
-        (here_stood s).precedes,
-        ap (λ t. may_precede (is_in_flow s.account.entries) (written.At s.account s.step s.next).blocks t s.step.piece s.next) w.3 ∙
-            (same_end_by w.0.style w.0.text ∙ tab_follows (pieces.collection_column (acct s)) header more own s.step.piece s.next (written.At s.account s.step s.next).blocks w.0 (s.text_is ∙ e) one clean w.1),
-      )
+      no_block_end s w (tab_follows (pieces.collection_column (acct s)) header more own s.step.piece s.next (site_at_place a here).blocks w.0 (s.text_is ∙ e) one clean w.1)
 
   -- the further lines of the row's quoted scalar are indented
   pub lines_stand : (single : Bool) (why : Problem) (at : Position) → AreNotIndented single (least_column (site_at_place a here).blocks (site_at_place a here).awaits) rest
