@@ -1,22 +1,8 @@
 -- Opening brackets of flow collections, closing ones and commas.
-use Rattle.proof_scanner.proofs.Common.{[], allow_key, arith, before_past, begins_token, blocks_past, Bool, collection, decrease_flow_level, end_flow_pair, ends_entry, ends_spaces, eqb-true, false, FlowLevel, has_no_nul, has_room, Held, if◌then◌else◌, inl, is_adjacent, is_at_line_end, is_blank, is_blanks, is_break, is_pair_at, is_separation, IsAdjacent, IsPiece, Key, Keyed, length, List, nat_tests, no_hash, None, not, Option, other, pop, Position, refl, same_blank, Some, sym, Tok, Token, token, true, with_top, Yes, ℕ, ◌&&◌, ◌++◌, ◌+◌, ◌==◌, ◌||◌, ◌∙◌, ◌∷◌, ◌≡◌, ◌⊎◌}
-use Rattle.defs_token.specs.Account.{Account}
+use Rattle.proof_scanner.proofs.Common.{[], allow_key, arith, before_past, begins_token, Bool, collection, decrease_flow_level, end_flow_pair, ends_spaces, eqb-true, false, FlowLevel, has_no_nul, Held, if◌then◌else◌, inl, is_adjacent, is_at_line_end, is_blank, is_blanks, is_separation, IsAdjacent, Key, Keyed, length, List, nat_tests, no_hash, None, not, Option, other, pop, Position, refl, same_blank, sym, Tok, Token, token, true, with_top, Yes, ℕ, ◌&&◌, ◌++◌, ◌+◌, ◌==◌, ◌||◌, ◌∙◌, ◌∷◌, ◌≡◌, ◌⊎◌}
 use Rattle.proof_lexers.specs.PlainEnds.{has_break}
 use Rattle.model_scanner.specs.declared.level.FlowLevel.TheVariants.{Entry, Pair}
 use Rattle.proof_scanner.proofs.Cut.Stoods.{same_number}
-
--- what is said of an opening bracket
-pub record IsOpeningOf (tok : Tok) (c : ℕ) : Type 0 where
-  pub in_line : is_break c ≡ false
-  pub piece : (a : Account) (next : List ℕ) (last : Option Tok) → has_room a ≡ true → IsPiece a (c ∷ []) next last a.position tok
-
-pub opening_sequence : IsOpeningOf Tok.flow_sequence_start 91
-unfolding is_break
-opening_sequence = record { in_line = refl; piece = λ a next last h. ((refl, h), refl) }
-
-pub opening_mapping : IsOpeningOf Tok.flow_mapping_start 123
-unfolding is_break
-opening_mapping = record { in_line = refl; piece = λ a next last h. inl ((refl, h), refl) }
 
 -- ---- what the model leaves
 
@@ -49,37 +35,14 @@ pub entry_is : (s : Held) (fs : List FlowLevel) → end_flow_pair (allow_key tru
 unfolding end_flow_pair
 entry_is s a = grind arith
 
--- what is said of a closing bracket or a comma
-pub record IsEndOf (tok : Tok) (c : ℕ) : Type 0 where
-  pub in_line : is_break c ≡ false
-  pub piece : (a : Account) (next : List ℕ) (last : Option Tok) → is_pair_at a.levels ≡ false → IsPiece a (c ∷ []) next last a.position tok
-  pub ends : ends_entry (Some tok) ≡ true
-  pub blocks : (bs : List (Option ℕ)) → blocks_past bs tok ≡ bs
-
-pub ends_sequence : IsEndOf Tok.flow_sequence_end 93
-unfolding is_break
-ends_sequence = record { in_line = refl; piece = λ a next last h. ((refl, h), refl); ends = refl; blocks = λ bs. refl }
-
-pub ends_mapping : IsEndOf Tok.flow_mapping_end 125
-unfolding is_break
-ends_mapping = record { in_line = refl; piece = λ a next last h. inl ((refl, h), refl); ends = refl; blocks = λ bs. refl }
-
-pub ends_by_comma : IsEndOf Tok.flow_entry 44
-unfolding is_break
-ends_by_comma = record { in_line = refl; piece = λ a next last h. ((refl, h), refl); ends = refl; blocks = λ bs. refl }
-
 -- a separation of one line is blanks, or ends with the line
 one_line : (f rest : List ℕ) → is_separation false f rest ≡ true → has_break f ≡ false → (is_blanks f ≡ true) ⊎ (is_at_line_end rest ≡ true)
 one_line [] rest h n = inl refl
-one_line (c ∷ f) rest h n = by (is_blank c) (is_break c) refl h n (one_line f rest)
+one_line (c ∷ f) rest h n = grind (arith, no_hash, same_blank, after_comment, one_line f rest)
   where
     after_comment : (f : List ℕ) → is_separation true f rest ≡ true → has_break f ≡ false → is_at_line_end rest ≡ true
     after_comment [] h n = h
     after_comment (d ∷ f) h n = grind (arith, after_comment f)
-
-    by : (x y : Bool) → is_blank c ≡ x → ((x || y || (c == 35)) && is_separation (c == 35) f rest) ≡ true → (y || has_break f) ≡ false →
-        (is_separation false f rest ≡ true → has_break f ≡ false → (is_blanks f ≡ true) ⊎ (is_at_line_end rest ≡ true)) → ((x && is_blanks f) ≡ true) ⊎ (is_at_line_end rest ≡ true)
-    by x y e h n k = grind (arith, no_hash, same_blank, after_comment)
 
 no_blank : (c : ℕ) → not ((c == 32) || ((c == 9) && true) || (c == 35)) ≡ true → is_blank c ≡ false
 unfolding is_blank

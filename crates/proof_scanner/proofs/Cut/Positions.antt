@@ -1,5 +1,5 @@
 -- Positions after texts, and after rows of pieces.
-use Rattle.proof_scanner.proofs.Common.{[], account_past_row, After, ap, append_assoc, arith, ends_line, eqb-true, false, has_no_break, is_before_line_feed, is_break, is_empty, length, List, nat_tests, NotBefore, Position, position_after, position_append, position_past, refl, suc, sym, true, Written, ℕ, ◌++◌, ◌+◌, ◌==◌, ◌∙◌, ◌∷◌, ◌≡◌, ◌≤◌}
+use Rattle.proof_scanner.proofs.Common.{[], account_past_row, After, append_assoc, arith, ends_line, eqb-true, false, has_no_break, is_before_line_feed, is_break, is_empty, length, List, nat_tests, NotBefore, Position, position_after, position_append, position_past, refl, suc, true, Written, ℕ, ◌++◌, ◌+◌, ◌==◌, ◌∷◌, ◌≡◌, ◌≤◌}
 use Rattle.defs_token.specs.Account.{Account}
 use Rattle.defs_token.specs.Cut.{account_past, spelled}
 
@@ -40,14 +40,7 @@ spelled_before (w ∷ ws) after = grind (arith, nat_tests, eqb-true, append_asso
 
 pub row_position : (a : Account) (ws : List Written) (after : List ℕ) → (account_past_row a ws after).position ≡ position_after a.position (spelled ws []) after
 row_position a [] after = refl
-row_position a (w ∷ ws) after =
-    let next : List ℕ = spelled ws after in
-    let p : Position = position_after a.position w.separation (w.piece ++ next) in
-    row_position (account_past a w next) ws after ∙
-    ap (λ t. position_after (position_after (position_after a.position w.separation (w.piece ++ t)) w.piece t) (spelled ws []) after) (spelled_before ws after) ∙
-    sym (position_append (position_after a.position w.separation (w.piece ++ (spelled ws [] ++ after))) w.piece (spelled ws []) after) ∙
-    ap (λ t. position_after (position_after a.position w.separation t) (w.piece ++ spelled ws []) after) (sym (append_assoc w.piece (spelled ws []) after)) ∙
-    sym (position_append a.position w.separation (w.piece ++ spelled ws []) after)
+row_position a (w ∷ ws) after = grind (arith, append_assoc, spelled_before, position_append, row_position (account_past a w (spelled ws after)) ws after)
 
 -- ---- lines
 

@@ -1,9 +1,9 @@
 -- Block scalars: what holds where one begins holds between two fetches after it. No key waits over it, and after it a key may begin.
-use Rattle.proof_scanner.proofs.Common.{Act, Arrives, Block, BlockStyle, Bool, Holds, IsLive, IsPiece, IsReadOn, IsTakenBy, Key, KnowsKey, Levels, Line, List, MayChoose, None, NotBefore, Ok, Option, Outside, Position, Previous, Read, ScannerState, Site, SoFar, Some, Tok, Token, [], act_of, allow_key, ap, append-nil, append_assoc, arith, awaits_past, before_by, begun_by, block, block_may_end, block_position, block_read, block_scalar, block_style, chosen, collection_of, content_position, false, fetch_block_scalar, folded, free, further_lines_stand, further_position, gives_block_scalar, has_break, has_no_nul, if◌then◌else◌, inl, innermost, is_break, is_empty, is_in_column, is_literal, is_one_of, is_separation, least_for, line_past, literal, may_precede, may_stand, nat_tests, no_nul_after, not, position_after, previous_by, read, refl, seen, shown_position, site_at, site_here, site_in, site_past, subst, suc, sym, take, taken, token, tokens_up_to, true, unroll_non_block_indents, went, without_open, without_spaces, ℕ, ◌&&◌, ◌++◌, ◌∙◌, ◌∷◌, ◌≡◌, ◌⊎◌, eqb-true, go_on, push, with_levels, on_held, on_held}
+use Rattle.proof_scanner.proofs.Common.{Act, Arrives, Block, BlockStyle, Bool, Holds, IsLive, IsPiece, IsReadOn, IsTakenBy, Key, KnowsKey, Levels, Line, List, MayChoose, None, NotBefore, Ok, Option, Outside, Position, Previous, Read, ScannerState, Site, SoFar, Some, Tok, Token, [], act_of, allow_key, ap, append-nil, append_assoc, arith, awaits_past, before_by, begun_by, block, block_may_end, block_position, block_read, block_scalar, block_style, chosen, collection_of, content_position, false, fetch_block_scalar, folded, free, further_lines_stand, further_position, gives_block_scalar, has_break, has_no_nul, if◌then◌else◌, innermost, is_break, is_empty, is_in_column, is_literal, is_one_of, is_separation, least_for, line_past, literal, may_precede, may_stand, nat_tests, no_nul_after, position_after, previous_by, read, refl, seen, shown_position, site_at, site_here, site_in, site_past, subst, suc, sym, take, taken, token, tokens_up_to, true, unroll_non_block_indents, went, without_open, without_spaces, ℕ, ◌&&◌, ◌++◌, ◌∙◌, ◌∷◌, ◌≡◌, ◌⊎◌, eqb-true, go_on, push, with_levels, on_held, on_held}
 use Rattle.model_scanner.specs.declared.kind.BlockStyle as kind
 use Rattle.model_scanner.specs.declared.kind.BlockStyle.TheVariants.{Literal, Folded}
 use Rattle.defs_token.specs.Account as pieces
-use Rattle.proof_scanner.proofs.Sound.Steps.{AreClosed, ArrivesBy, IsDeep, Onward, Reads, adjacent_kept, after_piece, by_sides, is_of_node, knows_saved, last_whole, no_waiting, none_completes, not_before_after, not_before_same, not_before_then, outer_completes, outer_then, outer_tokens, saved, saved_is, saved_keys, some_rest, stands_so, tokens_then, weaker, with_entries, without_is}
+use Rattle.proof_scanner.proofs.Sound.Steps.{AreClosed, ArrivesBy, IsDeep, Onward, Reads, adjacent_kept, after_piece, by_sides, is_of_node, knows_saved, last_whole, no_waiting, none_completes, not_before_after, not_before_same, not_before_then, outer_completes, outer_then, outer_tokens, saved, saved_is, saved_keys, some_rest, stands_so, tokens_then, weaker, with_entries, without_is, is_written}
 use Rattle.proof_scanner.proofs.Cut.Pieces.Blocks.{spaces_of, spaces_cut, spaces_fill, spaces_position, some_piece, token_of, IsBelow, below}
 use Rattle.proof_scanner.proofs.Sound.BlockEnds.{IsLeast, BlockAs, block_as, ends_at_margin}
 use Rattle.proof_scanner.proofs.Sound.Outsides.{must_be_here, numbered_past, open_node, new_key, keys_saved}
@@ -167,19 +167,11 @@ module _ (text : List ℕ) (t : ScannerState) (k : Option Key) (a : ArrivesBy te
   -- What stands after a block scalar that was read; the spaces after it are the separation.
   pub block_stands : KnowsKey text (a.separation ++ t.rest) t.held.position k → Onward text t.rest (read_state t w style x)
   block_stands known = rw r.is (rw closed.same_tokens (stands_so text t after_it r.piece r.next gap [] (key_now ∷ []) (with_entries site_then free []) a.is_clean a.started a.going scalar_reads (record {
-    flow_is = within;
-    keys_are = keys_saved t k [] keys;
-    one_each = refl;
-    are_entries = tt;
-    line_is = (inl refl, refl, taken_by key_now refl);
+    fits = grind (arith, within, keys_saved t k [] keys, taken_by key_now refl, numbered_past text t k a within deep own t.held.key_allowed);
     is_open = open_node text t k a within deep some end rest (grind (arith, place, not_before_then, not_before_after)) (position_after p r.piece r.next) (after_piece p r.piece r.next is_solid);
-    no_key = refl;
-    are_numbered = numbered_past text t k a within deep own t.held.key_allowed;
     carries = λ cs x key m inside some. absurd (cc inside);
-    knows = knows_saved text t r.piece r.next tok r.is_text end gap rest place (spaces_cut r.next) k a (
-      (rw (sym r.is_text) a.is_filled),
-      (ap not is_solid, subst (λ y. IsPiece (seen (with_entries a.site a.line []) y a.separation) r.piece r.next None (shown_position y r.piece tok r.next) tok) (sym same_site) is_piece),
-    ) within deep (ap is_of_node n.act) known;
+    knows = knows_saved text t r.piece r.next tok r.is_text end gap rest place (spaces_cut r.next) k a
+        (is_written text a.site a.separation r.piece r.next tok here same_site false a.line (rw (sym r.is_text) a.is_filled) is_solid is_piece) within deep (ap is_of_node n.act) known;
     completes = λ strict c cs may. then_rows strict c cs key_now refl may;
   })))
 

@@ -36,9 +36,6 @@ module _ (text : List ℕ) (t : ScannerState) (k : Option Key) (a : ArrivesBy te
 
   -- to a later position, where other text is left
   module _ (some : is_empty t.rest ≡ false) (end : Position) (rest : List ℕ) (later : NotBefore t.held.position end) where
-    live_now : (x : Key) → IsLive x end rest → IsLive x t.held.position t.rest
-    live_now x l = (omega (arith, later.0, l.0), some)
-
     pub one_node : (piece : List ℕ) → (is_empty rest ≡ false → end.line ≤ t.held.position.line → has_break piece ≡ false) → (strict c : Bool) → MayChoose strict c (saved t.held.key_allowed (new_key t) k) end rest →
         (has_break piece && is_waiting (line_by c (saved t.held.key_allowed (new_key t) k) taken)) ≡ false
     one_node piece one strict c may = grind (arith, not_before_same, open_before, no_waiting)
@@ -51,7 +48,7 @@ module _ (text : List ℕ) (t : ScannerState) (k : Option Key) (a : ArrivesBy te
     line_node = grind arith
 
     pub same_node : AreSame k end rest a.site.blocks here.blocks
-    same_node = grind (arith, live_now, open_of, open_before)
+    same_node = grind (arith, open_of, open_before)
 
     pub open_node : (q : Position) → After t.held.position q → IsOpenOutside (saved t.held.key_allowed (new_key t) k) q end rest here.blocks
-    open_node q after = grind (arith, after, after_then, not_before_then, (subst (λ x. NotBefore a.site.position x) (sym a.position_is) (not_before_after a.site.position a.separation t.rest)), open_of, nat_tests, eqb-true, open_before, live_now, weaker, first_not_right, must_be_here)
+    open_node q after = grind (arith, after, after_then, not_before_then, (subst (λ x. NotBefore a.site.position x) (sym a.position_is) (not_before_after a.site.position a.separation t.rest)), open_of, nat_tests, eqb-true, open_before, weaker, first_not_right, must_be_here)

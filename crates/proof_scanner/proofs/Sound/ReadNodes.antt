@@ -1,6 +1,6 @@
 -- A part of a node was read where a piece begins, be it an opening bracket or no collection: what holds between two fetches holds after it.
-use Rattle.proof_scanner.proofs.Common.{[], Account, AreEntries, Arrives, Bool, Entry, FlowLevel, IsCarriedOn, IsLine, IsNear, IsOpenOutside, IsPairOf, IsPiece, Key, KnowsKey, Line, List, MayChoose, None, NotBefore, Option, Outside, Previous, ScannerState, Site, SoFar, Some, Tok, Token, act_of, ap, arith, begins_free_line, begun_by, chosen, entries_by, false, first_choice, first_entry, further_lines_stand, gives_node, has_break, inl, is_deep_enough, is_empty, is_in_column, is_renewed, least_for, length, line_by, may_precede, may_stand, no_pair, not, outside_key, pop, position_after, previous_by, put, refl, seen, shown_position, site_at, site_here, site_in, site_past, subst, sym, taken, tokens_up_to, true, with_keys, ℕ, ◌++◌, ◌∙◌, ◌∷◌, ◌≡◌, ◌≤◌, must_be_key, kind_of}
-use Rattle.proof_scanner.proofs.Sound.Common.{after_piece, among, by_sides, ArrivesBy, begun_numbered, bit_of, choice_before, choices_around, completes_at, entry_past_node, Goes, IsDeep, levels_by, line_after_node, line_taken, node_in_entry, node_outer_tokens, node_tokens, not_before_after, not_before_then, Outer, outer_completes, past_step, saved, saved_keys, some_rest, tokens_before, with_begun, with_entries, with_no_key}
+use Rattle.proof_scanner.proofs.Common.{[], Account, AreEntries, Arrives, Bool, Entry, FlowLevel, IsCarriedOn, IsOpenOutside, IsPairOf, IsPiece, Key, KnowsKey, Line, List, MayChoose, None, NotBefore, Option, Outside, Previous, ScannerState, Site, SoFar, Some, Tok, Token, act_of, ap, arith, begins_free_line, begun_by, chosen, entries_by, false, first_choice, further_lines_stand, gives_node, has_break, inl, is_deep_enough, is_empty, is_in_column, is_renewed, least_for, length, line_by, may_precede, may_stand, no_pair, not, outside_key, pop, position_after, previous_by, put, refl, seen, shown_position, site_at, site_here, site_in, site_past, subst, sym, taken, tokens_up_to, true, with_keys, ℕ, ◌++◌, ◌∙◌, ◌∷◌, ◌≡◌, ◌≤◌, must_be_key, IsLive}
+use Rattle.proof_scanner.proofs.Sound.Common.{after_piece, among, by_sides, ArrivesBy, begun_numbered, bit_of, choice_before, choices_around, completes_at, entry_past_node, Goes, IsDeep, levels_by, line_after_node, line_taken, node_in_entry, node_outer_tokens, node_tokens, not_before_after, not_before_then, Outer, outer_completes, past_step, saved, saved_keys, some_rest, tokens_before, with_begun, with_entries, with_no_key, is_written}
 use Rattle.proof_scanner.proofs.Known.Steps.{knows_saved, is_of_node}
 use Rattle.proof_scanner.proofs.Sound.Outsides.{new_key, keys_saved, numbered_inside, must_be_here, numbered_past, one_node, taken_node, line_node, same_node, open_node}
 use Rattle.proof_scanner.proofs.Sound.InFlow.{steps_in_flow}
@@ -111,47 +111,32 @@ module _ (text : List ℕ) (t u : ScannerState) (level : Option FlowLevel) (k : 
       (rw (sym place) (rw (sym r.reads.cut) (grind arith)))))
 
   -- where a flow level begins, a key that must be one is on this line
-  carried : (lv : Option FlowLevel) → IsBegun lv t u → ((strict c : Bool) (cs : List Bool) → MayChoose strict c key_then u.held.position u.rest →
-      SoFar strict text (gap ++ u.rest) (chosen c cs (with_no_key lv (key_then ∷ [])) (with_entries (site_then t [] a.site piece tok (gap ++ u.rest)) taken (with_begun lv [])))
-      (tokens_up_to (chosen c cs (with_no_key lv (key_then ∷ [])) (with_entries (site_then t [] a.site piece tok (gap ++ u.rest)) taken (with_begun lv []))) (with_no_key lv (key_then ∷ [])) u.held.tokens)) →
-      IsCarriedOn text (gap ++ u.rest) u.rest (with_no_key lv (key_then ∷ [])) (with_entries (site_then t [] a.site piece tok (gap ++ u.rest)) taken (with_begun lv []))
-  carried None i all cs x is must inner goes = absurd (cc inner)
-  carried (Some lv) i all cs x is must inner goes = record {
-    account = chosen true cs (None ∷ key_then ∷ []) (with_entries (site_then t [] a.site piece tok (gap ++ u.rest)) taken (first_entry (kind_of lv) ∷ []));
-    steps = [];
-    begins = (all true true cs (rw is (let own_line = key_line t.held.key_allowed is in let stays = i.1 in (omega (arith, stays, own_line), goes)))).0;
-    is_inside = refl;
-    line_is = ap (λ o. line_by true o taken) is;
-    must_be = sym ((subst (λ o. IsOpenOutside o (site_then t [] a.site piece tok (gap ++ u.rest)).position u.held.position u.rest (site_of t [] a.site).blocks) is (open_node text t k a within deep some u.held.position u.rest later (site_then t [] a.site piece tok (gap ++ u.rest)).position (after_piece t.held.position piece (gap ++ u.rest) r.reads.is_solid))).1 (let own_line = key_line t.held.key_allowed is in let stays = i.1 in (omega (arith, stays, own_line), goes))).must_be ∙ must;
-    leads = ap (λ l. with_entries (site_then t [] a.site piece tok (gap ++ u.rest)) l (entries_by cs (None ∷ key_then ∷ []) (first_entry (kind_of lv) ∷ []))) (sym (ap (λ o. line_by false o taken) is));
-  }
-    where
-      key_line : (b : Bool) → saved b (new_key t) k ≡ Some x → t.held.position.line ≤ x.position.line
-      key_line true e = let same : new_key t ≡ x = cc e in subst (λ z. t.held.position.line ≤ z.position.line) same (omega arith)
-      key_line false e = (subst (λ o. IsNear o t.held.position) e (a.is_near refl)).0
+  carried : IsCarriedOn text (gap ++ u.rest) u.rest keys_then base_then
+  carried cs y is must inner goes =
+      let own : key_then ≡ Some y = grind arith in
+      let live : IsLive y u.held.position u.rest = let begun = r.is_begun in let near = a.is_near refl in grind arith in
+      let opens = open_node text t k a within deep some u.held.position u.rest later base_then.site.position (after_piece t.held.position piece (gap ++ u.rest) r.reads.is_solid) in
+      record {
+        account = chosen true cs keys_then base_then;
+        steps = [];
+        begins = (rows true true cs (rw own live)).0;
+        is_inside = grind arith;
+        line_is = ap (λ o. line_by true o taken) is;
+        must_be = grind (arith, opens, own, live, must);
+        leads = ap (λ l. with_entries base_then.site l (entries_by cs keys_then base_then.entries)) (sym (ap (λ o. line_by false o taken) is));
+      }
 
   node_outside : t.held.keys ≡ k ∷ [] → KnowsKey text (a.separation ++ t.rest) t.held.position k → Onward text t.rest u
   node_outside keys known =
       let same : outside_key (with_begun level []) keys_then ≡ key_then = (grind arith) in
       stands_so text t u piece (gap ++ u.rest) gap (levels_by level []) keys_then base_then a.is_clean a.started a.going r.reads (record {
-        flow_is = r.flow_is;
-        keys_are = r.keys_are ∙ ap (with_no_key level) (keys_saved t k [] keys);
-        one_each = grind arith;
-        are_entries = grind (arith, r);
-        line_is = subst (λ y. IsLine (not (is_empty (levels_by level []))) u.held.key_allowed (begins_free_line (previous_by tok) gap) u.held.position u.rest y taken) (sym same) (grind (arith, taken_node text t k a within deep some u.held.position u.rest later u.held.key_allowed, r.one_line));
+        fits = let numbered = begun_numbered level (length (t.held.tokens ++ (own ∷ []))) (key_then ∷ []) (numbered_past text t k a within deep own t.held.key_allowed) in
+            grind (arith, r, keys_saved t k [] keys, taken_node text t k a within deep some u.held.position u.rest later u.held.key_allowed, r.one_line, numbered);
         is_open = subst (λ y. IsOpenOutside y (site_then t [] a.site piece tok (gap ++ u.rest)).position u.held.position u.rest (site_of t [] a.site).blocks) (sym same) (open_node text t k a within deep some u.held.position u.rest later (site_then t [] a.site piece tok (gap ++ u.rest)).position (after_piece t.held.position piece (gap ++ u.rest) r.reads.is_solid));
-        no_key = refl;
-        are_numbered = rw r.tokens_are (begun_numbered level (length (t.held.tokens ++ (own ∷ []))) (key_then ∷ []) (numbered_past text t k a within deep own t.held.key_allowed));
-        carries = carried level r.is_begun rows;
+        carries = carried;
         knows = subst (λ y. KnowsKey text (gap ++ u.rest) u.held.position y) (sym same)
-            (knows_saved text t piece (gap ++ u.rest) tok r.reads.cut u.held.position gap u.rest r.reads.position_is refl k a (
-              (rw (sym r.reads.cut) a.is_filled),
-              (
-                ap not r.reads.is_solid,
-                subst (λ y. IsPiece (seen (with_entries a.site a.line []) y a.separation) piece (gap ++ u.rest) None (shown_position y piece tok (gap ++ u.rest)) tok) (sym same_site)
-                    (subst (λ p. IsPiece (seen (with_entries a.site a.line []) x a.separation) piece (gap ++ u.rest) None p tok) (sym (r.shown x)) r.is_piece),
-              ),
-            ) within deep (ap is_of_node r.act) known);
+            (knows_saved text t piece (gap ++ u.rest) tok r.reads.cut u.held.position gap u.rest r.reads.position_is refl k a
+            (is_written text a.site a.separation piece (gap ++ u.rest) tok x same_site false a.line (rw (sym r.reads.cut) a.is_filled) r.reads.is_solid (rw (r.shown x) r.is_piece)) within deep (ap is_of_node r.act) known);
         completes = λ strict c cs may. rows strict c cs (rw (sym same) may);
       })
 

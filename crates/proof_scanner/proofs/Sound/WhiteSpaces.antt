@@ -1,7 +1,6 @@
 -- Spaces, breaks and comments after a `?`: what the model reads there is all of them, and no TAB is among them but in comments.
 use Rattle.proof_scanner.proofs.Sound.QuotedEnds.{always}
-use Rattle.proof_scanner.proofs.Common.{WhitespaceExpected, At, Bool, Err, HasPassed, Held, Holds, List, ScannerState, [], after_separation, and_false, and_parts, ap, append_cancel_right, arith, begins_white_space, begins_with, begins_with_space_or_break, both_hold, eqb-true, false, has_break, has_no_break, has_tab_before_piece, if◌then◌else◌, inr, is_at_gap, is_blank, is_blank_or_end, is_break, is_nul, is_one_of, is_separation, last_line, no_break_hash, not, or_true, refl, refused, same_break, skip_yaml_whitespace, slice_index, sym, true, weakened, went, white, ℕ, ◌++◌, ◌==◌, ◌||◌, ◌∙◌, ◌∷◌, ◌≡◌, ◌⊎◌, inl}
-use Rattle.yaml_chars.specs.Class as class
+use Rattle.proof_scanner.proofs.Common.{WhitespaceExpected, At, Bool, Err, HasPassed, Held, Holds, List, ScannerState, [], after_separation, and_false, and_parts, ap, append_cancel_right, arith, begins_white_space, begins_with, begins_with_space_or_break, both_hold, eqb-true, false, has_break, has_no_break, has_tab_before_piece, if◌then◌else◌, inr, is_at_gap, is_blank, is_blank_or_end, is_break, is_nul, is_one_of, is_separation, last_line, no_break_hash, not, or_true, refl, refused, same_break, skip_yaml_whitespace, slice_index, sym, true, weakened, went, white, ℕ, ◌++◌, ◌==◌, ◌||◌, ◌∙◌, ◌∷◌, ◌≡◌, ◌⊎◌}
 use Rattle.model_scanner.specs.Space.{at_break}
 use Rattle.proof_scanner.proofs.Cut.Passes.{white_passed}
 use Rattle.proof_scanner.proofs.Sound.LastLines.{last_first}
@@ -103,8 +102,4 @@ white_or_missed b s gap = grind (arith, same_break, or_true)
 
 -- what stands after a `?`, where it is at a gap, is a space or a break
 pub white_first : (more : List ℕ) (s : Held) → is_at_gap more ≡ true → Holds (λ u. begins_with_space_or_break more ≡ true) (white false false more s)
-white_first more s gap = by (white_or_missed more s gap)
-  where
-    by : (begins_with_space_or_break more ≡ true) ⊎ IsMissed more s → Holds (λ u. begins_with_space_or_break more ≡ true) (white false false more s)
-    by (inl h) = always _ (λ u. h)
-    by (inr m) = rw m.is_refused refused
+white_first more s gap = grind (arith, white_or_missed, always, refused)

@@ -73,19 +73,13 @@ module _ (a : Account) (indent : ℕ) (outside : is_in_flow a ≡ false) (column
   found : (style : BlockStyle) (text piece next : List ℕ) (b : BlockRead) → has_no_nul next ≡ true → text ≡ piece ++ next → block_read (collection_of indent) piece next ≡ Some b → b.style ≡ style
       → ReadAs a text (token_of style b.text) (block_position b.column a.position piece next) (without_spaces next) (further_position a.position piece next) × IsBelow a.position (further_position a.position piece next) (without_spaces next)
   found style text [] next b nul cut is looks = absurd (cc (some_piece (collection_of indent) [] next b is))
-  found style text (c ∷ piece) next b nul cut is looks = (
-    record {
-      first = c;
-      more = piece;
-      separation = spaces_of next;
-      is_text = cut ∙ ap (λ l. (c ∷ piece) ++ l) (spaces_cut next);
-      is_filled = spaces_fill next (without_spaces next);
-      is_piece = λ following. subst (λ l. IsPiece a (c ∷ piece) l following (block_position b.column a.position (c ∷ piece) next) (token_of style b.text)) (spaces_cut next)
-          (grind arith);
-      is_end = spaces_position (position_after a.position (c ∷ piece) next) next ∙ ap (λ l. position_after (position_after a.position (c ∷ piece) l) (spaces_of next) (without_spaces next)) (spaces_cut next);
-    },
-    below c piece next b nul is,
-  )
+  found style text (c ∷ piece) next b nul cut is looks =
+      let position : Position = block_position b.column a.position (c ∷ piece) next in
+      let whole : text ≡ (c ∷ piece) ++ (spaces_of next ++ without_spaces next) = cut ∙ ap (λ l. (c ∷ piece) ++ l) (spaces_cut next) in
+      let is_piece : (following : Option Tok) → IsPiece a (c ∷ piece) (spaces_of next ++ without_spaces next) following position (token_of style b.text) =
+      λ following. subst (λ l. IsPiece a (c ∷ piece) l following position (token_of style b.text)) (spaces_cut next) (grind arith) in
+      let end = spaces_position (position_after a.position (c ∷ piece) next) next ∙ ap (λ l. position_after (position_after a.position (c ∷ piece) l) (spaces_of next) (without_spaces next)) (spaces_cut next) in
+      (search (whole, spaces_fill next (without_spaces next), is_piece, end), below c piece next b nul is)
 
   by_style : (style : BlockStyle) (more : List ℕ) (r : Read Block) → has_no_nul (indicator_of style ∷ more) ≡ true → has_no_nul more ≡ true → block (is_literal_style style) indent (indicator_of style ∷ more) a.position ≡ Ok r
       → ReadAs a (indicator_of style ∷ more) (token_of style r.value.text) r.value.position r.rest r.position × IsBelow a.position r.position r.rest

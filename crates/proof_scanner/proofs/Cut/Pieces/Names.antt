@@ -1,5 +1,5 @@
 -- What the scan of an anchor's or an alias's name reads is its piece.
-use Rattle.proof_scanner.proofs.Common.{[], all_of, anchor_name, anchor_token, and_parts, ap, arith, Bool, false, further, has_no_break, is_anchor_name, is_blank_or_end, is_break, is_name, IsNameRead, IsPiece, List, mark_of, named, NameIsRead, NameKind, names_end, Ok, Option, Position, position_after, position_in_line, Read, read_as, ReadAs, refl, sym, Tok, true, ℕ, ◌++◌, ◌∙◌, ◌∷◌, ◌≡◌}
+use Rattle.proof_scanner.proofs.Common.{[], all_of, anchor_name, anchor_token, and_parts, ap, arith, Bool, false, has_no_break, is_anchor_name, is_blank_or_end, is_break, is_name, IsNameRead, IsPiece, List, mark_of, named, NameIsRead, NameKind, names_end, Ok, Option, Position, position_after, position_in_line, Read, read_as, ReadAs, refl, sym, Tok, true, ℕ, ◌++◌, ◌∙◌, ◌∷◌, ◌≡◌}
 use Rattle.defs_token.specs.Account.{Account, is_in_flow}
 
 -- ---- no break stands among the characters of a class that has none
@@ -35,16 +35,7 @@ pub name_property : (fl : Bool) (kind : NameKind) (p : Position) (text more : Li
 name_property fl kind p text more e x k = by x (read_as (ap (λ r. anchor_name r p) (sym e) ∙ k) (names_end (mark_of kind) more p))
   where
     by : (y : Read (List ℕ)) → IsNameRead p more y → IsProperty fl (anchor_token kind y.value) p text y.rest y.position
-    by y (named name rest cut is ends) =
-        let line : has_no_break (mark_of kind ∷ name) ≡ true = rw (mark_in_line kind) (name_in_line name is) in
-        record {
-          first = mark_of kind;
-          more = name;
-          cut = e ∙ ap (λ l. mark_of kind ∷ l) cut;
-          in_line = line;
-          end_is = ap (λ n. further n p) (omega arith) ∙ position_in_line p (mark_of kind ∷ name) rest line;
-          is_piece = λ a following q flow. (grind arith);
-        }
+    by y (named name rest cut is ends) = grind (arith, mark_in_line, name_in_line, position_in_line)
 
 -- a name that was read is, with its indicator, the piece of its token
 pub name_is_read : NameIsRead
