@@ -1,6 +1,6 @@
 -- Where a piece begins, and between two fetches: what holds with the flow levels, the open keys and the entries taken apart, outside flow and in flow.
 use Rattle.proof_scanner.proofs.Common.{[], Account, Act, act_of, After, ap, append-nil, AreAround, AreLevels, AreNumbered, arith, Arrives, ArrivesWith, awaits_in_block, awaits_in_flow, awaits_past, begins_free_line, begins_separation, begun_by, Bool, chosen, columns, Entry, false, FlowLevel, further_lines_stand, has_break, Held, in_flow, Indent, innermost, is_break, is_deep_enough, is_empty, is_in_column, is_waiting, IsLive, IsNotRight, IsOpenHere, IsOpenOutside, Key, KnowsKey, least_column, least_for, length, Line, line_by, line_past_separation, List, may_precede, MayChoose, must_be_key, nat_le, not, NotBefore, Option, or_true, outside_key, Position, position_after, Previous, previous_by, ScannerState, shown_position, Site, SoFar, Some, Stands, StandsWith, subst, suc, sym, taken, Tok, tokens_up_to, true, ℕ, ◌&&◌, ◌++◌, ◌+◌, ◌==◌, ◌∙◌, ◌∷◌, ◌≡◌, ◌≤◌}
-use Rattle.proof_scanner.proofs.Cut.Positions.{after_then, no_break_on_line, not_before_after, not_before_then, weaker}
+use Rattle.proof_scanner.proofs.Cut.Positions.{no_break_on_line, not_before_after, not_before_then, weaker}
 use Rattle.proof_scanner.proofs.Cut.Stoods.{IsDeep}
 use Rattle.proof_scanner.proofs.Sound.OutOfFlow.{no_waiting}
 
@@ -159,4 +159,4 @@ module _ (text : List ℕ) (t : ScannerState) (f : FlowLevel) (fs : List FlowLev
     may_around strict c may = grind arith
 
     pub open_around : (q : Position) → NotBefore t.held.position q → IsOpenOutside (outside_key es ks) q end rest a.site.blocks
-    open_around q a = grind (arith, around_of, after_then, not_before_then, last_before)
+    open_around q a = grind (arith, around_of, not_before_then, last_before)

@@ -7,6 +7,6 @@ pub use Rattle.proof_scanner.proofs.Sound.StreamEnds.{all_levels, ends_of, none_
 pub use Rattle.proof_scanner.proofs.Sound.LastLines.{blank_more, break_append, column_after, last_first, last_whole, no_comment_in_last}
 pub use Rattle.proof_scanner.proofs.Sound.Blanks.{found_in, indicator_end, indicator_passed, is_clear, line_rest_cut, line_rest_fills, line_rest_in_line, none_skipped, past_it, past_one, past_rest, past_rest_is_clear, rest_read, rest_skipped, same_in_line}
 pub use Rattle.proof_scanner.proofs.Cut.Stoods.{adjacent_other, IsDeep, less_or}
-pub use Rattle.proof_scanner.proofs.Cut.Positions.{after_piece, after_then, index_after, not_before_after, not_before_same, not_before_then, weaker}
+pub use Rattle.proof_scanner.proofs.Cut.Positions.{after_piece, index_after, not_before_after, not_before_same, not_before_then, weaker}
 pub use Rattle.proof_scanner.proofs.Cut.Documents.{saved_is, saved_keys, three_past, whole_text, unrolled_in_flow, unrolled_outside}
 pub use Rattle.proof_scanner.proofs.Cut.Pieces.Separations.{gap_is_separation, separation_append, white_is_no_hash}

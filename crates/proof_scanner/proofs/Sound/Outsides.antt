@@ -1,6 +1,6 @@
 -- The key that may begin with a node, among the open keys.
 use Rattle.proof_scanner.proofs.Common.{[], After, after, ap, AreNumbered, arith, Bool, eqb-true, false, has_break, is_empty, is_in_column, is_waiting, IsLineHere, IsLive, IsOpenHere, IsOpenOutside, IsTakenBy, Key, length, length-append, line_by, List, MayChoose, must_be_key, nat_tests, not, NotBefore, Option, Position, ScannerState, Site, site_here, Some, subst, sym, taken, Token, ℕ, ◌&&◌, ◌++◌, ◌∙◌, ◌∷◌, ◌≡◌, ◌≤◌}
-use Rattle.proof_scanner.proofs.Sound.Common.{after_then, AreSame, ArrivesBy, first_not_right, IsDeep, must_be, no_waiting, not_before_after, not_before_same, not_before_then, numbered_around, numbered_more, saved, saved_keys, weaker}
+use Rattle.proof_scanner.proofs.Sound.Common.{AreSame, ArrivesBy, first_not_right, IsDeep, must_be, no_waiting, not_before_after, not_before_same, not_before_then, numbered_around, numbered_more, saved, saved_keys, weaker}
 
 -- the key that may begin here
 abbrev pub new_key : ScannerState → Key
@@ -51,4 +51,4 @@ module _ (text : List ℕ) (t : ScannerState) (k : Option Key) (a : ArrivesBy te
     same_node = grind (arith, open_of, open_before)
 
     pub open_node : (q : Position) → After t.held.position q → IsOpenOutside (saved t.held.key_allowed (new_key t) k) q end rest here.blocks
-    open_node q after = grind (arith, after, after_then, not_before_then, (subst (λ x. NotBefore a.site.position x) (sym a.position_is) (not_before_after a.site.position a.separation t.rest)), open_of, nat_tests, eqb-true, open_before, weaker, first_not_right, must_be_here)
+    open_node q after = grind (arith, after, not_before_then, (subst (λ x. NotBefore a.site.position x) (sym a.position_is) (not_before_after a.site.position a.separation t.rest)), open_of, nat_tests, eqb-true, open_before, weaker, first_not_right, must_be_here)

@@ -91,14 +91,11 @@ module _ (text : List ℕ) (t : ScannerState) (a : Arrives text t) (deep : IsDee
       abbrev own : PieceAccount
       own = seen (with_entries r.site r.line es) at r.separation
 
-      own_flow : is_in_flow own ≡ in_flow t.held
-      own_flow = ap not ((grind arith) ∙ sym (same_flow t.held.key_allowed (is_renewed r.site.before r.separation) fs ks es r.are_entries)) ∙ sym (ap (λ f. not (is_empty f)) flow)
-
       least_here : least_column at.blocks true ≡ gone.indent
       least_here = ap (λ bs. least_column bs true) (r.blocks_are ∙ closed.same_columns) ∙ closed.is_least.1
 
       piece_is : IsPiece own q.piece (q.gap ++ x.rest) None t.held.position tok
-      piece_is = grind (arith, own_flow, q, same_innermost at.blocks, closed, begins_as_read ctx (is_adjacent own.before) t.rest t.held.position x, scanned)
+      piece_is = grind (arith, q, same_innermost at.blocks, closed, begins_as_read ctx (is_adjacent own.before) t.rest t.held.position x, scanned)
 
       deep_by : (f : Bool) → f ≡ in_flow t.held → is_deep_enough f tok at ≡ true
       deep_by a h = grind (arith, nat_tests, eqb-true, q, least_here)

@@ -7,7 +7,6 @@ use Rattle.proof_lexers.specs.BlockScan.{read}
 use Rattle.proof_lexers.proofs.Blocks.Ends.{scans_end}
 use Rattle.proof_lexers.proofs.Separation.EachSeparation.{no_nul_after}
 use Rattle.proof_scanner.proofs.Cut.Pieces.Quoted.{some_chars}
-use Rattle.proof_scanner.proofs.Cut.Positions.{line_ended}
 
 -- ---- the spaces after a piece
 
@@ -34,7 +33,7 @@ spaces_position p (c ∷ r) = grind (arith, space, spaces_cut, spaces_position (
 -- a text with a whole line ends on a later one
 lines_up : (p : Position) (t next : List ℕ) → is_empty (split t).complete ≡ false → begins_with 10 next ≡ false → p.line < (position_after p t next).line
 lines_up p [] next h f = cc
-lines_up p (c ∷ t) next h f = grind (arith, line_ended, line_grows, and_false, lines_up (position_past p c (t ++ next)) t next)
+lines_up p (c ∷ t) next h f = grind (arith, line_grows, and_false, lines_up (position_past p c (t ++ next)) t next)
 
 -- ---- what a piece shows
 

@@ -8,13 +8,9 @@ use Rattle.proof_lexers.specs.DirectiveEnds.{ends_line, next_line}
 pub break_cut : (next : List ℕ) → next ≡ first_break next ++ next_line next
 break_cut next = grind arith
 
-break_fills : (c : ℕ) (f rest : List ℕ) → is_break c ≡ true → is_separation false f rest ≡ true → is_separation false (c ∷ f) rest ≡ true
-unfolding is_blank is_break
-break_fills c f rest h k = grind (arith, nat_tests)
-
 pub break_is_separation : (next : List ℕ) → ends_line next ≡ true → is_separation false (first_break next) (next_line next) ≡ true
 unfolding is_break
-break_is_separation a h = grind (arith, nat_tests, eqb-true, is_before_line_feed, break_fills, take, drop)
+break_is_separation a h = grind (arith, nat_tests, eqb-true, is_before_line_feed, take, drop)
 
 -- ---- the piece
 
