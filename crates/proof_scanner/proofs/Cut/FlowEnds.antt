@@ -1,5 +1,5 @@
 -- Opening brackets of flow collections, closing ones and commas.
-use Rattle.proof_scanner.proofs.Common.{[], allow_key, arith, before_past, begins_token, Bool, collection, decrease_flow_level, end_flow_pair, ends_spaces, eqb-true, false, FlowLevel, has_no_nul, Held, if◌then◌else◌, inl, is_adjacent, is_at_line_end, is_blank, is_blanks, is_separation, IsAdjacent, Key, Keyed, length, List, nat_tests, no_hash, None, not, Option, other, pop, Position, refl, same_blank, sym, Tok, Token, token, true, with_top, Yes, ℕ, ◌&&◌, ◌++◌, ◌+◌, ◌==◌, ◌||◌, ◌∙◌, ◌∷◌, ◌≡◌, ◌⊎◌}
+use Rattle.proof_scanner.proofs.Common.{[], allow_key, arith, before_past, begins_token, collection, decrease_flow_level, end_flow_pair, ends_spaces, eqb-true, false, FlowLevel, has_no_nul, Held, inl, is_adjacent, is_at_line_end, is_blank, is_blanks, is_separation, IsAdjacent, Key, Keyed, length, List, nat_tests, no_hash, None, not, Option, pop, Position, refl, same_blank, Tok, Token, token, true, with_top, Yes, ℕ, ◌&&◌, ◌++◌, ◌+◌, ◌==◌, ◌||◌, ◌∷◌, ◌≡◌, ◌⊎◌}
 use Rattle.proof_lexers.specs.PlainEnds.{has_break}
 use Rattle.model_scanner.specs.declared.level.FlowLevel.TheVariants.{Entry, Pair}
 use Rattle.proof_scanner.proofs.Cut.Stoods.{same_number}
@@ -52,9 +52,6 @@ no_blank c h = grind arith
 pub adjacent_collection : (p : Position) (f rest : List ℕ) → is_separation false f rest ≡ true → has_break f ≡ false → ends_spaces Yes rest ≡ true → has_no_nul rest ≡ true → IsAdjacent (before_past collection f) p p.index rest
 adjacent_collection p f rest fills line ends clean = λ separation r e k t. by separation r e k t
   where
-    blanks_first : (b : Bool) (c : ℕ) (g : List ℕ) → is_blank c ≡ false → is_adjacent (before_past (if b then collection else other) (c ∷ g)) ≡ false
-    blanks_first a c g h = grind arith
-
     by : (separation r : List ℕ) → rest ≡ separation ++ r → is_separation false separation r ≡ true → begins_token r ≡ true → is_adjacent (before_past (before_past collection f) separation) ≡ ((p.index + length separation) == p.index)
     by [] r e k t = grind (arith, nat_tests, eqb-true, one_line, same_number)
-    by (c ∷ g) r e k t = blanks_first (is_blanks f) c g (no_blank c (rw e at ends)) ∙ sym (grind (arith, nat_tests))
+    by (c ∷ g) r e k t = let none = no_blank c (rw e at ends) in grind (arith, nat_tests, none)

@@ -64,8 +64,6 @@ pub record IsToken (tok : Tok) (k : Act) (es : List Entry) (before : Previous) (
 pub deep_for : (fl : Bool) (tok : Tok) (x : Site) → least_for tok x ≡ least_column x.blocks x.awaits → nat_le (least_column x.blocks x.awaits) x.position.col ≡ true → is_deep_enough fl tok x ≡ true
 deep_for a tok x least h = grind (arith, or_true)
 
--- ---- facts where a piece begins: lines and positions, the open key outside flow, and levels of indentation
-
 -- ---- texts
 
 -- a text that begins with a piece is not empty

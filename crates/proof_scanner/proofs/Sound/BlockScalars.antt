@@ -97,14 +97,17 @@ module _ (text : List ℕ) (t : ScannerState) (k : Option Key) (a : ArrivesBy te
 
   -- no key waits over it
   is_below : IsBelow p end rest
-  is_below = by r.piece r.is_read is_solid
-    where
-      by : (piece : List ℕ) → block_read (collection_of w.indent) piece r.next ≡ Some r.scalar → is_empty piece ≡ false → IsBelow p (further_position p piece r.next) rest
-      by [] e h = absurd (cc h)
-      by (c ∷ piece) e h = below seen_here w.indent refl (same_innermost here.blocks ∙ sym least.0) c piece r.next r.scalar clean e
+  is_below = below seen_here w.indent refl (same_innermost here.blocks ∙ sym least.0) r.piece r.next r.scalar clean r.is_read
 
-  dead : (y : Key) → NotBefore y.position p → IsLive y end rest → ⊥
-  dead y h l = grind (arith, nat_tests, eqb-true, is_below)
+  abbrev key_now : Option Key
+  key_now = saved t.held.key_allowed (new_key t) k
+
+  -- the saved or open key is not after the position
+  before_it : (y : Key) → key_now ≡ Some y → NotBefore y.position p
+  before_it y e = grind (arith, not_before_same, not_before_then, weaker, not_before_after)
+
+  dead : (y : Key) → key_now ≡ Some y → IsLive y end rest → ⊥
+  dead y e l = let early = before_it y e in grind (arith, nat_tests, eqb-true, is_below, early)
 
   place : end ≡ position_after (position_after p r.piece r.next) gap rest
   place = spaces_position (position_after p r.piece r.next) r.next
@@ -117,45 +120,29 @@ module _ (text : List ℕ) (t : ScannerState) (k : Option Key) (a : ArrivesBy te
   abbrev site_then : Site
   site_then = site_past false here r.piece tok r.next here.blocks
 
-  -- what may begin here: a key need not
-  abbrev LineHere : Bool → Type 0
-  LineHere strict = ((a.line_here ≡ free) × ((strict && is_in_column p.col here.blocks) ≡ false)) ⊎ (a.line_here ≡ taken)
-
-  -- if a key need not begin here, and the open one need not be one
-  rows : (strict : Bool) → LineHere strict → MayChoose strict false k t.held.position t.rest → SoFar strict text (gap ++ rest) (with_entries site_then free []) (λ ws last. t.held.tokens ++ own ∷ [])
-  rows strict line may =
+  -- if the key that is open after it need not be one, and none must begin here
+  rows : (strict : Bool) → MayChoose strict false key_now end rest → SoFar strict text (gap ++ rest) (with_entries site_then free []) (λ ws last. t.held.tokens ++ own ∷ [])
+  rows strict may =
+      let here_is : (((a.line_here ≡ free) × ((strict && is_in_column p.col here.blocks) ≡ false)) ⊎ (a.line_here ≡ taken)) × MayChoose strict false k t.held.position t.rest =
+      grind (arith, must_be_here text t k a within deep, some) in
       let after : Outside = record { line = free; blocks = here.blocks } in
       let all : SoFar strict text r.next (outer_then text a.site a.separation r.piece r.next tok here same_site after) (λ ws last. a.tokens ++ tokens_then a.site here r.piece tok r.next a.line_here) =
       outer_completes text a.site a.separation r.piece r.next tok here same_site strict false a.line a.line_here after (λ ws last. a.tokens) (λ ws last. a.tokens ++ tokens_then a.site here r.piece tok r.next a.line_here)
-      (assumption ((subst (λ l. is_separation false a.separation l ≡ true) r.is_text a.is_filled), is_solid, is_piece, stands, a.is_line, after_by (strict && is_in_column p.col here.blocks) p here.blocks (act_of tok) a.line_here n.act line, no_waiting (has_break r.piece) false refl))
-      (λ ws last h. outer_tokens text a.site a.separation r.piece r.next tok here same_site a.line a.line_here a.is_line a.tokens ws last h) (subst (λ l. SoFar strict text (a.separation ++ l) (with_entries a.site a.line []) (λ ws last. a.tokens)) r.is_text (none_completes strict text (a.separation ++ t.rest) (with_entries a.site a.line []) (k ∷ []) a.tokens a.no_key refl (a.completes strict false [] may))) in
+      (assumption ((subst (λ l. is_separation false a.separation l ≡ true) r.is_text a.is_filled), is_solid, is_piece, stands, a.is_line, after_by (strict && is_in_column p.col here.blocks) p here.blocks (act_of tok) a.line_here n.act here_is.0, no_waiting (has_break r.piece) false refl))
+      (λ ws last h. outer_tokens text a.site a.separation r.piece r.next tok here same_site a.line a.line_here a.is_line a.tokens ws last h) (subst (λ l. SoFar strict text (a.separation ++ l) (with_entries a.site a.line []) (λ ws last. a.tokens)) r.is_text (none_completes strict text (a.separation ++ t.rest) (with_entries a.site a.line []) (k ∷ []) a.tokens a.no_key refl (a.completes strict false [] here_is.1))) in
       subst (λ l. SoFar strict text l (with_entries site_then free []) (λ ws last. t.held.tokens ++ own ∷ [])) (spaces_cut r.next)
       (subst (λ es. SoFar strict text r.next (with_entries site_then free es) (λ ws last. t.held.tokens ++ own ∷ [])) n.begun
       (subst (λ ts. SoFar strict text r.next (with_entries site_then free (begun_by tok)) (λ ws last. ts)) (grind (arith, append-nil, (n.shown here r.piece r.next ∙ ap (λ o. content_position o p r.piece r.next) (ap (λ c. block_read c r.piece r.next) (sym least.0) ∙ r.is_read)), append_assoc)) all))
 
-  -- what may begin at it
-  line_by_allowed : (strict b : Bool) (y : Option Key) → t.held.key_allowed ≡ b → k ≡ y → MayChoose strict false (saved b (new_key t) y) end rest → LineHere strict × MayChoose strict false k t.held.position t.rest
-  line_by_allowed strict b y e i may = grind (arith, must_be_here text t k a within deep, some)
-
-  abbrev key_now : Option Key
-  key_now = saved t.held.key_allowed (new_key t) k
-
-  -- the saved or open key is not after the position
-  before_it : (y : Key) → key_now ≡ Some y → NotBefore y.position p
-  before_it y e = grind (arith, not_before_same, not_before_then, weaker, not_before_after)
-
   then_rows : (strict c : Bool) (cs : List Bool) (y : Option Key) → key_now ≡ y → MayChoose strict c y end rest →
       SoFar strict text (gap ++ rest) (chosen c cs (y ∷ []) (with_entries site_then free [])) (tokens_up_to (chosen c cs (y ∷ []) (with_entries site_then free [])) (y ∷ []) (t.held.tokens ++ own ∷ []))
-  then_rows strict c cs None e may = grind (arith, line_by_allowed, rows)
-  then_rows true true cs (Some y) e may = absurd (dead y (before_it y e) may)
-  then_rows false true cs (Some y) e may = absurd may
-  then_rows strict false cs (Some y) e may =
-      let q = line_by_allowed strict t.held.key_allowed k refl refl (rw e may) in
-      rows strict q.0 q.1
+  then_rows strict c cs None e may = rows strict (rw e tt)
+  then_rows strict true cs (Some y) e may = absurd (grind (arith, dead))
+  then_rows strict false cs (Some y) e may = rows strict (rw e may)
 
   taken_by : (y : Option Key) → key_now ≡ y → IsTakenBy true end rest y free
   taken_by None e = tt
-  taken_by (Some y) e = λ l. absurd (dead y (before_it y e) l)
+  taken_by (Some y) e = λ l. absurd (dead y e l)
 
   read_on : (b : Previous) → b ≡ block_scalar → IsReadOn b (position_after p r.piece r.next) gap rest
   read_on b e = grind (arith, ends_at_margin, clean)

@@ -1,6 +1,6 @@
 -- Document markers and directives: what holds where they begin holds between two fetches after them.
-use Rattle.proof_scanner.proofs.Common.{[], act_of, and_false, and_parts, ap, append-nil, append_assoc, AreLevels, arith, Arrives, awaits_past, before_by, begin_line, begins_free_line, begins_line, begins_with, begun_by, blanks_and_comment, Bool, check_document_end, columns, Directive, directive_of, directives_end, either, Entry, eqb-true, false, fetch_directive, fetch_document_end, fetch_document_marker, first_break, FlowLevel, further_lines_stand, gives_marker, has_break, has_no_break, has_no_nul, has_open_level, Held, Holds, in_flow, is_at_gap, is_break, is_breakz, is_closed, is_empty, is_indented_by_spaces, is_renewed, is_required, is_separation, IsDirectiveRead, IsPiece, IsReadOn, Key, length, List, may_precede, no_nul_after, None, on_held, Option, or_true, other, past, past_blanks_and_comment, past_line_rest, peek, Position, position_after, position_append, previous_by, push, put, read, read_as, refl, refused, remove_implicit_key, replicate-append-replicate, ScannerState, seen, settled, shown_position, Site, site_in, skip_indicator, Some, subst, sym, taken, Tok, token_of, top_key, true, unroll_indent, went, whole_directive, with_top, ℕ, ◌++◌, ◌∙◌, ◌∷◌, ◌≡◌, ◌≤◌}
-use Rattle.proof_scanner.proofs.Sound.Steps.{exactly, held_exactly, Onward, adjacent_kept, all_levels, by_sides, ArrivesBy, at_end_of, ends_of, goes_inside, is_done, key_gone, line_rest_cut, line_rest_fills, line_rest_in_line, read_outside, Reads, rest_skipped, same_in_line, shorter, some_rest, three_past, tokens_before, unrolled_in_flow, with_entries, same_has_break, with_sides}
+use Rattle.proof_scanner.proofs.Common.{[], act_of, and_false, and_parts, ap, append-nil, append_assoc, AreLevels, arith, Arrives, awaits_past, before_by, begin_line, begins_free_line, begins_line, begins_with, begun_by, blanks_and_comment, Bool, check_document_end, columns, Directive, directive_of, directives_end, either, Entry, eqb-true, false, fetch_directive, fetch_document_end, fetch_document_marker, first_break, FlowLevel, further_lines_stand, gives_marker, has_break, has_no_break, has_no_nul, has_open_level, Held, Holds, is_at_gap, is_break, is_breakz, is_closed, is_empty, is_indented_by_spaces, is_renewed, is_required, is_separation, IsDirectiveRead, IsPiece, IsReadOn, Key, List, may_precede, no_nul_after, None, on_held, Option, or_true, other, past, past_blanks_and_comment, past_line_rest, peek, Position, position_after, position_append, previous_by, push, put, read, read_as, refl, refused, remove_implicit_key, replicate-append-replicate, ScannerState, seen, settled, shown_position, Site, site_in, skip_indicator, Some, subst, sym, taken, Tok, token_of, top_key, true, unroll_indent, went, whole_directive, with_top, ℕ, ◌++◌, ◌∙◌, ◌∷◌, ◌≡◌, ◌≤◌}
+use Rattle.proof_scanner.proofs.Sound.Steps.{exactly, held_exactly, Onward, adjacent_kept, by_sides, ArrivesBy, at_end_of, goes_inside, is_done, key_gone, line_rest_cut, line_rest_fills, line_rest_in_line, read_outside, Reads, rest_skipped, same_in_line, shorter, some_rest, three_past, tokens_before, unrolled_in_flow, with_entries, same_has_break, with_sides, ended_outside, all_ended}
 use Rattle.defs_token.specs.Account.{Account as PieceAccount}
 use Rattle.model_scanner.specs.Directive.{directive}
 use Rattle.proof_lexers.specs.DirectiveEnds.{ends_line, next_line}
@@ -63,14 +63,6 @@ pub line_begun : (s u : Held) → unroll_indent 0 s ≡ u → Holds (λ v. (v �
 unfolding begin_line remove_implicit_key
 line_begun s u e = rw e (grind (arith, refused, went))
 
--- all levels have ended
-abbrev pub all_ended : Held → Held
-all_ended s = record s { indent = 0; indents = []; tokens = s.tokens ++ ends_of (length (columns s.indent s.indents)) s.position }
-
-pub unrolled_outside : (s : Held) → in_flow s ≡ false → AreLevels s.indent s.indents → unroll_indent 0 s ≡ all_ended s
-unfolding unroll_indent
-unrolled_outside s e a = grind (arith, all_levels)
-
 -- ---- outside flow
 
 line_stands : (text : List ℕ) (t : ScannerState) (d : Read) (a : ArrivesBy text t [] (None ∷ []) []) → IsRead t d → t.held.flow ≡ [] → with_top None t.held.keys ≡ None ∷ [] → Onward text t.rest (line_past t (begun_from (all_ended t.held)) d)
@@ -102,12 +94,10 @@ pub line_keeps : (text : List ℕ) (t : ScannerState) (d : Read) → is_empty t.
     Onward text t.rest (line_past t (begun_from (unroll_indent 0 t.held)) d)
 line_keeps text t d some a =
     by_sides text t (λ v. IsRead v d → is_required (top_key (unroll_indent 0 v.held).keys) ≡ false → Onward text v.rest (line_past v (begun_from (unroll_indent 0 v.held)) d)) a
-    (λ k x n r. rw (unrolled_outside (with_sides t [] (k ∷ [])).held refl x.are_levels) (λ none. line_stands text _ d (key_gone text _ k x some (grind arith)) r refl refl))
+    (λ k x n r. rw (ended_outside (with_sides t [] (k ∷ [])).held refl x.are_levels) (λ none. line_stands text _ d (key_gone text _ k x some (grind arith)) r refl refl))
     (λ f fs k ks e es x r. rw (unrolled_in_flow 0 (with_sides t (f ∷ fs) (k ∷ ks)).held refl) (λ none. line_goes text _ d f fs k ks e es x r refl refl))
 
 -- ---- the functions of the model that read document markers and directives keep what holds where they begin
-
--- ---- `---`
 
 -- `---`
 pub document_start_keeps : (text more : List ℕ) (t : ScannerState) → Arrives text t → t.rest ≡ 45 ∷ 45 ∷ 45 ∷ more → is_at_gap more ≡ true → t.held.position.col ≡ 0 → Holds (Onward text t.rest) (fetch_document_marker Tok.document_start t)

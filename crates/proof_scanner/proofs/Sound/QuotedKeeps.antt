@@ -16,8 +16,6 @@ in_line single body = last (quote_of single) body
     last c [] = grind arith
     last c (d ∷ r) = last d r
 
--- ---- its token
-
 -- ---- the step
 
 module _ (text : List ℕ) (quotes : Quotes) (t : ScannerState) (a : Arrives text t) (deep : IsDeep t.held) (x : machine.Read (List ℕ)) (q : QuotedAs (are_single quotes) (context t.held) t.held.position t.rest x) where

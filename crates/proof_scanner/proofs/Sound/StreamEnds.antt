@@ -111,10 +111,13 @@ at_end text t a e required =
     let same : position_after a.base.site.position a.separation [] ≡ t.held.position = ap (λ x. position_after a.base.site.position a.separation x) (sym e) ∙ sym a.position_is in
     rw (sym same) (completed_at_end text a.separation a.base (λ ws z. a.tokens) (rw (sym e) a.is_filled) (rw (a.no_key, plain) refl) own)
 
--- what the scanner holds after the ends of all levels
-unrolled_outside : (s : Held) → in_flow s ≡ false → AreLevels s.indent s.indents → ((unroll_indent 0 s).tokens ≡ s.tokens ++ ends_of (length (columns s.indent s.indents)) s.position) × ((unroll_indent 0 s).position ≡ s.position)
+-- all levels have ended
+abbrev pub all_ended : Held → Held
+all_ended s = record s { indent = 0; indents = []; tokens = s.tokens ++ ends_of (length (columns s.indent s.indents)) s.position }
+
+pub ended_outside : (s : Held) → in_flow s ≡ false → AreLevels s.indent s.indents → unroll_indent 0 s ≡ all_ended s
 unfolding unroll_indent
-unrolled_outside s e a = rw e (ap (λ u. u.tokens) (all_levels s.position s.indent s.indents s.tokens a), refl)
+ended_outside s e a = grind (arith, all_levels)
 
 -- the scanner where its stream ends, before the last ends
 abbrev at_stream_end : Held → Held
@@ -125,7 +128,7 @@ same_flow allowed again a ks es b = grind arith
 
 last_tokens : (h : Held) (ts : List Token) (x : Site) (es : List Entry) → is_empty h.flow ≡ is_empty es → AreLevels h.indent h.indents → h.tokens ≡ ts ++ ends_here (not (is_empty h.flow)) h.position x.blocks →
     (site_here (not (is_empty h.flow)) h.position x).blocks ≡ columns h.indent h.indents → (ended_at (unroll_indent 0 (at_stream_end h))).tokens ≡ ts ++ tokens_at_end h.position x.blocks es
-last_tokens h ts x [] e levels tokens blocks = grind (arith, unrolled_outside, append_assoc, ends_by_levels, ends_here, columns)
+last_tokens h ts x [] e levels tokens blocks = grind (arith, ended_outside, append_assoc, ends_by_levels, ends_here, columns)
 last_tokens h ts x (y ∷ es) e levels tokens blocks = grind (arith, unrolled_in_flow, not-true, append-nil)
 
 -- At the text's end the stream ends, unless a key must still come to its colon, and the tokens are those of a row of the text.

@@ -3,7 +3,7 @@ use Rattle.proof_scanner.proofs.Common.{ValueNotAllowed, [], if◌then◌else◌
 use Rattle.model_scanner.specs.declared.level.FlowLevel.TheVariants.{Pair as InPair}
 use Rattle.model_scanner.specs.Block.{value_of}
 use Rattle.proof_scanner.proofs.Sound.Steps.{exactly, held_exactly, Onward, among, by_sides, with_sides, ArrivesBy, begun_after, ends_outside, first_not_right, goes_inside, goes_of, IsDeep, key_longer, keyless, keys_along, line_free, line_taken, low_enough, no_waiting, not_before_after, not_before_then, numbered_around, numbered_more, opens_none, Outer, outer_completes, outer_then, past_one, past_step, read_outside, Reads, reads_before_none, rolls_to, RollsTo, steps_in_flow, tokens_before, value_is, weaker, with_entries, with_start, line_rest_in_line, same_in_line, OpensLevel, opens_level}
-use Rattle.proof_scanner.proofs.Sound.ColonSpaces.{colon_gap, colon_spaced, gap_is, past_colon, past_gap}
+use Rattle.proof_scanner.proofs.Sound.ColonSpaces.{colon_gap, colon_spaced, gap_is, past_gap}
 use Rattle.proof_scanner.proofs.Sound.Questions.{pair_level}
 use Rattle.model_scanner.specs.State.{after}
 use Rattle.proof_scanner.proofs.Sound.Common.{keys_own}
@@ -99,9 +99,7 @@ keyless_inside text more t f fs ks e es a cut apart ind deep =
     ts : List Token
     ts = (if opens_pair (f ∷ fs) then t.held.tokens ++ token (pair_position (past t.held.position) more) Tok.flow_mapping_start ∷ [] else t.held.tokens)
 
--- ---- a colon that ends the key that is open: what holds where it begins holds between two fetches after it
-
--- ---- outside flow
+-- ---- a colon that ends the key that is open, outside flow: what holds where it begins holds between two fetches after it
 
 module _ (text more : List ℕ) (t : ScannerState) (k : Key) (a : ArrivesBy text t [] (Some k ∷ []) []) (e : t.rest ≡ 58 ∷ more) (apart : colon_may_precede more ≡ true) (ind : is_value_indicator false (is_adjacent (before_past (before_by a.site.before) a.separation)) more ≡ true) where
   abbrev x : Site
@@ -236,7 +234,7 @@ pub value_keeps : (text more : List ℕ) (t : ScannerState) → Arrives text t �
 unfolding fetch_value
 value_keeps text more t a e ind deep =
     subst (λ l. Holds (Onward text t.rest) (check_value_space (record { rest = after l; held = h }) >>= value_on)) (sym e)
-    (exactly _ (colon_spaced more h) by)
+    (exactly _ (colon_spaced more h) (λ apart. by_sides text t (λ v. is_value v ≡ true → Holds (Onward text t.rest) (value_by more v v.held.flow v.held.keys)) a (λ k x n. outer k x apart) (λ f fs k ks y es x. inner f fs k ks y es x apart) ind))
   where
     h : Held
     h = record t.held { flow = paired t.held.flow; position = past t.held.position; leading = false }
@@ -252,6 +250,3 @@ value_keeps text more t a e ind deep =
         is_value (with_sides t (f ∷ fs) (k ∷ ks)) ≡ true → Holds (Onward text t.rest) (value_by more (with_sides t (f ∷ fs) (k ∷ ks)) (f ∷ fs) (k ∷ ks))
     inner f fs None ks y es x apart ind = keyless_inside text more _ f fs ks y es x e apart (value_here text more _ (f ∷ fs) (None ∷ ks) (y ∷ es) x refl e ind) deep
     inner f fs (Some k) ks y es x apart ind = keyed_inside text more _ f fs k ks y es x e apart (value_here text more _ (f ∷ fs) (Some k ∷ ks) (y ∷ es) x refl e ind) deep (key_before text _ f fs k ks y es x (ap is_empty e))
-
-    by : colon_may_precede more ≡ true → Holds (Onward text t.rest) (value_on (past_colon more h))
-    by apart = by_sides text t (λ v. is_value v ≡ true → Holds (Onward text t.rest) (value_by more v v.held.flow v.held.keys)) a (λ k x n. outer k x apart) (λ f fs k ks y es x. inner f fs k ks y es x apart) ind

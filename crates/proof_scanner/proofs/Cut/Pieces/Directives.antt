@@ -1,5 +1,5 @@
 -- What the scan of a directive reads is its piece.
-use Rattle.proof_scanner.proofs.Common.{ap, Directive, DirectiveIsRead, directives_end, drop, false, first_break, has_no_break, is_before_line_feed, is_blank, is_break, is_directive_token, is_separation, IsDirective, IsDirectiveRead, IsPiece, List, Option, position_append, Read, read_as, ReadAs, subst, take, Tok, token_of, true, whole_directive, ℕ, ◌++◌, ◌∙◌, ◌∷◌, ◌≡◌, arith, nat_tests, eqb-true}
+use Rattle.proof_scanner.proofs.Common.{ap, Directive, DirectiveIsRead, directives_end, drop, false, first_break, has_no_break, is_before_line_feed, is_break, is_directive_token, is_separation, IsDirective, IsDirectiveRead, IsPiece, List, Option, position_append, Read, read_as, ReadAs, subst, take, Tok, token_of, true, whole_directive, ℕ, ◌++◌, ◌∙◌, ◌∷◌, ◌≡◌, arith, nat_tests, eqb-true}
 use Rattle.defs_token.specs.Account.{Account}
 use Rattle.proof_lexers.specs.DirectiveEnds.{ends_line, next_line}
 
