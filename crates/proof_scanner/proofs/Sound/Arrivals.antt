@@ -1,8 +1,7 @@
 -- Where a piece begins, and between two fetches: what holds with the flow levels, the open keys and the entries taken apart, outside flow and in flow.
-use Rattle.proof_scanner.proofs.Common.{[], Account, Act, act_of, After, ap, append-nil, AreAround, AreLevels, AreNumbered, arith, Arrives, ArrivesWith, awaits_in_block, awaits_in_flow, awaits_past, begins_free_line, begins_separation, begun_by, Bool, chosen, columns, Entry, false, FlowLevel, further_lines_stand, has_break, Held, in_flow, Indent, innermost, is_break, is_deep_enough, is_empty, is_in_column, is_waiting, IsLive, IsNotRight, IsOpenHere, IsOpenOutside, Key, KnowsKey, least_column, least_for, length, Line, line_by, line_past_separation, List, may_precede, MayChoose, must_be_key, nat_le, not, NotBefore, Option, or_true, outside_key, Position, position_after, Previous, previous_by, ScannerState, shown_position, Site, SoFar, Some, Stands, StandsWith, subst, suc, sym, taken, Tok, tokens_up_to, true, ℕ, ◌&&◌, ◌++◌, ◌+◌, ◌==◌, ◌∙◌, ◌∷◌, ◌≡◌, ◌≤◌}
+use Rattle.proof_scanner.proofs.Common.{[], Account, Act, act_of, After, ap, append-nil, AreAround, AreLevels, AreNumbered, arith, Arrives, ArrivesWith, awaits_in_block, awaits_in_flow, awaits_past, begins_free_line, begins_separation, begun_by, Bool, columns, Entry, false, FlowLevel, further_lines_stand, has_break, Held, in_flow, Indent, innermost, is_break, is_deep_enough, is_empty, is_in_column, is_waiting, IsLive, IsNotRight, IsOpenHere, IsOpenOutside, Key, KnowsKey, least_column, least_for, length, Line, line_by, line_past_separation, List, may_precede, MayChoose, must_be_key, nat_le, not, NotBefore, Option, or_true, outside_key, Position, position_after, Previous, previous_by, ScannerState, shown_position, Site, Some, Stands, StandsWith, subst, suc, sym, taken, Tok, true, ℕ, ◌&&◌, ◌++◌, ◌+◌, ◌==◌, ◌∙◌, ◌∷◌, ◌≡◌, ◌≤◌}
 use Rattle.proof_scanner.proofs.Cut.Positions.{no_break_on_line, not_before_after, not_before_then, weaker}
 use Rattle.proof_scanner.proofs.Cut.Stoods.{IsDeep}
-use Rattle.proof_scanner.proofs.Sound.OutOfFlow.{no_waiting}
 
 -- an account by its parts
 abbrev pub with_entries : Site → Line → List Entry → Account
@@ -86,6 +85,9 @@ not_free a f h = grind arith
 
 -- ---- lines
 
+pub no_waiting : (b w : Bool) → w ≡ false → (b && w) ≡ false
+no_waiting a w h = grind arith
+
 -- in flow a separation does not change what may begin outside
 pub line_kept : (broken : Bool) (l m : Line) → is_waiting l ≡ false → line_past_separation true broken l ≡ Some m → l ≡ m
 line_kept a l m h e = grind arith
@@ -110,14 +112,6 @@ numbered_more m n (k ∷ ks) h a = grind (arith, numbered_more m n ks)
 -- the keys around one are numbered too
 pub numbered_around : (m : ℕ) (k : Option Key) (ks : List (Option Key)) → AreNumbered m (k ∷ ks) → AreNumbered m ks
 numbered_around m b ks a = grind (arith, numbered_more)
-
--- ---- rows
-
--- the rows before a piece, with the text and the position there by other names
-pub completes_at : (text : List ℕ) (t : ScannerState) (fs : List FlowLevel) (ks : List (Option Key)) (es : List Entry) (a : ArrivesBy text t fs ks es) (r : List ℕ) (q : Position) → t.rest ≡ r → t.held.position ≡ q →
-    (strict c : Bool) (cs : List Bool) → MayChoose strict c (outside_key es ks) q r →
-    SoFar strict text (a.separation ++ r) (chosen c cs ks (with_entries a.site a.line es)) (tokens_up_to (chosen c cs ks (with_entries a.site a.line es)) ks a.tokens)
-completes_at text t fs ks es a r q e f strict c cs may = grind arith
 
 pub many_around : (fs : List FlowLevel) (ks : List (Option Key)) (es : List Entry) → AreAround fs ks es → length fs ≡ length es
 many_around (f ∷ fs) (k ∷ ks) (e ∷ es) h = ap suc (many_around fs ks es h.2)

@@ -1,9 +1,9 @@
 -- Block scalars: what holds where one begins holds between two fetches after it. No key waits over it, and after it a key may begin.
-use Rattle.proof_scanner.proofs.Common.{Act, Arrives, Block, BlockStyle, Bool, Holds, IsLive, IsPiece, IsReadOn, IsTakenBy, Key, KnowsKey, Levels, Line, List, MayChoose, None, NotBefore, Ok, Option, Outside, Position, Previous, Read, ScannerState, Site, SoFar, Some, Tok, Token, [], act_of, allow_key, ap, append-nil, append_assoc, arith, awaits_past, before_by, begun_by, block, block_may_end, block_position, block_read, block_scalar, block_style, chosen, collection_of, content_position, false, fetch_block_scalar, folded, free, further_lines_stand, further_position, gives_block_scalar, has_break, has_no_nul, if◌then◌else◌, innermost, is_break, is_empty, is_in_column, is_literal, is_one_of, is_separation, least_for, line_past, literal, may_precede, may_stand, nat_tests, no_nul_after, position_after, previous_by, read, refl, seen, shown_position, site_at, site_here, site_in, site_past, subst, suc, sym, take, taken, token, tokens_up_to, true, unroll_non_block_indents, went, without_open, without_spaces, ℕ, ◌&&◌, ◌++◌, ◌∙◌, ◌∷◌, ◌≡◌, ◌⊎◌, eqb-true, go_on, push, with_levels, on_held, on_held}
+use Rattle.proof_scanner.proofs.Common.{Act, Arrives, Block, BlockStyle, Bool, Holds, IsLive, IsPiece, IsReadOn, IsTakenBy, Key, KnowsKey, Levels, Line, List, MayChoose, None, NotBefore, Ok, Option, Outside, Position, Previous, Read, ScannerState, Site, SoFar, Some, Tok, Token, [], act_of, allow_key, ap, append-nil, append_assoc, arith, awaits_past, before_by, begun_by, block, block_may_end, block_position, block_read, block_scalar, block_style, chosen, collection_of, content_position, false, fetch_block_scalar, folded, free, further_lines_stand, further_position, gives_block_scalar, has_break, has_no_nul, if◌then◌else◌, innermost, is_break, is_empty, is_in_column, is_literal, is_one_of, least_for, line_past, literal, may_precede, may_stand, nat_tests, no_nul_after, position_after, previous_by, read, refl, seen, shown_position, site_here, site_in, site_past, subst, suc, sym, take, taken, token, tokens_up_to, true, unroll_non_block_indents, went, without_open, without_spaces, ℕ, ◌&&◌, ◌++◌, ◌∙◌, ◌∷◌, ◌≡◌, ◌⊎◌, eqb-true, go_on, push, with_levels, on_held, on_held}
 use Rattle.model_scanner.specs.declared.kind.BlockStyle as kind
 use Rattle.model_scanner.specs.declared.kind.BlockStyle.TheVariants.{Literal, Folded}
 use Rattle.defs_token.specs.Account as pieces
-use Rattle.proof_scanner.proofs.Sound.Steps.{AreClosed, ArrivesBy, IsDeep, Onward, Reads, adjacent_kept, after_piece, by_sides, is_of_node, knows_saved, last_whole, no_waiting, none_completes, not_before_after, not_before_same, not_before_then, outer_completes, outer_then, outer_tokens, saved, saved_is, saved_keys, some_rest, stands_so, tokens_then, weaker, with_entries, without_is, is_written}
+use Rattle.proof_scanner.proofs.Sound.Steps.{AreClosed, ArrivesBy, IsDeep, Onward, Reads, adjacent_kept, after_piece, by_sides, is_of_node, knows_saved, last_whole, no_waiting, not_before_after, not_before_same, not_before_then, outer_then, saved, saved_is, saved_keys, some_rest, stands_so, tokens_then, weaker, with_entries, without_is, is_written, keyless_completes}
 use Rattle.proof_scanner.proofs.Cut.Pieces.Blocks.{spaces_of, spaces_cut, spaces_fill, spaces_position, some_piece, token_of, IsBelow, below}
 use Rattle.proof_scanner.proofs.Sound.BlockEnds.{IsLeast, BlockAs, block_as, ends_at_margin}
 use Rattle.proof_scanner.proofs.Sound.Outsides.{must_be_here, numbered_past, open_node, new_key, keys_saved}
@@ -114,8 +114,8 @@ module _ (text : List ℕ) (t : ScannerState) (k : Option Key) (a : ArrivesBy te
 
   -- ---- rows
 
-  same_site : site_at false a.site a.separation r.piece tok r.next ≡ here
-  same_site = ap (λ q. site_in false (act_of tok) q a.site) (sym (a.position_is ∙ ap (λ l. position_after a.site.position a.separation l) r.is_text)) ∙ ap (λ b. site_in false b p a.site) n.act
+  same : site_in false (act_of tok) p a.site ≡ here
+  same = ap (λ b. site_in false b p a.site) n.act
 
   abbrev site_then : Site
   site_then = site_past false here r.piece tok r.next here.blocks
@@ -126,10 +126,9 @@ module _ (text : List ℕ) (t : ScannerState) (k : Option Key) (a : ArrivesBy te
       let here_is : (((a.line_here ≡ free) × ((strict && is_in_column p.col here.blocks) ≡ false)) ⊎ (a.line_here ≡ taken)) × MayChoose strict false k t.held.position t.rest =
       grind (arith, must_be_here text t k a within deep, some) in
       let after : Outside = record { line = free; blocks = here.blocks } in
-      let all : SoFar strict text r.next (outer_then text a.site a.separation r.piece r.next tok here same_site after) (λ ws last. a.tokens ++ tokens_then a.site here r.piece tok r.next a.line_here) =
-      outer_completes text a.site a.separation r.piece r.next tok here same_site strict false a.line a.line_here after (λ ws last. a.tokens) (λ ws last. a.tokens ++ tokens_then a.site here r.piece tok r.next a.line_here)
-      (assumption ((subst (λ l. is_separation false a.separation l ≡ true) r.is_text a.is_filled), is_solid, is_piece, stands, a.is_line, after_by (strict && is_in_column p.col here.blocks) p here.blocks (act_of tok) a.line_here n.act here_is.0, no_waiting (has_break r.piece) false refl))
-      (λ ws last h. outer_tokens text a.site a.separation r.piece r.next tok here same_site a.line a.line_here a.is_line a.tokens ws last h) (subst (λ l. SoFar strict text (a.separation ++ l) (with_entries a.site a.line []) (λ ws last. a.tokens)) r.is_text (none_completes strict text (a.separation ++ t.rest) (with_entries a.site a.line []) (k ∷ []) a.tokens a.no_key refl (a.completes strict false [] here_is.1))) in
+      let all : SoFar strict text r.next (outer_then text t k a r.piece r.next tok here r.is_text same after) (λ ws last. a.tokens ++ tokens_then a.site here r.piece tok r.next a.line_here) =
+      keyless_completes text t k a r.piece r.next tok here r.is_text same strict after
+      (assumption (is_solid, is_piece, stands, a.is_line, after_by (strict && is_in_column p.col here.blocks) p here.blocks (act_of tok) a.line_here n.act here_is.0, no_waiting (has_break r.piece) false refl)) here_is.1 in
       subst (λ l. SoFar strict text l (with_entries site_then free []) (λ ws last. t.held.tokens ++ own ∷ [])) (spaces_cut r.next)
       (subst (λ es. SoFar strict text r.next (with_entries site_then free es) (λ ws last. t.held.tokens ++ own ∷ [])) n.begun
       (subst (λ ts. SoFar strict text r.next (with_entries site_then free (begun_by tok)) (λ ws last. ts)) (grind (arith, append-nil, (n.shown here r.piece r.next ∙ ap (λ o. content_position o p r.piece r.next) (ap (λ c. block_read c r.piece r.next) (sym least.0) ∙ r.is_read)), append_assoc)) all))
@@ -158,7 +157,7 @@ module _ (text : List ℕ) (t : ScannerState) (k : Option Key) (a : ArrivesBy te
     is_open = open_node text t k a within deep some end rest (grind (arith, place, not_before_then, not_before_after)) (position_after p r.piece r.next) (after_piece p r.piece r.next is_solid);
     carries = λ cs x key m inside some. absurd (cc inside);
     knows = knows_saved text t r.piece r.next tok r.is_text end gap rest place (spaces_cut r.next) k a
-        (is_written text a.site a.separation r.piece r.next tok here same_site false a.line (rw (sym r.is_text) a.is_filled) is_solid is_piece) within deep (ap is_of_node n.act) known;
+        (is_written text t k a r.piece r.next tok here r.is_text same false a.line is_solid is_piece) within deep (ap is_of_node n.act) known;
     completes = λ strict c cs may. then_rows strict c cs key_now refl may;
   })))
 

@@ -1,6 +1,6 @@
 -- A piece in flow was read: if the definition and the scanner agree on its entries and tokens, what holds where it begins holds between two fetches after it.
 use Rattle.proof_scanner.proofs.Common.{[], Account, account_past, act_of, ap, AreNumbered, arith, begins_free_line, begun_by, begun_inside, Bool, chosen, colon_of, columns, entries_by, entries_past, Entry, entry_by, false, FlowLevel, has_break, HasHadHere, is_empty, is_renewed, is_waiting, IsEntryOf, IsPiece, Key, least_column, length, length-append, Line, line_by, line_past_separation, List, may_stand, MayChoose, nat_le, None, not, NotBefore, Option, outside_key, pair_position, pop, Position, position_after, previous_by, put, refl, ScannerState, seen, shown_position, Site, site_here, site_past, Some, spelled, Step, suc, sym, takes_pair, Tok, Token, tokens_at, tokens_up_to, true, with_keys, ℕ, ◌&&◌, ◌++◌, ◌∙◌, ◌∷◌, ◌≡◌, ◌≤◌, subst}
-use Rattle.proof_scanner.proofs.Sound.Common.{among, ArrivesBy, but_for_key_past, completes_at, goes_past, had_as_it_was, IsDeep, keys_along, line_taken, may_around, not_before_after, not_before_then, numbered_around, numbered_more, one_around, open_around, past_step, same_levels, some_rest, unbroken, unbroken_around, with_entries, keys_own}
+use Rattle.proof_scanner.proofs.Sound.Common.{among, ArrivesBy, but_for_key_past, goes_past, had_as_it_was, IsDeep, keys_along, line_taken, may_around, not_before_after, not_before_then, numbered_around, numbered_more, one_around, open_around, past_step, same_levels, some_rest, unbroken, unbroken_around, with_entries, keys_own}
 use Rattle.proof_scanner.proofs.Known.Steps.{keyless, knows_inside}
 use Rattle.proof_scanner.proofs.Sound.Reads.{Onward, Reads, stands_so, IsHeld}
 
@@ -51,19 +51,18 @@ module _ (text : List ℕ) (t u : ScannerState) (f : FlowLevel) (fs : List FlowL
           (open_around text t f fs k ks e es a some u.held.position u.rest later (flow_past t.held.position).position (not_before_after t.held.position piece next));
       carries = λ cs key own must inside more. rw (sym r.is_rest)
           (rw place
-          (but_for_key_past text (a.separation ++ (piece ++ next)) key.position (before false cs) (chosen false cs ls (account_then piece_here)) (flow_step (bit cs)) next refl (grind (arith, same_levels))
+          (but_for_key_past text (a.separation ++ t.rest) key.position (before false cs) (chosen false cs ls (account_then piece_here)) (flow_step (bit cs)) next (ap (λ r. a.separation ++ r) r.cut) (grind (arith, same_levels))
           (account false cs (grind arith) (grind arith))
-          (rw (sym r.cut) (a.carries (choice cs ∷ outer cs) key (sym g.same_key ∙ own) must refl some))));
+          (a.carries (choice cs ∷ outer cs) key (sym g.same_key ∙ own) must refl some)));
       knows = rw g.same_key (knows_inside text t piece next tok r.cut u.held.position gap u.rest r.position_is r.is_rest f fs k ks e es a ((rw (sym r.cut) a.is_filled), (ap not r.is_solid, n.is_piece)));
       completes = λ strict c cs may.
           let was : MayChoose strict c (outside_key es ks) u.held.position u.rest = rw (sym g.same_key) may in
           rw (sym r.is_rest) (rw place
-          (goes_past strict text (a.separation ++ (piece ++ next)) (before c cs) (chosen c cs ls (account_then piece_here)) (tokens_up_to (before c cs) (k ∷ ks) a.tokens) (tokens_up_to (chosen c cs ls (account_then piece_here)) ls u.held.tokens)
-          (flow_step (bit cs)) next refl (grind (arith, same_levels))
+          (goes_past strict text (a.separation ++ t.rest) (before c cs) (chosen c cs ls (account_then piece_here)) (tokens_up_to (before c cs) (k ∷ ks) a.tokens) (tokens_up_to (chosen c cs ls (account_then piece_here)) ls u.held.tokens)
+          (flow_step (bit cs)) next (ap (λ r. a.separation ++ r) r.cut) (grind (arith, same_levels))
           (account c cs (unbroken_around text t f fs k ks e es a some u.held.position u.rest later strict c was) (one_around text t f fs k ks e es a some u.held.position u.rest later piece g.in_line strict c was))
           (λ _ i. ap (λ y. is_waiting (line_by c y a.line)) g.same_key ∙ i) (grind (arith, tokens))
-          (completes_at text t (f ∷ fs) (k ∷ ks) (e ∷ es) a (piece ++ next) piece_here r.cut place strict c (choice cs ∷ outer cs)
-          (rw (sym place) (rw (sym r.cut) (may_around text t f fs k ks e es a some u.held.position u.rest later strict c was))))));
+          (a.completes strict c (choice cs ∷ outer cs) (may_around text t f fs k ks e es a some u.held.position u.rest later strict c was))));
     })
       where
         some : is_empty t.rest ≡ false

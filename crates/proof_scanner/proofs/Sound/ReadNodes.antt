@@ -1,6 +1,6 @@
 -- A part of a node was read where a piece begins, be it an opening bracket or no collection: what holds between two fetches holds after it.
-use Rattle.proof_scanner.proofs.Common.{[], Account, AreEntries, Arrives, Bool, Entry, FlowLevel, IsCarriedOn, IsOpenOutside, IsPairOf, IsPiece, Key, KnowsKey, Line, List, MayChoose, None, NotBefore, Option, Outside, Previous, ScannerState, Site, SoFar, Some, Tok, Token, act_of, ap, arith, begins_free_line, begun_by, chosen, entries_by, false, first_choice, further_lines_stand, gives_node, has_break, inl, is_deep_enough, is_empty, is_in_column, is_renewed, least_for, length, line_by, may_precede, may_stand, no_pair, not, outside_key, pop, position_after, previous_by, put, refl, seen, shown_position, site_at, site_here, site_in, site_past, subst, sym, taken, tokens_up_to, true, with_keys, ℕ, ◌++◌, ◌∙◌, ◌∷◌, ◌≡◌, ◌≤◌, must_be_key, IsLive}
-use Rattle.proof_scanner.proofs.Sound.Common.{after_piece, among, by_sides, ArrivesBy, begun_numbered, bit_of, choice_before, choices_around, completes_at, entry_past_node, Goes, IsDeep, levels_by, line_after_node, line_taken, node_in_entry, node_outer_tokens, node_tokens, not_before_after, not_before_then, Outer, outer_completes, past_step, saved, saved_keys, some_rest, tokens_before, with_begun, with_entries, with_no_key, is_written}
+use Rattle.proof_scanner.proofs.Common.{[], Account, AreEntries, Arrives, Bool, Entry, FlowLevel, IsCarriedOn, IsOpenOutside, IsPairOf, IsPiece, Key, KnowsKey, Line, List, MayChoose, None, NotBefore, Option, Outside, Previous, ScannerState, Site, SoFar, Some, Tok, Token, act_of, ap, arith, begins_free_line, begun_by, chosen, entries_by, false, first_choice, further_lines_stand, gives_node, has_break, inl, is_deep_enough, is_empty, is_in_column, is_renewed, least_for, length, line_by, may_precede, may_stand, no_pair, not, outside_key, pop, position_after, previous_by, put, refl, seen, shown_position, site_here, site_in, site_past, subst, sym, taken, tokens_up_to, true, with_keys, ℕ, ◌++◌, ◌∙◌, ◌∷◌, ◌≡◌, ◌≤◌, must_be_key, IsLive}
+use Rattle.proof_scanner.proofs.Sound.Common.{after_piece, among, by_sides, ArrivesBy, begun_numbered, bit_of, choice_before, choices_around, entry_past_node, Goes, IsDeep, levels_by, line_after_node, line_taken, node_in_entry, node_outer_tokens, node_tokens, not_before_after, not_before_then, Outer, outer_completes, past_step, saved, saved_keys, some_rest, tokens_before, with_begun, with_entries, with_no_key, is_written}
 use Rattle.proof_scanner.proofs.Known.Steps.{knows_saved, is_of_node}
 use Rattle.proof_scanner.proofs.Sound.Outsides.{new_key, keys_saved, numbered_inside, must_be_here, numbered_past, one_node, taken_node, line_node, same_node, open_node}
 use Rattle.proof_scanner.proofs.Sound.InFlow.{steps_in_flow}
@@ -81,8 +81,8 @@ module _ (text : List ℕ) (t u : ScannerState) (level : Option FlowLevel) (k : 
   abbrev x : Site
   x = site_of t [] a.site
 
-  same_site : site_at false a.site a.separation piece tok (gap ++ u.rest) ≡ x
-  same_site = ap (λ y. site_in false y (position_after a.site.position a.separation (piece ++ (gap ++ u.rest))) a.site) r.act ∙ ap (λ p. site_here false p a.site) (sym place)
+  at_site : site_in false (act_of tok) t.held.position a.site ≡ x
+  at_site = ap (λ y. site_in false y t.held.position a.site) r.act
 
   -- what may begin at it and after it, by a choice after it
   abbrev line_of : Bool → Line → Line
@@ -91,7 +91,7 @@ module _ (text : List ℕ) (t u : ScannerState) (level : Option FlowLevel) (k : 
   abbrev after_by : Bool → Outside
   after_by c = record { line = line_by c key_then taken; blocks = x.blocks }
 
-  goes : (strict c : Bool) → MayChoose strict c key_then u.held.position u.rest → Goes text a.site a.separation piece (gap ++ u.rest) tok x same_site strict (bit_of t.held.key_allowed c) (line_of c a.line) (line_of c a.line_here) (after_by c)
+  goes : (strict c : Bool) → MayChoose strict c key_then u.held.position u.rest → Goes text t k a piece (gap ++ u.rest) tok x r.reads.cut at_site strict (bit_of t.held.key_allowed c) (line_of c a.line) (line_of c a.line_here) (after_by c)
   goes strict c may =
       let after = line_after_node strict (is_in_column x.position.col x.blocks) t.held.key_allowed c k (new_key t) a.line_here t.held.position u.held.position x.blocks u.rest (line_node text t k a within deep some u.held.position u.rest later) refl (must_be_here text t k a within deep) may in
       let one = one_node text t k a within deep some u.held.position u.rest later piece (λ x y. (r.one_line x y).0) strict c may in
@@ -102,13 +102,12 @@ module _ (text : List ℕ) (t u : ScannerState) (level : Option FlowLevel) (k : 
       subst (λ b. SoFar strict text (gap ++ u.rest) b (tokens_up_to b keys_then u.held.tokens))
       (ap (λ es. record { site = site_then t [] a.site piece tok (gap ++ u.rest); line = line_by c key_then taken; entries = es }) (r.begun ∙ (grind arith)) ∙
       ap (λ y. record { site = site_then t [] a.site piece tok (gap ++ u.rest); line = line_by c y taken; entries = entries_by cs keys_then (with_begun level []) }) (sym (grind arith)))
-      (outer_completes text a.site a.separation piece (gap ++ u.rest) tok x same_site strict (bit_of t.held.key_allowed c) (line_of c a.line) (line_of c a.line_here) (after_by c) (tokens_up_to (Outer a.site (line_of c a.line)) (k ∷ []) a.tokens)
+      (outer_completes text t k a piece (gap ++ u.rest) tok x r.reads.cut at_site strict (bit_of t.held.key_allowed c) (line_of c a.line) (line_of c a.line_here) (after_by c) (tokens_up_to (Outer a.site (line_of c a.line)) (k ∷ []) a.tokens)
       (λ ws last. with_keys 0 (site_then t [] a.site piece tok (gap ++ u.rest)).position ws last x.blocks (line_by c key_then taken) (begun_by tok) keys_then u.held.tokens) (goes strict c may)
       (λ ws last h. rw r.tokens_are (node_outer_tokens level a.site a.separation piece (gap ++ u.rest) tok strict t.held.key_allowed c k (new_key t) a.line a.line_here t.held.position u.held.position u.rest
       a.tokens t.held.tokens ws last r.act r.begun (line_node text t k a within deep some u.held.position u.rest later) may a.no_key (among (length a.tokens) (k ∷ []) a.are_numbered) h place
       a.tokens_are (r.shown x) refl refl (same_node text t k a within deep some u.held.position u.rest later)))
-      (completes_at text t [] (k ∷ []) [] a (piece ++ (gap ++ u.rest)) (position_after a.site.position a.separation (piece ++ (gap ++ u.rest))) r.reads.cut place strict (choice_before t.held.key_allowed c) []
-      (rw (sym place) (rw (sym r.reads.cut) (grind arith)))))
+      (a.completes strict (choice_before t.held.key_allowed c) [] (grind arith)))
 
   -- where a flow level begins, a key that must be one is on this line
   carried : IsCarriedOn text (gap ++ u.rest) u.rest keys_then base_then
@@ -136,7 +135,7 @@ module _ (text : List ℕ) (t u : ScannerState) (level : Option FlowLevel) (k : 
         carries = carried;
         knows = subst (λ y. KnowsKey text (gap ++ u.rest) u.held.position y) (sym same)
             (knows_saved text t piece (gap ++ u.rest) tok r.reads.cut u.held.position gap u.rest r.reads.position_is refl k a
-            (is_written text a.site a.separation piece (gap ++ u.rest) tok x same_site false a.line (rw (sym r.reads.cut) a.is_filled) r.reads.is_solid (rw (r.shown x) r.is_piece)) within deep (ap is_of_node r.act) known);
+            (is_written text t k a piece (gap ++ u.rest) tok x r.reads.cut at_site false a.line r.reads.is_solid (rw (r.shown x) r.is_piece)) within deep (ap is_of_node r.act) known);
         completes = λ strict c cs may. rows strict c cs (rw (sym same) may);
       })
 

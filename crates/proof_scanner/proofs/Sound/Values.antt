@@ -1,5 +1,5 @@
 -- A colon that ends no key: what holds where it begins holds between two fetches after it.
-use Rattle.proof_scanner.proofs.Common.{ValueNotAllowed, [], if◌then◌else◌, Account, allow_key, another, ap, append-nil, append_assoc, AreLevels, arith, Arrives, At, before_by, before_past, begin_keyless_mapping, begin_keyless_value, begin_pair, begins_free_line, Bool, chained, check_value_space, checked, chosen, colon_may_precede, columns, ends_at, entries_by, Entry, entry_by, false, Fault, fetch_value, first_account, FlowLevel, gives_colon, has_open_level, Held, Holds, in_flow, Indent, innermost, insert, insert_key, is_adjacent, is_break, is_deeper, is_empty, is_near, is_value, is_value_indicator, IsEntryOf, IsLive, IsNotRight, Key, length, length-append, Line, List, None, not, not-false, not_ended, Ok, on_held, opened, opens_pair, Option, Outside, outside_key, pair_past, pair_position, paired, past, placed, pop, Position, position_after, push, put, put_key, refl, Result, roll_indent, roll_one_col_indent, ScannerState, settled, Site, site_at, site_here, Some, spelled, Step, subst, suc, sym, taken, takes_pair, Tok, Token, token, tokens_at, tokens_of_step, tokens_up_to, top_key, tried, true, try_held, waits, went, with_held, with_keys, ℕ, ◌++◌, ◌==◌, ◌>>=◌, ◌||◌, ◌∙◌, ◌∷◌, ◌≡◌, ◌≤◌, KeysBefore, keys_before, line_grows, free, AreNumbered, is_required}
+use Rattle.proof_scanner.proofs.Common.{ValueNotAllowed, [], if◌then◌else◌, Account, allow_key, another, ap, append-nil, append_assoc, AreLevels, arith, Arrives, At, before_by, before_past, begin_keyless_mapping, begin_keyless_value, begin_pair, begins_free_line, Bool, chained, check_value_space, checked, chosen, colon_may_precede, columns, ends_at, entries_by, Entry, entry_by, false, Fault, fetch_value, first_account, FlowLevel, gives_colon, has_open_level, Held, Holds, in_flow, Indent, innermost, insert, insert_key, is_adjacent, is_break, is_deeper, is_empty, is_near, is_value, is_value_indicator, IsEntryOf, IsLive, IsNotRight, Key, length, length-append, Line, List, None, not, not-false, not_ended, Ok, on_held, opened, opens_pair, Option, Outside, outside_key, pair_past, pair_position, paired, past, placed, pop, Position, position_after, push, put, put_key, refl, Result, roll_indent, roll_one_col_indent, ScannerState, settled, Site, site_here, Some, spelled, Step, subst, suc, sym, taken, takes_pair, Tok, Token, token, tokens_at, tokens_of_step, tokens_up_to, top_key, tried, true, try_held, waits, went, with_held, with_keys, ℕ, ◌++◌, ◌==◌, ◌>>=◌, ◌||◌, ◌∙◌, ◌∷◌, ◌≡◌, ◌≤◌, KeysBefore, keys_before, line_grows, free, AreNumbered, is_required}
 use Rattle.model_scanner.specs.declared.level.FlowLevel.TheVariants.{Pair as InPair}
 use Rattle.model_scanner.specs.Block.{value_of}
 use Rattle.proof_scanner.proofs.Sound.Steps.{exactly, held_exactly, Onward, among, by_sides, with_sides, ArrivesBy, begun_after, ends_outside, first_not_right, goes_inside, goes_of, IsDeep, key_longer, keyless, keys_along, line_free, line_taken, low_enough, no_waiting, not_before_after, not_before_then, numbered_around, numbered_more, opens_none, Outer, outer_completes, outer_then, past_one, past_step, read_outside, Reads, reads_before_none, rolls_to, RollsTo, steps_in_flow, tokens_before, value_is, weaker, with_entries, with_start, line_rest_in_line, same_in_line, OpensLevel, opens_level}
@@ -105,9 +105,6 @@ module _ (text more : List ℕ) (t : ScannerState) (k : Key) (a : ArrivesBy text
   abbrev x : Site
   x = site_here false t.held.position a.site
 
-  same_site : site_at false a.site a.separation (58 ∷ []) Tok.value more ≡ x
-  same_site = grind (arith, a.position_is, e)
-
   live : IsLive k t.held.position t.rest
   live = ((a.is_near refl).0, (ap is_empty e))
 
@@ -153,13 +150,13 @@ module _ (text more : List ℕ) (t : ScannerState) (k : Key) (a : ArrivesBy text
   unfolding insert_key begin_pair
   keyed_outside =
       subst (λ r. Holds (Onward text t.rest) r) (sym (grind arith)) (went {x = keyed_end}
-      (ends_outside text t keyed_end (Some k) a (58 ∷ []) more (colon_gap more) Tok.value outside_after x refl same_site
+      (ends_outside text t keyed_end (Some k) a (58 ∷ []) more (colon_gap more) Tok.value outside_after x refl
       (colon_reads t more awaiting.indents awaiting.indent now false [] (None ∷ []) _ e refl refl (ap (opened k.position.col) a.blocks_are ∙ sym (awaiting.columns_are ∙ rolled.columns_are)) (sym (awaiting.awaits ∙ ap (λ bs. not (is_empty bs)) rolled.columns_are ∙ (grind arith))) awaiting.are_levels a.was_adjacent)
       (let line = ap not (gap_is more).2 in grind (arith, line))
       (grind arith) refl
-      (λ strict. goes_of strict text more (outer_then text a.site a.separation (58 ∷ []) more Tok.value x same_site outside_after) keyed_end.held.tokens refl refl
-      (outer_completes text a.site a.separation (58 ∷ []) more Tok.value x same_site true false (waits k.position) (waits k.position) outside_after (tokens_up_to (Outer a.site (waits k.position)) (Some k ∷ []) a.tokens) (λ ws last. keyed_end.held.tokens) (grind (arith, (ap is_empty e), quiet, no_waiting)) keyed_tokens
-      (rw (sym e) (a.completes true true [] live))))))
+      (λ strict. goes_of strict text more (outer_then text t (Some k) a (58 ∷ []) more Tok.value x e refl outside_after) keyed_end.held.tokens refl refl
+      (outer_completes text t (Some k) a (58 ∷ []) more Tok.value x e refl true false (waits k.position) (waits k.position) outside_after (tokens_up_to (Outer a.site (waits k.position)) (Some k ∷ []) a.tokens) (λ ws last. keyed_end.held.tokens) (grind (arith, (ap is_empty e), quiet, no_waiting)) keyed_tokens
+      (a.completes true true [] live)))))
 
 -- ---- in flow
 
