@@ -18,12 +18,8 @@ unfolding is_blank is_break
 no_break_in_blanks [] = refl
 no_break_in_blanks (c ∷ a) = grind (arith, no_break_in_blanks a)
 
--- what was found before, and among these blanks
-abbrev with_blanks : Whitespace → List ℕ → Whitespace
-with_blanks w l = record { found_tabs = w.found_tabs || is_one_of l 9; has_valid_yaml_ws = w.has_valid_yaml_ws || is_one_of l 32 }
-
 blanks_walked : (a : List ℕ) (p : Position) (w : Whitespace) →
-    walk (space_step Yes) a (record { position = p; found = w }) ≡ record { rest = after is_blank a; state = record { position = position_after p (leading is_blank a) []; found = with_blanks w (leading is_blank a) } }
+    walk (space_step Yes) a (record { position = p; found = w }) ≡ record { rest = after is_blank a; state = record { position = position_after p (leading is_blank a) []; found = record { found_tabs = w.found_tabs || is_one_of (leading is_blank a) 9; has_valid_yaml_ws = w.has_valid_yaml_ws || is_one_of (leading is_blank a) 32 } } }
 unfolding is_blank is_break
 blanks_walked [] p w = grind (arith, or_false)
 blanks_walked (c ∷ a) p w = grind (arith, blanks_walked a)

@@ -95,10 +95,6 @@ module _ (text : List ℕ) (t : ScannerState) (k : Option Key) (a : ArrivesBy te
   stands : may_stand false a.site here a.separation r.piece tok r.next ≡ true
   stands = rw (a.is_indented some, n.lines (least_for tok here) r.piece, n.precedes here.blocks r.piece r.next, r.may_end here.blocks least) refl
 
-  -- no key waits over it
-  is_below : IsBelow p end rest
-  is_below = below seen_here w.indent refl (same_innermost here.blocks ∙ sym least.0) r.piece r.next r.scalar clean r.is_read
-
   abbrev key_now : Option Key
   key_now = saved t.held.key_allowed (new_key t) k
 
@@ -106,8 +102,11 @@ module _ (text : List ℕ) (t : ScannerState) (k : Option Key) (a : ArrivesBy te
   before_it : (y : Key) → key_now ≡ Some y → NotBefore y.position p
   before_it y e = grind (arith, not_before_same, not_before_then, weaker, not_before_after)
 
+  -- no key waits over it
   dead : (y : Key) → key_now ≡ Some y → IsLive y end rest → ⊥
-  dead y e l = let early = before_it y e in grind (arith, nat_tests, eqb-true, is_below, early)
+  dead y e l =
+      let early = before_it y e in
+      let low : IsBelow p end rest = below seen_here w.indent refl (same_innermost here.blocks ∙ sym least.0) r.piece r.next r.scalar clean r.is_read in grind (arith, nat_tests, eqb-true, low, early)
 
   place : end ≡ position_after (position_after p r.piece r.next) gap rest
   place = spaces_position (position_after p r.piece r.next) r.next

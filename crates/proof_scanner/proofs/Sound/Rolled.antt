@@ -39,15 +39,13 @@ all_close i ds a = grind arith
 pub rolls_to : (col : ℕ) (number : Option ℕ) (tok : Tok) (p : Position) (s : Held) → in_flow s ≡ false → AreLevels s.indent s.indents → IsNotRight (innermost (columns s.indent s.indents)) col →
     RollsTo col number (token p tok) s (roll_indent col number tok p s)
 unfolding roll_indent drop_open_level deepen
-rolls_to col number tok p s out levels right = rw out (all _ (by s.indents refl levels right))
+rolls_to col number tok p s out levels right =
+    let f = by s.indents refl levels right in rw out (record { indents = _; indent = _; is_held = f.0; columns_are = f.1; are_levels = f.2; is_top = f.3 })
   where
     Facts : Held → Type 0
     Facts u =
         (u ≡ record s { indents = u.indents; indent = u.indent; tokens = (if is_deeper col (columns s.indent s.indents) then placed number (token p tok) s.tokens else s.tokens) }) ×
         (columns u.indent u.indents ≡ opened col (columns s.indent s.indents)) × AreLevels u.indent u.indents × (s.indent ≤ col + 1 → top_needs_block_end u.indents ≡ true)
-
-    all : (u : Held) → Facts u → RollsTo col number (token p tok) s u
-    all u f = record { indents = u.indents; indent = u.indent; is_held = f.0; columns_are = f.1; are_levels = f.2; is_top = f.3 }
 
     by : (ds : List Indent) → s.indents ≡ ds → AreLevels s.indent ds → IsNotRight (innermost (columns s.indent ds)) col → Facts (deepen col number (token p tok) (if nat_le s.indent (col + 1) then drop_open s ds else s))
     by [] e l r = grind (arith, nat_tests, eqb-true)

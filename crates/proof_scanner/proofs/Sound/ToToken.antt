@@ -24,9 +24,6 @@ no_plain : (b : Previous) (q : Position) (f g rest rest2 : List ℕ) → rest �
 no_plain plain_scalar q f (c ∷ p) rest rest2 cut r begins solid fills = grind (arith, among)
 no_plain b q f g rest rest2 cut r begins solid fills = grind arith
 
-indented_after : (b : Previous) (bs : List ℕ) (aw : Bool) (g : List ℕ) → follows_plain b g ≡ false → Spaced b (least_column bs aw) g → is_indented_by_spaces b bs aw g ≡ true
-indented_after b bs aw g f h = grind arith
-
 -- what may begin outside flow
 line_after : (fl allowed broken breaks : Bool) (k : Option Key) (p p2 : Position) (rest rest2 : List ℕ) (l : Line) → ((x : Key) → IsLive x p2 rest2 → IsLive x p rest) → ((x : Key) → k ≡ Some x → IsLive x p2 rest2 → breaks ≡ false) →
     IsLine fl allowed broken p rest k l → IsLine fl ((not fl && breaks) || allowed) (broken || breaks) p2 rest2 k l
@@ -49,7 +46,7 @@ module _ (text : List ℕ) (t u : ScannerState) (s : Stands text t) (begins : be
   Now = after_separation t.held e.is_leading e.separation u.rest
 
   tabs : HasNoTabs s.base.site (s.separation ++ e.separation) u.rest
-  tabs = grind (arith, indented_after s.base.site.before s.base.site.blocks s.base.site.awaits (s.separation ++ e.separation), no_plain s.base.site.before s.base.site.position s.separation e.separation t.rest u.rest e.cut s.read_on begins e.solid e.is_filled, at)
+  tabs = grind (arith, no_plain s.base.site.before s.base.site.position s.separation e.separation t.rest u.rest e.cut s.read_on begins e.solid e.is_filled, at)
 
   -- a key that may be one now might be one before
   live : (x : Key) → IsLive x (position_after t.held.position e.separation u.rest) u.rest → IsLive x t.held.position t.rest

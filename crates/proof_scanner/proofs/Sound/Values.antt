@@ -1,5 +1,5 @@
 -- A colon that ends no key: what holds where it begins holds between two fetches after it.
-use Rattle.proof_scanner.proofs.Common.{ValueNotAllowed, [], if◌then◌else◌, Account, allow_key, another, ap, append-nil, append_assoc, AreLevels, arith, Arrives, At, before_by, before_past, begin_keyless_mapping, begin_keyless_value, begin_pair, begins_free_line, Bool, chained, check_value_space, checked, chosen, colon_may_precede, columns, ends_at, entries_by, Entry, entry_by, false, Fault, fetch_value, first_account, FlowLevel, gives_colon, has_open_level, Held, Holds, in_flow, Indent, innermost, insert, insert_key, is_adjacent, is_break, is_deeper, is_empty, is_near, is_value, is_value_indicator, IsEntryOf, IsLive, IsNotRight, Key, length, length-append, Line, List, None, not, not-false, not_ended, Ok, on_held, opened, opens_pair, Option, Outside, outside_key, pair_past, pair_position, paired, past, placed, pop, Position, position_after, push, put, put_key, refl, Result, roll_indent, roll_one_col_indent, ScannerState, settled, Site, site_here, Some, spelled, Step, subst, suc, sym, taken, takes_pair, Tok, Token, token, tokens_at, tokens_of_step, tokens_up_to, top_key, tried, true, try_held, waits, went, with_held, with_keys, ℕ, ◌++◌, ◌==◌, ◌>>=◌, ◌||◌, ◌∙◌, ◌∷◌, ◌≡◌, ◌≤◌, KeysBefore, keys_before, line_grows, free, AreNumbered, is_required}
+use Rattle.proof_scanner.proofs.Common.{ValueNotAllowed, [], if◌then◌else◌, Account, allow_key, another, ap, append-nil, append_assoc, AreLevels, arith, Arrives, At, before_by, before_past, begin_keyless_mapping, begin_keyless_value, begin_pair, begins_free_line, Bool, chained, check_value_space, checked, chosen, colon_may_precede, columns, ends_at, entries_by, Entry, entry_by, false, Fault, fetch_value, first_account, FlowLevel, gives_colon, has_open_level, Held, Holds, in_flow, Indent, innermost, insert, insert_key, is_adjacent, is_break, is_deeper, is_empty, is_near, is_value, is_value_indicator, IsEntryOf, IsLive, IsNotRight, Key, length, length-append, Line, List, None, not, not-false, not_ended, Ok, on_held, opened, opens_pair, Option, Outside, outside_key, pair_past, pair_position, paired, past, placed, pop, Position, position_after, push, put, put_key, refl, Result, roll_indent, roll_one_col_indent, ScannerState, settled, Site, site_here, Some, spelled, Step, subst, suc, sym, taken, takes_pair, Tok, Token, token, tokens_at, tokens_of_step, tokens_up_to, top_key, tried, true, try_held, waits, went, with_held, with_keys, ℕ, ◌++◌, ◌==◌, ◌>>=◌, ◌||◌, ◌∙◌, ◌∷◌, ◌≡◌, ◌≤◌, KeysBefore, keys_before, line_grows, AreNumbered, is_required}
 use Rattle.model_scanner.specs.declared.level.FlowLevel.TheVariants.{Pair as InPair}
 use Rattle.model_scanner.specs.Block.{value_of}
 use Rattle.proof_scanner.proofs.Sound.Steps.{exactly, held_exactly, Onward, among, by_sides, with_sides, ArrivesBy, begun_after, ends_outside, first_not_right, goes_inside, goes_of, IsDeep, key_longer, keyless, keys_along, line_free, line_taken, low_enough, no_waiting, not_before_after, not_before_then, numbered_around, numbered_more, opens_none, Outer, outer_completes, outer_then, past_one, past_step, read_outside, Reads, reads_before_none, rolls_to, RollsTo, steps_in_flow, tokens_before, value_is, weaker, with_entries, with_start, line_rest_in_line, same_in_line, OpensLevel, opens_level}
@@ -49,16 +49,10 @@ keyless_outside text more t a e apart ind deep =
     (read_outside text t _ a (58 ∷ []) more (colon_gap more) Tok.value (begun_after p a.site.blocks) _ refl
     (colon_reads t more l.indents l.indent (with_start Tok.block_mapping_start t) true [] (None ∷ []) _ e refl refl
     (ap (opened p.col) a.blocks_are ∙ sym (l.columns_are ∙ m.columns_are)) (sym (l.awaits ∙ ap (λ bs. not (is_empty bs)) m.columns_are ∙ (grind arith))) l.are_levels a.was_adjacent)
-    (grind arith) (grind (arith, append_assoc, append-nil, is_free, a.is_indented (ap is_empty e)))))
+    (grind arith) (grind (arith, append_assoc, append-nil, line_free, a.is_indented (ap is_empty e)))))
   where
     p : Position
     p = t.held.position
-
-    bs : List ℕ
-    bs = not_ended p.col a.site.blocks
-
-    is_free : t.held.key_allowed ≡ true → a.line_here ≡ free
-    is_free allowed = line_free t.held.key_allowed t.rest a.line_here allowed a.line_is
 
     h : Held
     h = at_value more t [] (None ∷ [])

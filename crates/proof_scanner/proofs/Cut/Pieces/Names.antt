@@ -1,5 +1,5 @@
 -- What the scan of an anchor's or an alias's name reads is its piece.
-use Rattle.proof_scanner.proofs.Common.{[], all_of, anchor_name, anchor_token, and_parts, ap, arith, Bool, false, has_no_break, is_anchor_name, is_blank_or_end, is_break, is_name, IsNameRead, IsPiece, List, mark_of, named, NameIsRead, NameKind, names_end, Ok, Option, Position, position_after, position_in_line, Read, read_as, ReadAs, refl, sym, Tok, true, ℕ, ◌++◌, ◌∙◌, ◌∷◌, ◌≡◌}
+use Rattle.proof_scanner.proofs.Common.{[], all_of, anchor_name, anchor_token, and_parts, ap, arith, Bool, false, has_no_break, is_anchor_name, is_blank_or_end, is_break, is_name, IsPiece, List, mark_of, NameIsRead, NameKind, names_end, Ok, Option, Position, position_after, position_in_line, Read, read_as, ReadAs, refl, sym, Tok, true, ℕ, ◌++◌, ◌∙◌, ◌∷◌, ◌≡◌}
 use Rattle.defs_token.specs.Account.{Account, is_in_flow}
 
 -- ---- no break stands among the characters of a class that has none
@@ -32,10 +32,8 @@ pub property_read_as : (a : Account) (fl : Bool) (tok : Tok) (text rest : List �
 property_read_as a fl tok text rest end flow r = record { first = r.first; more = r.more; separation = []; is_text = r.cut; is_filled = refl; is_piece = λ following. r.is_piece a following refl flow; is_end = r.end_is }
 
 pub name_property : (fl : Bool) (kind : NameKind) (p : Position) (text more : List ℕ) → text ≡ mark_of kind ∷ more → (x : Read (List ℕ)) → anchor_name text p ≡ Ok x → IsProperty fl (anchor_token kind x.value) p text x.rest x.position
-name_property fl kind p text more e x k = by x (read_as (ap (λ r. anchor_name r p) (sym e) ∙ k) (names_end (mark_of kind) more p))
-  where
-    by : (y : Read (List ℕ)) → IsNameRead p more y → IsProperty fl (anchor_token kind y.value) p text y.rest y.position
-    by y (named name rest cut is ends) = grind (arith, mark_in_line, name_in_line, position_in_line)
+name_property fl kind p text more e x k =
+    let r = read_as (ap (λ r. anchor_name r p) (sym e) ∙ k) (names_end (mark_of kind) more p) in grind (arith, r, mark_in_line, name_in_line, position_in_line)
 
 -- a name that was read is, with its indicator, the piece of its token
 pub name_is_read : NameIsRead
