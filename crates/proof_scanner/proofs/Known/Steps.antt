@@ -117,9 +117,7 @@ module _ (text : List ℕ) (s : Site) (l line_here : Line) (allowed : Bool) (k :
           let same : new ≡ x = same_of new x e in
           let like : LikeLine l z.from.line = subst (λ o. LikeLine (line_by c o l) z.from.line) j z.is_like in
           let line : z.line ≡ free = (grind arith) in
-          let is : is_in_column here.col at.blocks ≡ true = sym must ∙ (ap (λ (q : Key). q.required) same ∙ m) in
-          (grind arith) ∙
-          ap (λ q. waits q) (sym place ∙ ap (λ (q : Key). q.position) same)
+          grind (arith, same, line, keyed, must, place)
       waited_on false None i j b x z e m = absurd (cc e)
       waited_on false (Some y) i j b x z e m =
           let was : z.line ≡ waits x.position = (still_there false (begins_free_line s.before w.separation) z.from.line z.line x.position (n.required z.from x z.begins (j ∙ e) m) z.sep).1 in
