@@ -1,10 +1,48 @@
 -- Commas and closing brackets: what holds where they begin holds between two fetches after them. Outside flow they close nothing.
-use Rattle.proof_scanner.proofs.Common.{[], adjacent_in_flow, another, ap, append_assoc, arith, Arrives, before_by, before_past, begin_flow, begins_with, blanks_and_comment, Bool, Collection, end_entry, end_flow, ends_spaces, entries_by, Entry, eqb-true, false, fetch_flow_collection_end, fetch_flow_collection_start, fetch_flow_entry, first_entry, flow_collection, flow_end, flow_level, flow_start, FlowLevel, free, gives_closing, gives_comma, gives_node, has_no_nul, Held, Holds, if◌then◌else◌, increase_flow_level, Indent, is_blank, is_empty, is_required, IsAdjacent, IsPairOf, Key, length, level_of, Line, List, map, Mapping, nat_le, nat_lt, no_nul_after, no_pair, None, not, on_held, Option, other, pair_end, past, past_blanks_and_comment, past_line_rest, Position, position_after, position_in_line, Previous, previous_by, push, put, refl, refused, remove_implicit_key, roll_one_col_indent, ScannerState, seen, Site, site_here, site_in, Some, subst, suc, sym, taken, Tok, Token, top_key, true, went, with_top, Yes, ℕ, ◌++◌, ◌∙◌, ◌∷◌, ◌≡◌, ◌⊎◌, kind_of, length-map, inr, is_break, append-nil, IsPiece, has_room, is_pair_at, inl}
-use Rattle.proof_scanner.proofs.Cut.FlowEnds.{adjacent_collection, closed_tokens, ended_is, ended_now, entry_is, entry_now}
-use Rattle.proof_scanner.proofs.Sound.Steps.{exactly, held_exactly, Onward, adjacent_kept, ArrivesBy, by_sides, deep_for, indicator_end, indicator_passed, is_clear, IsDeep, IsRead, IsToken, key_gone, keyless, keyless_tokens, keys_along, line_rest_cut, line_rest_fills, line_rest_in_line, low_enough, many_around, node_read, numbered_then, past_it, past_rest_is_clear, past_step, quiet_before, read_outside, reads_before_none, reads_in_line, same_has_break, saved_is, saved_keys, site_of, site_then, steps_in_flow, tokens_before, with_entries, goes_inside, line_taken, Reads, OpensLevel, opens_level}
+use Rattle.proof_scanner.proofs.Common.{[], adjacent_in_flow, another, ap, append_assoc, arith, Arrives, before_by, before_past, begin_flow, begins_with, blanks_and_comment, Bool, Collection, end_entry, end_flow, ends_spaces, entries_by, Entry, eqb-true, false, fetch_flow_collection_end, fetch_flow_collection_start, fetch_flow_entry, first_entry, flow_collection, flow_end, flow_level, flow_start, FlowLevel, free, gives_closing, gives_comma, gives_node, has_no_nul, Held, Holds, if◌then◌else◌, increase_flow_level, Indent, is_blank, is_empty, is_required, IsAdjacent, IsPairOf, Key, length, level_of, Line, List, map, Mapping, nat_le, nat_lt, no_nul_after, no_pair, None, not, on_held, Option, other, pair_end, past, past_blanks_and_comment, past_line_rest, Position, position_after, position_in_line, Previous, previous_by, push, put, refl, refused, remove_implicit_key, roll_one_col_indent, ScannerState, seen, Site, site_here, site_in, Some, subst, suc, sym, taken, Tok, Token, top_key, true, went, with_top, Yes, ℕ, ◌++◌, ◌∙◌, ◌∷◌, ◌≡◌, ◌⊎◌, kind_of, length-map, inr, is_break, append-nil, IsPiece, has_room, is_pair_at, inl, begins_token, collection, decrease_flow_level, end_flow_pair, is_adjacent, is_separation, nat_tests, pop, token, ◌&&◌, ◌+◌, ◌==◌, ◌||◌, Keyed}
+use Rattle.proof_scanner.proofs.Sound.Steps.{exactly, held_exactly, Onward, adjacent_kept, ArrivesBy, by_sides, deep_for, indicator_end, indicator_passed, is_clear, IsDeep, IsRead, IsToken, key_gone, keyless, keyless_tokens, keys_along, line_rest_cut, line_rest_fills, line_rest_in_line, low_enough, many_around, node_read, numbered_then, past_it, past_rest_is_clear, past_step, quiet_before, read_outside, reads_before_none, reads_in_line, same_has_break, saved_is, saved_keys, site_of, site_then, steps_in_flow, tokens_before, with_entries, goes_inside, line_taken, Reads, OpensLevel, opens_level, blanks_alone}
 use Rattle.defs_token.specs.Account.{Account as PieceAccount}
 use Rattle.model_scanner.specs.State.{after}
-use Rattle.model_scanner.specs.declared.level.FlowLevel.TheVariants.{Entry as InEntry}
+use Rattle.model_scanner.specs.declared.level.FlowLevel.TheVariants.{Entry as InEntry, Pair as InPair}
+use Rattle.proof_lexers.specs.PlainEnds as plains
+use Rattle.proof_scanner.proofs.Cut.Stoods.{same_number}
+
+-- ---- what the model leaves where an entry or a collection ends
+
+-- the tokens with the end of a single-pair mapping, where one is open
+abbrev pub closed_tokens : List FlowLevel → Position → List Token → List Token
+closed_tokens (InPair ∷ fs) p ts = ts ++ token p Tok.flow_mapping_end ∷ []
+closed_tokens _ p ts = ts
+
+-- the flow levels once the entry has ended
+abbrev pub entered : List FlowLevel → List FlowLevel
+entered (InPair ∷ fs) = InEntry ∷ fs
+entered (Keyed ∷ fs) = InEntry ∷ fs
+entered fs = fs
+
+abbrev pub higher_keys : List FlowLevel → List (Option Key) → List (Option Key)
+higher_keys [] ks = with_top None ks
+higher_keys (f ∷ fs) ks = pop (with_top None ks)
+
+abbrev pub ended_now : List FlowLevel → Held → Held
+ended_now fs s = record s { tokens = closed_tokens fs s.position s.tokens; keys = higher_keys fs s.keys; flow = pop fs; key_allowed = false }
+
+abbrev pub entry_now : List FlowLevel → Held → Held
+entry_now fs s = record s { tokens = closed_tokens fs s.position s.tokens; keys = with_top None s.keys; flow = entered fs; key_allowed = true }
+
+no_blank : (c : ℕ) → not ((c == 32) || ((c == 9) && true) || (c == 35)) ≡ true → is_blank c ≡ false
+unfolding is_blank
+no_blank c h = grind arith
+
+-- after a flow collection and blanks
+pub adjacent_collection : (p : Position) (f rest : List ℕ) → is_separation false f rest ≡ true → plains.has_break f ≡ false → ends_spaces Yes rest ≡ true → has_no_nul rest ≡ true → IsAdjacent (before_past collection f) p p.index rest
+adjacent_collection p f rest fills line ends clean = λ separation r e k t. by separation r e k t
+  where
+    by : (separation r : List ℕ) → rest ≡ separation ++ r → is_separation false separation r ≡ true → begins_token r ≡ true → is_adjacent (before_past (before_past collection f) separation) ≡ ((p.index + length separation) == p.index)
+    by [] r e k t = grind (arith, nat_tests, eqb-true, blanks_alone, same_number)
+    by (c ∷ g) r e k t = let none = no_blank c (rw e at ends) in grind (arith, nat_tests, none)
+
+-- ---- their tokens
 
 -- what the last piece was, after one
 abbrev pub previous_of : (closes : Bool) → Previous
@@ -142,12 +180,12 @@ module _ (text more : List ℕ) (tok : Tok) (c : ℕ) (i : IsCloser true tok c) 
 
 -- the innermost key need not be one
 pub flow_over : (s : Held) → Holds (λ u. (u ≡ ended_now s.flow s) × (is_required (top_key s.keys) ≡ false)) (end_flow s)
-unfolding end_flow remove_implicit_key
-flow_over s = grind (arith, refused, went, ended_is s s.flow)
+unfolding end_flow remove_implicit_key decrease_flow_level end_flow_pair
+flow_over s = grind (arith, refused, went)
 
 pub entry_over : (s : Held) → Holds (λ u. (u ≡ entry_now s.flow s) × (is_required (top_key s.keys) ≡ false)) (end_entry s)
-unfolding end_entry remove_implicit_key
-entry_over s = grind (arith, refused, went, entry_is s s.flow)
+unfolding end_entry remove_implicit_key end_flow_pair
+entry_over s = grind (arith, refused, went)
 
 -- ---- a comma
 

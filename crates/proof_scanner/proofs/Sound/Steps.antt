@@ -7,7 +7,7 @@ pub use Rattle.proof_scanner.proofs.Sound.ReadNodes.{allowed_past, IsRead, node_
 pub use Rattle.proof_scanner.proofs.Sound.Rolled.{opens_none, rolls_to, RollsTo, some_levels, top_closed, AreClosed, without_is, OpensLevel, opens_level}
 pub use Rattle.proof_scanner.proofs.Known.Steps.{begins_key, is_of_node, keyless, knows_saved, known_at_start, known_past}
 pub use Rattle.proof_scanner.proofs.Sound.Passed.{Exact, exact, least_is, same_has_break, free_line_append, goes_on, live_before_it, may_before, read_on_append, renewed_alike, skip_stays}
-pub use Rattle.proof_scanner.proofs.Sound.QuotedEnds.{at_end_of, Checked, ends_in_line, is_done, on_one_line, quoted_checked}
+pub use Rattle.proof_scanner.proofs.Sound.QuotedEnds.{at_end_of, Checked, ends_in_line, is_done, on_one_line, quoted_checked, blanks_alone}
 pub use Rattle.proof_scanner.proofs.Cut.Documents.{entry_from, key_removed}
 pub use Rattle.proof_scanner.proofs.Cut.Dispatch.{gap_here, value_is, content_holds, token_holds, begins_here, goes_on_here, no_end}
 pub use Rattle.proof_scanner.proofs.Cut.Pieces.Plains.{begins_as_read, same_flow_start}
