@@ -1,6 +1,6 @@
 -- Document markers and directives: what holds where they begin holds between two fetches after them.
-use Rattle.proof_scanner.proofs.Common.{[], act_of, and_false, and_parts, ap, append-nil, append_assoc, AreLevels, arith, Arrives, awaits_past, before_by, begin_line, begins_free_line, begins_line, begins_with, begun_by, blanks_and_comment, Bool, check_document_end, columns, Directive, directive_of, directives_end, either, Entry, eqb-true, false, fetch_directive, fetch_document_end, fetch_document_marker, first_break, FlowLevel, further_lines_stand, gives_marker, has_break, has_no_break, has_no_nul, has_open_level, Held, Holds, is_at_gap, is_break, is_breakz, is_closed, is_empty, is_indented_by_spaces, is_renewed, is_required, is_separation, IsDirectiveRead, IsPiece, IsReadOn, Key, List, may_precede, no_nul_after, None, on_held, Option, or_true, other, past, past_blanks_and_comment, past_line_rest, peek, Position, position_after, position_append, previous_by, push, put, read, read_as, refl, refused, remove_implicit_key, replicate-append-replicate, ScannerState, seen, settled, shown_position, Site, site_in, skip_indicator, Some, subst, sym, taken, Tok, token_of, top_key, true, unroll_indent, went, whole_directive, with_top, ℕ, ◌++◌, ◌∙◌, ◌∷◌, ◌≡◌, ◌≤◌}
-use Rattle.proof_scanner.proofs.Sound.Steps.{exactly, held_exactly, Onward, adjacent_kept, by_sides, ArrivesBy, at_end_of, goes_inside, is_done, key_gone, line_rest_cut, line_rest_fills, line_rest_in_line, read_outside, Reads, rest_skipped, same_in_line, shorter, some_rest, three_past, tokens_before, unrolled_in_flow, with_entries, same_has_break, with_sides, ended_outside, all_ended}
+use Rattle.proof_scanner.proofs.Common.{[], and_false, and_parts, ap, append-nil, append_assoc, AreLevels, arith, Arrives, before_by, begin_line, begins_free_line, begins_line, begins_with, blanks_and_comment, Bool, check_document_end, columns, Directive, directive_of, directives_end, either, Entry, eqb-true, false, fetch_directive, fetch_document_end, fetch_document_marker, first_break, FlowLevel, gives_marker, has_break, has_no_break, has_no_nul, has_open_level, Held, Holds, is_at_gap, is_break, is_breakz, is_closed, is_empty, is_indented_by_spaces, is_renewed, is_required, is_separation, IsDirectiveRead, IsPiece, IsReadOn, Key, List, may_precede, no_nul_after, None, on_held, Option, or_true, other, past, past_blanks_and_comment, past_line_rest, peek, Position, position_after, position_append, previous_by, push, put, read, read_as, refl, refused, remove_implicit_key, replicate-append-replicate, ScannerState, seen, settled, Site, site_in, skip_indicator, Some, subst, sym, taken, Tok, token_of, top_key, true, unroll_indent, went, whole_directive, with_top, ℕ, ◌++◌, ◌∙◌, ◌∷◌, ◌≡◌, ◌≤◌, if◌then◌else◌}
+use Rattle.proof_scanner.proofs.Sound.Steps.{exactly, held_exactly, Onward, adjacent_kept, by_sides, ArrivesBy, at_end_of, goes_inside, is_done, key_gone, line_rest_cut, line_rest_fills, line_rest_in_line, read_outside, Reads, rest_skipped, same_in_line, shorter, some_rest, three_past, tokens_before, unrolled_in_flow, with_entries, same_has_break, with_sides, ended_outside, all_ended, IsToken}
 use Rattle.defs_token.specs.Account.{Account as PieceAccount}
 use Rattle.model_scanner.specs.Directive.{directive}
 use Rattle.proof_lexers.specs.DirectiveEnds.{ends_line, next_line}
@@ -22,12 +22,8 @@ next_of d = d.gap ++ d.rest
 
 -- What is to be known of it: what is so of the token of a document marker or a directive, and what was read.
 pub record IsRead (t : ScannerState) (d : Read) : Type 0 where
-  pub act : act_of d.tok ≡ gives_marker
-  pub begun : begun_by d.tok ≡ []
-  pub shown : (s : Site) (piece next : List ℕ) → shown_position s piece d.tok next ≡ s.position
-  pub lines : (column : ℕ) (piece : List ℕ) → further_lines_stand column d.tok piece ≡ true
-  pub awaits_inside : (bs : List ℕ) (b : Bool) (next : List ℕ) → awaits_past true d.tok bs b next ≡ b
-  pub awaits_outside : (bs : List ℕ) (b : Bool) (next : List ℕ) → awaits_past false d.tok bs b next ≡ false
+  pub token : IsToken d.tok gives_marker [] (previous_by d.tok) (λ _ _. true) (λ fl piece next. may_precede fl [] d.tok piece next) (λ fl bs b. if fl then b else false)
+  pub open token use *
   pub before : before_by (previous_by d.tok) ≡ other
   pub at_margin : t.held.position.col ≡ 0
   pub cut : t.rest ≡ d.piece ++ next_of d
@@ -36,7 +32,7 @@ pub record IsRead (t : ScannerState) (d : Read) : Type 0 where
   pub is_filled : is_separation false d.gap d.rest ≡ true
   pub end_is : d.end ≡ position_after (position_after t.held.position d.piece (next_of d)) d.gap d.rest
   pub is_piece : (a : PieceAccount) → a.position.col ≡ 0 → is_closed a ≡ true → IsPiece a d.piece (next_of d) None a.position d.tok
-  pub precedes : (fl : Bool) (bs : List ℕ) → may_precede fl bs d.tok d.piece (next_of d) ≡ true
+  pub is_followed : (fl : Bool) (bs : List ℕ) → may_precede fl bs d.tok d.piece (next_of d) ≡ true
   pub no_tabs : (bs : List ℕ) (b : Bool) → is_indented_by_spaces (previous_by d.tok) bs b d.gap ≡ true
   pub leads : is_empty d.rest ≡ false → d.leading ≡ begins_line (previous_by d.tok) d.gap
   pub read_on : (q : Position) → IsReadOn (previous_by d.tok) q d.gap d.rest
@@ -68,7 +64,7 @@ line_begun s u e = rw e (grind (arith, refused, went))
 line_stands : (text : List ℕ) (t : ScannerState) (d : Read) (a : ArrivesBy text t [] (None ∷ []) []) → IsRead t d → t.held.flow ≡ [] → with_top None t.held.keys ≡ None ∷ [] → Onward text t.rest (line_past t (begun_from (all_ended t.held)) d)
 line_stands text t d a r flow keys =
     read_outside text t (line_past t (begun_from (all_ended t.held)) d) a d.piece (next_of d) d.gap d.tok (record { line = taken; blocks = [] }) x (ap (λ k. site_in false k t.held.position a.site) r.act)
-    (line_reads t d (begun_from (all_ended t.held)) _ r refl refl refl (r.awaits_outside x.blocks x.awaits (next_of d)) refl a.was_adjacent (refl, refl, refl)) (grind (arith, r))
+    (line_reads t d (begun_from (all_ended t.held)) _ r refl refl refl (r.awaits false x.blocks x.awaits (next_of d)) refl a.was_adjacent (refl, refl, refl)) (grind (arith, r))
     (grind (arith, append_assoc, append-nil, r, r.is_piece (seen (with_entries a.site a.line []) x a.separation) r.at_margin refl, a.is_indented (some_rest t.rest d.piece (next_of d) r.cut r.is_solid), eqb-true, shorter, replicate-append-replicate))
   where
     x : Site
@@ -80,7 +76,7 @@ line_goes : (text : List ℕ) (t : ScannerState) (d : Read) (f : FlowLevel) (fs 
     Onward text t.rest (line_past t (begun_from t.held) d)
 line_goes text t d f fs k ks e es a r flow keys =
     goes_inside text t (line_past t (begun_from t.held) d) f f fs k ks e (record { kind = e.kind; pair = e.pair; had = settled }) es a d.piece (next_of d) d.tok d.gap
-    (line_reads t d (begun_from t.held) _ r refl refl a.blocks_are (r.awaits_inside a.site.blocks a.site.awaits (next_of d) ∙ a.awaits_is) a.are_levels a.was_adjacent (refl, refl, refl))
+    (line_reads t d (begun_from t.held) _ r refl refl a.blocks_are (r.awaits true a.site.blocks a.site.awaits (next_of d) ∙ a.awaits_is) a.are_levels a.was_adjacent (refl, refl, refl))
     (let piece = r.is_piece (seen (with_entries a.site a.line (e ∷ es)) x a.separation) r.at_margin refl in
     let indented = a.is_indented (some_rest t.rest d.piece (next_of d) r.cut r.is_solid) in grind (arith, append-nil, r, tokens_before, piece, indented))
   where

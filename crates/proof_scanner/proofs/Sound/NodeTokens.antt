@@ -1,6 +1,7 @@
 -- What a part of a node begins: an opening bracket the first entry of a collection, other pieces nothing.
-use Rattle.proof_scanner.proofs.Common.{[], if◌then◌else◌, Account, act_of, ap, append_assoc, AreNumbered, arith, begun_by, Bool, Colon, colon_of, depth_past, ends_at, entries_by, entries_past, Entry, entry_by, false, filled, first_entry, flow_mapping_start, FlowLevel, gives_node, Had, had_by, HasHadHere, insert, is_keyed, is_waiting, IsLineHere, IsLive, Key, key_tokens, length, level_of, Line, line_by, line_past, List, map, MayChoose, None, Option, pair_position, pop, Position, position_after, put, put_key, refl, shown_position, Site, site_here, Some, spelled, Step, suc, taken, takes_pair, Tok, Token, tokens_at, tokens_of_step, tokens_up_to, true, with_had, with_keys, with_line, zero, ℕ, ◌&&◌, ◌++◌, ◌∷◌, ◌≡◌, ◌≤◌, kind_of}
+use Rattle.proof_scanner.proofs.Common.{[], if◌then◌else◌, Account, act_of, ap, append_assoc, AreNumbered, arith, begun_by, Bool, Colon, colon_of, depth_past, ends_at, entries_by, entries_past, Entry, entry_by, false, filled, first_entry, flow_mapping_start, FlowLevel, gives_node, Had, had_by, HasHadHere, insert, is_keyed, is_waiting, IsLineHere, IsLive, Key, key_tokens, length, level_of, Line, line_by, line_past, List, map, MayChoose, None, Option, pair_position, pop, Position, position_after, put, put_key, refl, shown_position, Site, site_here, Some, spelled, Step, suc, taken, takes_pair, Tok, Token, tokens_at, tokens_of_step, tokens_up_to, true, with_had, with_keys, with_line, ℕ, ◌&&◌, ◌++◌, ◌∷◌, ◌≡◌, ◌≤◌, kind_of, length-append, length-take}
 use Rattle.proof_scanner.specs.StandsInRow.{before_key}
+use Rattle.std.proofs.lemmas.List.{length-drop}
 use Rattle.std.proofs.lemmas.List.Edits.{insert-append_left, insert_end}
 use Rattle.proof_scanner.proofs.Sound.Arrivals.{with_entries}
 use Rattle.proof_scanner.proofs.Sound.OutOfFlow.{Outer}
@@ -63,9 +64,7 @@ node_in_entry again allowed c k new e here begun es h q = grind arith
 -- ---- tokens that go in before others, and tokens after all of them
 
 longer : (ts : List Token) (n : ℕ) (t : Token) → length (insert ts n t) ≡ suc (length ts)
-longer ts zero t = refl
-longer [] (suc n) t = refl
-longer (x ∷ ts) (suc n) t = ap suc (longer ts n t)
+longer ts n t = grind (arith, length-append, length-take, length-drop)
 
 key_first : (b : Bool) (start : Token) (n : ℕ) (here : Position) (ts us : List Token) → n ≤ length ts → put_key b start n here (ts ++ us) ≡ put_key b start n here ts ++ us
 key_first b start n here ts us h = grind (arith, longer, insert-append_left)

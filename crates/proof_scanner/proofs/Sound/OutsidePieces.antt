@@ -1,9 +1,8 @@
 -- A piece outside flow before and after which no key waits: what holds where it begins holds between two fetches after it.
 use Rattle.proof_scanner.proofs.Common.{[], Account, act_of, ap, arith, begun_by, Bool, columns, Completes, false, free, has_break, if◌then◌else◌, is_deeper, is_empty, is_in_column, is_waiting, IsCarriedOn, IsLineHere, IsPiece, Key, Line, line_past, List, may_stand, MayChoose, None, not_ended, opened, Option, Outside, placed, Position, position_after, refl, ScannerState, seen, shown_position, Site, site_in, site_past, SoFar, Some, subst, sym, Tok, Token, token, true, ℕ, ◌++◌, ◌∙◌, ◌∷◌, ◌≡◌}
 use Rattle.proof_scanner.proofs.Known.Steps.{knows_none, begins_key}
-use Rattle.proof_scanner.proofs.Sound.Common.{ArrivesBy, goes_of, is_written, may_be_no_key, no_waiting, tokens_then, with_entries, keyless_completes}
+use Rattle.proof_scanner.proofs.Sound.Common.{ArrivesBy, goes_of, is_written, may_be_no_key, no_waiting, tokens_then, with_entries, keyless_completes, none_completes}
 use Rattle.proof_scanner.proofs.Sound.Reads.{Onward, Reads, stands_so, IsHeld}
-use Rattle.proof_scanner.proofs.Sound.StreamEnds.{none_completes}
 
 -- what may begin after an indicator that begins a block collection, if none has begun there
 abbrev pub begun_after : (here : Position) → List ℕ → Outside
