@@ -1,14 +1,10 @@
 -- What the model passes between tokens.
-use Rattle.proof_scanner.proofs.Common.{are_spaces, begins_white_space, ends_spaces, false, Fault, HasPassed, Holds, is_separation, lexed, List, position_after, read, read_as, refused, Result, ScannerState, skip_spaces, skip_yaml_whitespace, SkipTabs, space, spaces_are_passed, true, went, white_space_is_passed, Whitespace, ℕ, ◌++◌, ◌≡◌, nat_tests, eqb-true, arith, EndsAs}
+use Rattle.proof_scanner.proofs.Common.{are_spaces, ends_spaces, false, Fault, Holds, is_separation, lexed, List, position_after, read, read_as, refused, Result, ScannerState, skip_spaces, SkipTabs, space, spaces_are_passed, true, went, Whitespace, ℕ, ◌++◌, ◌≡◌, nat_tests, eqb-true, arith, EndsAs}
 use Rattle.proof_lexers.specs.PlainEnds.{has_break}
 
 -- of a scan that ends as its text says, what was read
 pub read_holds : {A : Type 0} {Reads : A → Type 0} {Why : Fault → Type 0} {x : Result A Fault} → EndsAs Reads Why x → Holds Reads x
 read_holds a = grind (arith, nat_tests, eqb-true, went, refused)
-
-pub white_passed : (t : ScannerState) → Holds (HasPassed begins_white_space t.held t.rest) (skip_yaml_whitespace t)
-unfolding skip_yaml_whitespace
-white_passed t = read_holds (white_space_is_passed t.held t.rest)
 
 -- Within a line blanks and a comment were passed.
 pub record Spaced (tabs : SkipTabs) (t u : ScannerState) : Type 0 where

@@ -154,10 +154,6 @@ pub indicator_passed : (u : ScannerState) (more : List ℕ) → after_first u.re
 unfolding pass_indicator
 indicator_passed u more e = rw (sym e) (rest_skipped (skip_indicator u))
 
--- the position after an indicator
-pub past_one : (p : Position) (c : ℕ) (next : List ℕ) → is_break c ≡ false → position_after p (c ∷ []) next ≡ past p
-past_one p c next e = past_indicator p c next e
-
 -- the position after all of it
 pub indicator_end : (p : Position) (c : ℕ) (more : List ℕ) → is_break c ≡ false → past_line_rest (past p) more ≡ position_after (position_after p (c ∷ []) more) (blanks_and_comment more) (past_blanks_and_comment more)
-indicator_end p c more e = grind (arith, past_one, same_in_line, line_rest_in_line)
+indicator_end p c more e = grind (arith, past_indicator, same_in_line, line_rest_in_line)

@@ -5,7 +5,7 @@ use Rattle.defs_token.specs.Account.{Account as PieceAccount}
 use Rattle.model_scanner.specs.Directive.{directive}
 use Rattle.proof_lexers.specs.DirectiveEnds.{ends_line, next_line}
 use Rattle.proof_scanner.proofs.Cut.Documents.{unroll_keeps}
-use Rattle.proof_scanner.proofs.Cut.Pieces.Directives.{break_cut, break_is_separation, percent_in_line, piece_of}
+use Rattle.proof_scanner.proofs.Cut.Pieces.Directives.{break_cut, break_is_separation, piece_of}
 use Rattle.model_scanner.specs.Machine as machine
 
 -- What was read of such a line: the token and its piece, the separation after it, the text and the position after both, and whether only blanks stand before that on its line.
@@ -129,7 +129,7 @@ directive_read line next d p = record { tok = token_of d; piece = 37 ∷ line; g
 
 pub directive_is_read : (t : ScannerState) (line next : List ℕ) (d : Directive) → t.rest ≡ 37 ∷ (line ++ next) → has_no_break line ≡ true → ends_line next ≡ true → directive_of (37 ∷ line) ≡ Some d → t.held.position.col ≡ 0 → IsRead t (directive_read line next d t.held.position)
 unfolding is_break
-directive_is_read t line next d e no_break ends is col = grind (arith, and_false, break_cut, percent_in_line, break_is_separation, position_append, piece_of, and_parts, or_true, has_break)
+directive_is_read t line next d e no_break ends is col = grind (arith, and_false, break_cut, break_is_separation, position_append, piece_of, and_parts, or_true, has_break)
 
 -- the scanner after a directive
 abbrev pub after_it : ScannerState → machine.Read Tok → Held → ScannerState

@@ -3,7 +3,7 @@ use Rattle.proof_scanner.proofs.Common.{BlockEntryInFlow, BlockEntryNotAllowed, 
 use Rattle.yaml_chars.specs.Class.{is_break as is_break_here, is_flow as is_flow_here}
 use Rattle.model_scanner.specs.State.{after, after as after_first}
 use Rattle.proof_lexers.proofs.Bridges.{same_flow}
-use Rattle.proof_scanner.proofs.Sound.Steps.{exactly, held_exactly, ArrivesBy, IsDeep, Onward, Reads, RollsTo, adjacent_kept, begins_here, begun_after, by_sides, entry_from, first_not_right, gap_here, goes_inside, indicator_end, key_removed, line_free, line_rest_cut, line_rest_fills, line_rest_in_line, low_enough, none_skipped, opens_level, past_one, past_rest, past_rest_is_clear, read_outside, reads_before_none, rest_read, rolls_to, tokens_before, top_closed, with_sides, with_start}
+use Rattle.proof_scanner.proofs.Sound.Steps.{exactly, held_exactly, ArrivesBy, IsDeep, Onward, Reads, RollsTo, adjacent_kept, begins_here, begun_after, by_sides, entry_from, first_not_right, gap_here, goes_inside, indicator_end, key_removed, line_free, line_rest_cut, line_rest_fills, line_rest_in_line, low_enough, none_skipped, opens_level, past_indicator, past_rest, past_rest_is_clear, read_outside, reads_before_none, rest_read, rolls_to, tokens_before, top_closed, with_sides, with_start}
 use Rattle.model_scanner.specs.declared.level.FlowLevel.TheVariants.{Entry as InEntry}
 use Rattle.proof_scanner.proofs.Sound.WhiteSpaces.{no_tab_before, no_tab_in_last, past_white, past_white_space, white_cut, white_exactly, white_first, white_of}
 
@@ -66,7 +66,7 @@ dash_outside text more t a e gap allowed deep =
         (reads_before_none (with_sides t [] (None ∷ [])) _ _ (45 ∷ []) more (blanks_and_comment more) refl e (line_rest_cut more) (line_rest_fills more)
         (line_rest_in_line more) refl (indicator_end p 45 more refl) refl refl (ap (opened p.col) a.blocks_are ∙ sym (n.columns_are ∙ r.columns_are)) (sym n.awaits)
         n.are_levels a.was_adjacent (refl, refl, refl))
-        (grind arith) (grind (arith, append_assoc, append-nil, past_one, line_free, a.is_indented (ap is_empty e))))))
+        (grind arith) (grind (arith, append_assoc, append-nil, past_indicator, line_free, a.is_indented (ap is_empty e))))))
 
 -- A dash that begins an entry is read as in the row.
 pub dash_keeps : (text more : List ℕ) (t : ScannerState) → Arrives text t → t.rest ≡ 45 ∷ more → is_at_gap more ≡ true → IsDeep t.held → Holds (Onward text t.rest) (fetch_block_entry t)
@@ -93,7 +93,7 @@ question_reads : (t u : ScannerState) (more : List ℕ) (y : Site) → t.rest �
     t.held.adjacent_value_at ≤ t.held.position.index → (u.held.adjacent_value_at ≡ t.held.adjacent_value_at) × (u.held.started ≡ t.held.started) × (u.held.ended ≡ t.held.ended) → Reads t u y (63 ∷ []) more (white_of false more)
 unfolding is_break
 question_reads t u more y cut rest fills place leads here before columns_are awaits levels was same =
-    grind (arith, past_one, white_cut, no_tab_in_last, no_tab_taken, adjacent_kept t u (before_by y.before) (63 ∷ []) more (white_of false more) refl)
+    grind (arith, past_indicator, white_cut, no_tab_in_last, no_tab_taken, adjacent_kept t u (before_by y.before) (63 ∷ []) more (white_of false more) refl)
 
 -- ---- the function
 

@@ -66,11 +66,6 @@ pub opens_level : (s : Held) → AreLevels s.indent s.indents → OpensLevel s (
 unfolding roll_one_col_indent in_block
 opens_level s l = grind arith
 
--- in flow nothing changes
-pub opens_none : (s : Held) → in_flow s ≡ true → roll_one_col_indent s ≡ s
-unfolding roll_one_col_indent in_block
-opens_none s inside = rw inside refl
-
 -- where a collection is innermost, no value is awaited
 pub top_closed : (ds : List Indent) → top_needs_block_end ds ≡ true → (is_empty ds ≡ false) × (has_open_level ds ≡ false)
 top_closed a h = grind arith

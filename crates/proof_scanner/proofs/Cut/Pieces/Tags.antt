@@ -16,10 +16,6 @@ pub tag_has_none : (c : ℕ) → is_tag c ≡ true → is_break c ≡ false
 unfolding is_tag is_uri is_decimal_digit is_letter
 tag_has_none c h = without_breaks is_tag refl refl c h
 
-pub alpha_has_none : (c : ℕ) → is_alpha c ≡ true → is_break c ≡ false
-unfolding is_alpha is_decimal_digit is_letter
-alpha_has_none c h = without_breaks is_alpha refl refl c h
-
 -- what stands before in the line, and what stands after it
 spanned : (class : ℕ → Bool) → ((c : ℕ) → class c ≡ true → is_break c ≡ false) → (t : List ℕ) → has_no_break (after class t) ≡ true → has_no_break t ≡ true
 spanned class none t h = rw (span_cut class t) (no_break_append (leading class t) (after class t) (all_in_line class none (leading class t) (all_leading class t)) h)
@@ -43,9 +39,10 @@ named_in_line name (c ∷ d ∷ suffix) g m h = grind (arith, eqb-true, of_class
 named_in_line name from g m h = grind arith
 
 shorthand_in_line : (t : List ℕ) (g : Tag) → shorthand t ≡ Some g → has_no_break t ≡ true
+unfolding is_alpha is_decimal_digit is_letter
 shorthand_in_line [] g h = refl
 shorthand_in_line (c ∷ t) g h =
-    grind (arith, spanned is_alpha alpha_has_none (c ∷ t), named_in_line (leading is_alpha (c ∷ t)) (after is_alpha (c ∷ t)) g, of_class is_tag tag_has_none (codes "!") (c ∷ t) g)
+    grind (arith, spanned is_alpha (λ d e. without_breaks is_alpha refl refl d e) (c ∷ t), named_in_line (leading is_alpha (c ∷ t)) (after is_alpha (c ∷ t)) g, of_class is_tag tag_has_none (codes "!") (c ∷ t) g)
 
 pub written_in_line : (t : List ℕ) (g : Tag) → written_tag (33 ∷ t) ≡ Some g → has_no_break (33 ∷ t) ≡ true
 unfolding is_break
