@@ -12,10 +12,6 @@ pub without_breaks : (class : ℕ → Bool) → class 10 ≡ false → class 13 
 unfolding is_break
 without_breaks class lf cr c h = grind (arith, nat_tests)
 
-pub tag_has_none : (c : ℕ) → is_tag c ≡ true → is_break c ≡ false
-unfolding is_tag is_uri is_decimal_digit is_letter
-tag_has_none c h = without_breaks is_tag refl refl c h
-
 -- what stands before in the line, and what stands after it
 spanned : (class : ℕ → Bool) → ((c : ℕ) → class c ≡ true → is_break c ≡ false) → (t : List ℕ) → has_no_break (after class t) ≡ true → has_no_break t ≡ true
 spanned class none t h = rw (span_cut class t) (no_break_append (leading class t) (after class t) (all_in_line class none (leading class t) (all_leading class t)) h)
@@ -34,15 +30,15 @@ unfolding is_uri is_decimal_digit is_letter
 verbatim_in_line t g h = grind (arith, spanned is_uri (λ c e. without_breaks is_uri refl refl c e) t, closed_in_line (after is_uri t))
 
 named_in_line : (name from : List ℕ) (g : Tag) → begins_with_mark from ≡ true → named name from ≡ Some g → has_no_break from ≡ true
-unfolding is_break
-named_in_line name (c ∷ d ∷ suffix) g m h = grind (arith, eqb-true, of_class is_tag tag_has_none (codes "!" ++ name ++ codes "!") (d ∷ suffix) g)
+unfolding is_break is_tag is_uri is_decimal_digit is_letter
+named_in_line name (c ∷ d ∷ suffix) g m h = grind (arith, eqb-true, of_class is_tag (λ e f. without_breaks is_tag refl refl e f) (codes "!" ++ name ++ codes "!") (d ∷ suffix) g)
 named_in_line name from g m h = grind arith
 
 shorthand_in_line : (t : List ℕ) (g : Tag) → shorthand t ≡ Some g → has_no_break t ≡ true
-unfolding is_alpha is_decimal_digit is_letter
+unfolding is_alpha is_tag is_uri is_decimal_digit is_letter
 shorthand_in_line [] g h = refl
 shorthand_in_line (c ∷ t) g h =
-    grind (arith, spanned is_alpha (λ d e. without_breaks is_alpha refl refl d e) (c ∷ t), named_in_line (leading is_alpha (c ∷ t)) (after is_alpha (c ∷ t)) g, of_class is_tag tag_has_none (codes "!") (c ∷ t) g)
+    grind (arith, spanned is_alpha (λ d e. without_breaks is_alpha refl refl d e) (c ∷ t), named_in_line (leading is_alpha (c ∷ t)) (after is_alpha (c ∷ t)) g, of_class is_tag (λ e f. without_breaks is_tag refl refl e f) (codes "!") (c ∷ t) g)
 
 pub written_in_line : (t : List ℕ) (g : Tag) → written_tag (33 ∷ t) ≡ Some g → has_no_break (33 ∷ t) ≡ true
 unfolding is_break
