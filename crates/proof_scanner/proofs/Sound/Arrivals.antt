@@ -1,5 +1,5 @@
 -- Where a piece begins, and between two fetches: what holds with the flow levels, the open keys and the entries taken apart, outside flow and in flow.
-use Rattle.proof_scanner.proofs.Common.{[], Account, Act, act_of, After, ap, append-nil, AreAround, AreLevels, AreNumbered, arith, Arrives, ArrivesWith, awaits_in_block, awaits_in_flow, awaits_past, begins_free_line, begins_separation, begun_by, Bool, columns, Entry, false, FlowLevel, further_lines_stand, has_break, Held, in_flow, Indent, innermost, is_break, is_deep_enough, is_empty, is_in_column, is_waiting, IsLive, IsNotRight, IsOpenHere, IsOpenOutside, Key, KnowsKey, least_column, least_for, length, Line, line_by, line_past_separation, List, may_precede, MayChoose, must_be_key, nat_le, not, NotBefore, Option, or_true, outside_key, Position, position_after, Previous, previous_by, ScannerState, shown_position, Site, Some, Stands, StandsWith, subst, suc, sym, taken, Tok, true, ℕ, ◌&&◌, ◌++◌, ◌+◌, ◌==◌, ◌∙◌, ◌∷◌, ◌≡◌, ◌≤◌}
+use Rattle.proof_scanner.proofs.Common.{[], Account, Act, act_of, After, ap, append-nil, AreAround, AreLevels, AreNumbered, arith, Arrives, ArrivesWith, awaits_past, begins_free_line, begins_separation, begun_by, Bool, columns, Entry, false, FlowLevel, further_lines_stand, has_break, Held, in_flow, Indent, innermost, is_break, is_deep_enough, is_empty, is_in_column, is_waiting, IsLive, IsNotRight, IsOpenHere, IsOpenOutside, Key, KnowsKey, least_column, least_for, length, Line, line_by, line_past_separation, List, may_precede, MayChoose, must_be_key, nat_le, not, NotBefore, Option, or_true, outside_key, Position, position_after, Previous, previous_by, ScannerState, shown_position, Site, Some, Stands, StandsWith, subst, suc, sym, taken, Tok, true, ℕ, ◌&&◌, ◌++◌, ◌+◌, ◌==◌, ◌∙◌, ◌∷◌, ◌≡◌, ◌≤◌}
 use Rattle.proof_scanner.proofs.Cut.Positions.{no_break_on_line, not_before_after, not_before_then, weaker}
 use Rattle.proof_scanner.proofs.Cut.Stoods.{IsDeep}
 
@@ -41,11 +41,6 @@ pub stands_by : (text : List ℕ) (t : ScannerState) (fs : List FlowLevel) (ks :
 stands_by text t fs ks base f k s = record { base = base; known = subst (λ x. StandsWith text t t.held.flow x base) (sym k) (subst (λ x. StandsWith text t x ks base) (sym f) s) }
 
 -- ---- what lets a piece stand: four tests, and its column in flow
-
--- whether a value is awaited stays as it was after a token that says nothing of it
-pub awaits_kept : (tok : Tok) → ((b : Bool) → awaits_in_flow tok b ≡ b) → ((bs : List ℕ) (b : Bool) (next : List ℕ) → awaits_in_block tok bs b next ≡ (b && true)) →
-    (fl : Bool) (bs : List ℕ) (b : Bool) (next : List ℕ) → awaits_past fl tok bs b next ≡ b
-awaits_kept tok inside outside a bs b next = grind arith
 
 -- What is said of a token whose piece stands where the token is shown, and not left of the least column: what the piece does, what it begins and what it was;
 -- when its further lines and the text after it let it stand, and whether a value is awaited then.
@@ -146,9 +141,6 @@ module _ (text : List ℕ) (t : ScannerState) (f : FlowLevel) (fs : List FlowLev
 
     pub one_around : (piece : List ℕ) → (is_empty rest ≡ false → end.line ≤ t.held.position.line → has_break piece ≡ false) → (strict c : Bool) → MayChoose strict c (outside_key es ks) end rest → (has_break piece && is_waiting (line_by c (outside_key es ks) a.line)) ≡ false
     one_around piece one strict c may = grind (arith, no_waiting, around_before)
-
-    pub may_around : (strict c : Bool) → MayChoose strict c (outside_key es ks) end rest → MayChoose strict c (outside_key es ks) t.held.position t.rest
-    may_around strict c may = grind arith
 
     pub open_around : (q : Position) → NotBefore t.held.position q → IsOpenOutside (outside_key es ks) q end rest a.site.blocks
     open_around q a = grind (arith, around_of, not_before_then, last_before)

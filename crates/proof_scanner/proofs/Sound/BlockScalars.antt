@@ -6,7 +6,7 @@ use Rattle.defs_token.specs.Account as pieces
 use Rattle.proof_scanner.proofs.Sound.Steps.{AreClosed, ArrivesBy, IsDeep, Onward, Reads, adjacent_kept, after_piece, by_sides, is_of_node, knows_saved, last_whole, no_waiting, not_before_after, not_before_same, not_before_then, outer_then, saved, saved_is, saved_keys, some_rest, stands_so, tokens_then, weaker, with_entries, without_is, is_written, keyless_completes}
 use Rattle.proof_scanner.proofs.Cut.Pieces.Blocks.{spaces_of, spaces_cut, spaces_fill, spaces_position, some_piece, token_of, IsBelow, below}
 use Rattle.proof_scanner.proofs.Sound.BlockEnds.{IsLeast, BlockAs, block_as, ends_at_margin}
-use Rattle.proof_scanner.proofs.Sound.Outsides.{must_be_here, numbered_past, open_node, new_key, keys_saved}
+use Rattle.proof_scanner.proofs.Sound.Outsides.{must_be_here, saved_numbered, open_node, new_key, keys_saved}
 use Rattle.proof_scanner.proofs.Sound.PlainKeeps.{same_innermost}
 
 -- ---- spaces
@@ -152,7 +152,7 @@ module _ (text : List ℕ) (t : ScannerState) (k : Option Key) (a : ArrivesBy te
   -- What stands after a block scalar that was read; the spaces after it are the separation.
   pub block_stands : KnowsKey text (a.separation ++ t.rest) t.held.position k → Onward text t.rest (read_state t w style x)
   block_stands known = rw r.is (rw closed.same_tokens (stands_so text t after_it r.piece r.next gap [] (key_now ∷ []) (with_entries site_then free []) a.is_clean a.started a.going scalar_reads (record {
-    fits = grind (arith, within, keys_saved t k [] keys, taken_by key_now refl, numbered_past text t k a within deep own t.held.key_allowed);
+    fits = grind (arith, within, keys_saved t k [] keys, taken_by key_now refl, saved_numbered t a.tokens _ k [] own a.tokens_are a.are_numbered t.held.key_allowed);
     is_open = open_node text t k a within deep some end rest (grind (arith, place, not_before_then, not_before_after)) (position_after p r.piece r.next) (after_piece p r.piece r.next is_solid);
     carries = λ cs x key m inside some. absurd (cc inside);
     knows = knows_saved text t r.piece r.next tok r.is_text end gap rest place (spaces_cut r.next) k a

@@ -1,5 +1,5 @@
 -- The words of the general lemmas, passed on from one place. Declares nothing.
-pub use Rattle.proof_scanner.proofs.Sound.Arrivals.{by_sides, with_sides, ArrivesBy, stands_by, with_entries, IsToken, awaits_kept, deep_for, first_not_right, line_taken, many_around, may_around, must_be, not_none, numbered_around, numbered_more, one_around, open_around, some_rest, tokens_before, unbroken, unbroken_around, no_waiting}
+pub use Rattle.proof_scanner.proofs.Sound.Arrivals.{by_sides, with_sides, ArrivesBy, stands_by, with_entries, IsToken, deep_for, first_not_right, line_taken, many_around, must_be, not_none, numbered_around, numbered_more, one_around, open_around, some_rest, tokens_before, unbroken, unbroken_around, no_waiting}
 pub use Rattle.proof_scanner.proofs.Sound.Completed.{begins_at_start, begins_past, but_for_key_past, completed_at_start, goes_of, goes_past, may_be_no_key}
 pub use Rattle.proof_scanner.proofs.Sound.OutOfFlow.{Goes, is_written, Outer, outer_completes, outer_then, tokens_then, keyless_completes}
 pub use Rattle.proof_scanner.proofs.Sound.NodeTokens.{among, AreSame, begun_numbered, bit_of, choice_before, choices_around, entry_past_node, fewer, first_among, had_as_it_was, key_longer, keys_along, keys_first, keys_own, levels_by, line_after_node, node_in_entry, node_outer_tokens, node_tokens, past_step, same_levels, saved, with_begun, with_no_key}

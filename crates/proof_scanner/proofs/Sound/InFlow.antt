@@ -1,6 +1,6 @@
 -- A piece in flow was read: if the definition and the scanner agree on its entries and tokens, what holds where it begins holds between two fetches after it.
 use Rattle.proof_scanner.proofs.Common.{[], Account, account_past, act_of, ap, AreNumbered, arith, begins_free_line, begun_by, begun_inside, Bool, chosen, colon_of, columns, entries_by, entries_past, Entry, entry_by, false, FlowLevel, has_break, HasHadHere, is_empty, is_renewed, is_waiting, IsEntryOf, IsPiece, Key, least_column, length, length-append, Line, line_by, line_past_separation, List, may_stand, MayChoose, nat_le, None, not, NotBefore, Option, outside_key, pair_position, pop, Position, position_after, previous_by, put, refl, ScannerState, seen, shown_position, Site, site_here, site_past, Some, spelled, Step, suc, sym, takes_pair, Tok, Token, tokens_at, tokens_up_to, true, with_keys, ℕ, ◌&&◌, ◌++◌, ◌∙◌, ◌∷◌, ◌≡◌, ◌≤◌, subst}
-use Rattle.proof_scanner.proofs.Sound.Common.{among, ArrivesBy, but_for_key_past, goes_past, had_as_it_was, IsDeep, keys_along, line_taken, may_around, not_before_after, not_before_then, numbered_around, numbered_more, one_around, open_around, past_step, same_levels, some_rest, unbroken, unbroken_around, with_entries, keys_own}
+use Rattle.proof_scanner.proofs.Sound.Common.{among, ArrivesBy, but_for_key_past, goes_past, had_as_it_was, IsDeep, keys_along, line_taken, not_before_after, not_before_then, numbered_around, numbered_more, one_around, open_around, past_step, same_levels, some_rest, unbroken, unbroken_around, with_entries, keys_own}
 use Rattle.proof_scanner.proofs.Known.Steps.{keyless, knows_inside}
 use Rattle.proof_scanner.proofs.Sound.Reads.{Onward, Reads, stands_so, IsHeld}
 
@@ -62,7 +62,7 @@ module _ (text : List ℕ) (t u : ScannerState) (f : FlowLevel) (fs : List FlowL
           (flow_step (bit cs)) next (ap (λ r. a.separation ++ r) r.cut) (grind (arith, same_levels))
           (account c cs (unbroken_around text t f fs k ks e es a some u.held.position u.rest later strict c was) (one_around text t f fs k ks e es a some u.held.position u.rest later piece g.in_line strict c was))
           (λ _ i. ap (λ y. is_waiting (line_by c y a.line)) g.same_key ∙ i) (grind (arith, tokens))
-          (a.completes strict c (choice cs ∷ outer cs) (may_around text t f fs k ks e es a some u.held.position u.rest later strict c was))));
+          (a.completes strict c (choice cs ∷ outer cs) (grind (arith, some, later, was)))));
     })
       where
         some : is_empty t.rest ≡ false

@@ -10,10 +10,10 @@ new_key t = record { required = must_be_key t.held; number = length t.held.token
 pub keys_saved : (t : ScannerState) (k : Option Key) (ks : List (Option Key)) → t.held.keys ≡ k ∷ ks → saved_keys t.held ≡ saved t.held.key_allowed (new_key t) k ∷ ks
 keys_saved t k ks e = grind (arith, new_key)
 
--- in flow the numbers of the open keys are those of tokens so far
-pub numbered_inside : (t : ScannerState) (before : List Token) (k : Option Key) (ks : List (Option Key)) (own : Token) → t.held.tokens ≡ before → AreNumbered (length before) (k ∷ ks) →
+-- the numbers of the open keys are those of tokens so far
+pub saved_numbered : (t : ScannerState) (before more : List Token) (k : Option Key) (ks : List (Option Key)) (own : Token) → t.held.tokens ≡ before ++ more → AreNumbered (length before) (k ∷ ks) →
     (b : Bool) → AreNumbered (length (t.held.tokens ++ (own ∷ []))) (saved b (new_key t) k ∷ ks)
-numbered_inside t before k ks own e h b = grind (arith, length-append, numbered_more, numbered_around)
+saved_numbered t before more k ks own e h b = grind (arith, length-append, numbered_more, numbered_around)
 
 -- ---- a part of a node outside flow, and the open key: the one that was open, or the one that may begin with the node
 
@@ -30,9 +30,6 @@ module _ (text : List ℕ) (t : ScannerState) (k : Option Key) (a : ArrivesBy te
   -- a key must begin here just in the column of the innermost collection
   pub must_be_here : must_be_key t.held ≡ is_in_column t.held.position.col here.blocks
   must_be_here = must_be t.held (ap (λ x. not (is_empty x)) out) a.are_levels deep ∙ ap (λ bs. is_in_column t.held.position.col bs) (sym a.blocks_are)
-
-  pub numbered_past : (own : Token) (b : Bool) → AreNumbered (length (t.held.tokens ++ (own ∷ []))) (saved b (new_key t) k ∷ [])
-  numbered_past own b = grind (arith, numbered_more, length-append)
 
   -- to a later position, where other text is left
   module _ (some : is_empty t.rest ≡ false) (end : Position) (rest : List ℕ) (later : NotBefore t.held.position end) where

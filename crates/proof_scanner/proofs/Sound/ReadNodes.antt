@@ -2,7 +2,7 @@
 use Rattle.proof_scanner.proofs.Common.{[], Account, AreEntries, Arrives, Bool, Entry, FlowLevel, IsCarriedOn, IsOpenOutside, IsPairOf, IsPiece, Key, KnowsKey, Line, List, MayChoose, None, NotBefore, Option, Outside, Previous, ScannerState, Site, SoFar, Some, Tok, Token, act_of, ap, arith, begins_free_line, begun_by, chosen, entries_by, false, first_choice, further_lines_stand, gives_node, has_break, inl, is_deep_enough, is_empty, is_in_column, is_renewed, least_for, length, line_by, may_precede, may_stand, no_pair, not, outside_key, pop, position_after, previous_by, put, refl, seen, shown_position, site_here, site_in, site_past, subst, sym, taken, tokens_up_to, true, with_keys, ℕ, ◌++◌, ◌∙◌, ◌∷◌, ◌≡◌, ◌≤◌, must_be_key, IsLive}
 use Rattle.proof_scanner.proofs.Sound.Common.{after_piece, among, by_sides, ArrivesBy, begun_numbered, bit_of, choice_before, choices_around, entry_past_node, Goes, IsDeep, levels_by, line_after_node, line_taken, node_in_entry, node_outer_tokens, node_tokens, not_before_after, not_before_then, Outer, outer_completes, past_step, saved, saved_keys, some_rest, tokens_before, with_begun, with_entries, with_no_key, is_written}
 use Rattle.proof_scanner.proofs.Known.Steps.{knows_saved, is_of_node}
-use Rattle.proof_scanner.proofs.Sound.Outsides.{new_key, keys_saved, numbered_inside, must_be_here, numbered_past, one_node, taken_node, line_node, same_node, open_node}
+use Rattle.proof_scanner.proofs.Sound.Outsides.{new_key, keys_saved, saved_numbered, must_be_here, one_node, taken_node, line_node, same_node, open_node}
 use Rattle.proof_scanner.proofs.Sound.InFlow.{steps_in_flow}
 use Rattle.proof_scanner.proofs.Sound.Reads.{Onward, Reads, stands_so}
 
@@ -129,7 +129,7 @@ module _ (text : List ℕ) (t u : ScannerState) (level : Option FlowLevel) (k : 
   node_outside keys known =
       let same : outside_key (with_begun level []) keys_then ≡ key_then = (grind arith) in
       stands_so text t u piece (gap ++ u.rest) gap (levels_by level []) keys_then base_then a.is_clean a.started a.going r.reads (record {
-        fits = let numbered = begun_numbered level (length (t.held.tokens ++ (own ∷ []))) (key_then ∷ []) (numbered_past text t k a within deep own t.held.key_allowed) in
+        fits = let numbered = begun_numbered level (length (t.held.tokens ++ (own ∷ []))) (key_then ∷ []) (saved_numbered t a.tokens _ k [] own a.tokens_are a.are_numbered t.held.key_allowed) in
             grind (arith, r, keys_saved t k [] keys, taken_node text t k a within deep some u.held.position u.rest later u.held.key_allowed, r.one_line, numbered);
         is_open = subst (λ y. IsOpenOutside y (site_then t [] a.site piece tok (gap ++ u.rest)).position u.held.position u.rest (site_of t [] a.site).blocks) (sym same) (open_node text t k a within deep some u.held.position u.rest later (site_then t [] a.site piece tok (gap ++ u.rest)).position (after_piece t.held.position piece (gap ++ u.rest) r.reads.is_solid));
         carries = carried;
@@ -159,7 +159,7 @@ module _ (text : List ℕ) (t u : ScannerState) (level : Option FlowLevel) (f : 
   node_inside keys =
       let n : Entry = entry_past_node t.held.key_allowed e in
       let place = here_is text t u level (f ∷ fs) (k ∷ ks) (e ∷ es) a tok piece gap r in
-      let own = numbered_inside t a.tokens k ks shown_token (tokens_before text t f fs k ks e es a) a.are_numbered t.held.key_allowed in
+      let own = saved_numbered t a.tokens [] k ks shown_token a.tokens_are a.are_numbered t.held.key_allowed in
       let numbered = begun_numbered level (length (t.held.tokens ++ (shown_token ∷ []))) (key_past ∷ ks) own in
       steps_in_flow text t u f fs k ks e es a piece (gap ++ u.rest) tok (with_no_key level (key_past ∷ ks)) (with_begun level (n ∷ es))
       (λ cs. choice_before t.held.key_allowed (first_choice (choices_around level cs))) (λ cs. pop (choices_around level cs)) (λ cs. bit_of t.held.key_allowed (first_choice (choices_around level cs))) (levels_by level (f ∷ fs)) gap r.reads
