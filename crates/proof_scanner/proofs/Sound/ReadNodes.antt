@@ -1,6 +1,6 @@
 -- A part of a node was read where a piece begins, be it an opening bracket or no collection: what holds between two fetches holds after it.
-use Rattle.proof_scanner.proofs.Common.{[], Account, AreEntries, Arrives, Bool, Entry, FlowLevel, IsCarriedOn, IsOpenOutside, IsPairOf, IsPiece, Key, KnowsKey, Line, List, MayChoose, None, NotBefore, Option, Outside, Previous, ScannerState, Site, SoFar, Some, Tok, Token, act_of, ap, arith, begins_free_line, begun_by, chosen, entries_by, false, first_choice, further_lines_stand, gives_node, has_break, inl, is_deep_enough, is_empty, is_in_column, is_renewed, least_for, length, line_by, may_precede, may_stand, no_pair, not, outside_key, pop, position_after, previous_by, put, refl, seen, shown_position, site_here, site_in, site_past, subst, sym, taken, tokens_up_to, true, with_keys, ℕ, ◌++◌, ◌∙◌, ◌∷◌, ◌≡◌, ◌≤◌, must_be_key, IsLive}
-use Rattle.proof_scanner.proofs.Sound.Common.{after_piece, among, by_sides, ArrivesBy, begun_numbered, bit_of, choice_before, choices_around, entry_past_node, Goes, IsDeep, levels_by, line_after_node, line_taken, node_in_entry, node_outer_tokens, node_tokens, not_before_after, not_before_then, Outer, outer_completes, past_step, saved, saved_keys, some_rest, tokens_before, with_begun, with_entries, with_no_key, is_written}
+use Rattle.proof_scanner.proofs.Common.{[], Account, AreEntries, Arrives, Bool, Entry, FlowLevel, IsCarriedOn, IsPairOf, IsPiece, Key, KnowsKey, Line, List, MayChoose, None, NotBefore, Option, Outside, Previous, ScannerState, Site, SoFar, Some, Tok, Token, act_of, ap, arith, begins_free_line, begun_by, chosen, entries_by, false, first_choice, further_lines_stand, gives_node, has_break, inl, is_deep_enough, is_empty, is_in_column, is_renewed, least_for, length, line_by, may_precede, may_stand, no_pair, not, outside_key, pop, position_after, previous_by, put, refl, seen, shown_position, site_here, site_in, site_past, subst, sym, taken, tokens_up_to, true, with_keys, ℕ, ◌++◌, ◌∙◌, ◌∷◌, ◌≡◌, ◌≤◌, must_be_key, IsLive}
+use Rattle.proof_scanner.proofs.Sound.Common.{after_piece, among, by_sides, ArrivesBy, begun_numbered, bit_of, choice_before, choices_around, entry_past_node, Goes, IsDeep, levels_by, line_after_node, line_taken, node_in_entry, node_outer_tokens, node_tokens, not_before_after, not_before_then, Outer, outer_completes, past_step, saved, saved_keys, some_rest, tokens_before, with_begun, with_entries, with_no_key, is_written, outer_then}
 use Rattle.proof_scanner.proofs.Known.Steps.{knows_saved, is_of_node}
 use Rattle.proof_scanner.proofs.Sound.Outsides.{new_key, keys_saved, saved_numbered, must_be_here, one_node, taken_node, line_node, same_node, open_node}
 use Rattle.proof_scanner.proofs.Sound.InFlow.{steps_in_flow}
@@ -99,9 +99,8 @@ module _ (text : List ℕ) (t u : ScannerState) (level : Option FlowLevel) (k : 
 
   rows : (strict c : Bool) (cs : List Bool) → MayChoose strict c key_then u.held.position u.rest → SoFar strict text (gap ++ u.rest) (chosen c cs keys_then base_then) (tokens_up_to (chosen c cs keys_then base_then) keys_then u.held.tokens)
   rows strict c cs may =
-      subst (λ b. SoFar strict text (gap ++ u.rest) b (tokens_up_to b keys_then u.held.tokens))
-      (ap (λ es. record { site = site_then t [] a.site piece tok (gap ++ u.rest); line = line_by c key_then taken; entries = es }) (r.begun ∙ (grind arith)) ∙
-      ap (λ y. record { site = site_then t [] a.site piece tok (gap ++ u.rest); line = line_by c y taken; entries = entries_by cs keys_then (with_begun level []) }) (sym (grind arith)))
+      let same : outer_then text t k a piece (gap ++ u.rest) tok x r.reads.cut at_site (after_by c) ≡ chosen c cs keys_then base_then = grind (arith, r.begun) in
+      subst (λ b. SoFar strict text (gap ++ u.rest) b (tokens_up_to b keys_then u.held.tokens)) same
       (outer_completes text t k a piece (gap ++ u.rest) tok x r.reads.cut at_site strict (bit_of t.held.key_allowed c) (line_of c a.line) (line_of c a.line_here) (after_by c) (tokens_up_to (Outer a.site (line_of c a.line)) (k ∷ []) a.tokens)
       (λ ws last. with_keys 0 (site_then t [] a.site piece tok (gap ++ u.rest)).position ws last x.blocks (line_by c key_then taken) (begun_by tok) keys_then u.held.tokens) (goes strict c may)
       (λ ws last h. rw r.tokens_are (node_outer_tokens level a.site a.separation piece (gap ++ u.rest) tok strict t.held.key_allowed c k (new_key t) a.line a.line_here t.held.position u.held.position u.rest
@@ -131,9 +130,9 @@ module _ (text : List ℕ) (t u : ScannerState) (level : Option FlowLevel) (k : 
       stands_so text t u piece (gap ++ u.rest) gap (levels_by level []) keys_then base_then a.is_clean a.started a.going r.reads (record {
         fits = let numbered = begun_numbered level (length (t.held.tokens ++ (own ∷ []))) (key_then ∷ []) (saved_numbered t a.tokens _ k [] own a.tokens_are a.are_numbered t.held.key_allowed) in
             grind (arith, r, keys_saved t k [] keys, taken_node text t k a within deep some u.held.position u.rest later u.held.key_allowed, r.one_line, numbered);
-        is_open = subst (λ y. IsOpenOutside y (site_then t [] a.site piece tok (gap ++ u.rest)).position u.held.position u.rest (site_of t [] a.site).blocks) (sym same) (open_node text t k a within deep some u.held.position u.rest later (site_then t [] a.site piece tok (gap ++ u.rest)).position (after_piece t.held.position piece (gap ++ u.rest) r.reads.is_solid));
+        is_open = rw same (open_node text t k a within deep some u.held.position u.rest later (site_then t [] a.site piece tok (gap ++ u.rest)).position (after_piece t.held.position piece (gap ++ u.rest) r.reads.is_solid));
         carries = carried;
-        knows = subst (λ y. KnowsKey text (gap ++ u.rest) u.held.position y) (sym same)
+        knows = rw same
             (knows_saved text t piece (gap ++ u.rest) tok r.reads.cut u.held.position gap u.rest r.reads.position_is refl k a
             (is_written text t k a piece (gap ++ u.rest) tok x r.reads.cut at_site false a.line r.reads.is_solid (rw (r.shown x) r.is_piece)) within deep (ap is_of_node r.act) known);
         completes = λ strict c cs may. rows strict c cs (rw (sym same) may);
