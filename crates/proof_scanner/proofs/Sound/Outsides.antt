@@ -1,5 +1,5 @@
 -- The key that may begin with a node, among the open keys.
-use Rattle.proof_scanner.proofs.Common.{[], After, after, ap, AreNumbered, arith, Bool, eqb-true, false, has_break, is_empty, is_in_column, is_waiting, IsLineHere, IsLive, IsOpenHere, IsOpenOutside, IsTakenBy, Key, length, length-append, line_by, List, MayChoose, must_be_key, nat_tests, not, NotBefore, Option, Position, ScannerState, Site, site_here, Some, subst, sym, taken, Token, ℕ, ◌&&◌, ◌++◌, ◌∙◌, ◌∷◌, ◌≡◌, ◌≤◌}
+use Rattle.proof_scanner.proofs.Common.{[], After, after, ap, AreNumbered, arith, Bool, eqb-true, false, has_break, is_empty, is_in_column, is_waiting, IsLive, IsOpenHere, IsOpenOutside, IsTakenBy, Key, length, length-append, line_by, List, MayChoose, must_be_key, nat_tests, not, NotBefore, Option, Position, ScannerState, Site, site_here, Some, subst, sym, taken, Token, ℕ, ◌&&◌, ◌++◌, ◌∙◌, ◌∷◌, ◌≡◌, ◌≤◌}
 use Rattle.proof_scanner.proofs.Sound.Common.{AreSame, ArrivesBy, first_not_right, IsDeep, must_be, no_waiting, not_before_after, not_before_same, not_before_then, numbered_around, numbered_more, saved, saved_keys, weaker}
 
 -- the key that may begin here
@@ -40,9 +40,6 @@ module _ (text : List ℕ) (t : ScannerState) (k : Option Key) (a : ArrivesBy te
     -- after it a live key has taken the line, if no key may begin there
     pub taken_node : (allowed : Bool) → (is_empty rest ≡ false → end.line ≤ t.held.position.line → allowed ≡ false) → IsTakenBy allowed end rest (saved t.held.key_allowed (new_key t) k) taken
     taken_node allowed none = grind (arith, not_before_same, open_before)
-
-    pub line_node : IsLineHere false t.held.key_allowed (0 ∷ []) k a.line_here
-    line_node = grind arith
 
     pub same_node : AreSame k end rest a.site.blocks here.blocks
     same_node = grind (arith, open_of, open_before)

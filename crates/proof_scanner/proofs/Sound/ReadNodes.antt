@@ -2,7 +2,7 @@
 use Rattle.proof_scanner.proofs.Common.{[], Account, AreEntries, Arrives, Bool, Entry, FlowLevel, IsCarriedOn, IsPairOf, IsPiece, Key, KnowsKey, Line, List, MayChoose, None, NotBefore, Option, Outside, Previous, ScannerState, Site, SoFar, Some, Tok, Token, act_of, ap, arith, begins_free_line, begun_by, chosen, entries_by, false, first_choice, further_lines_stand, gives_node, has_break, inl, is_deep_enough, is_empty, is_in_column, is_renewed, least_for, length, line_by, may_precede, may_stand, no_pair, not, outside_key, pop, position_after, previous_by, put, refl, seen, shown_position, site_here, site_in, site_past, subst, sym, taken, tokens_up_to, true, with_keys, ℕ, ◌++◌, ◌∙◌, ◌∷◌, ◌≡◌, ◌≤◌, must_be_key, IsLive}
 use Rattle.proof_scanner.proofs.Sound.Common.{after_piece, among, by_sides, ArrivesBy, begun_numbered, bit_of, choice_before, choices_around, entry_past_node, Goes, IsDeep, levels_by, line_after_node, line_taken, node_in_entry, node_outer_tokens, node_tokens, not_before_after, not_before_then, Outer, outer_completes, past_step, saved, saved_keys, some_rest, tokens_before, with_begun, with_entries, with_no_key, is_written, outer_then}
 use Rattle.proof_scanner.proofs.Known.Steps.{knows_saved, is_of_node}
-use Rattle.proof_scanner.proofs.Sound.Outsides.{new_key, keys_saved, saved_numbered, must_be_here, one_node, taken_node, line_node, same_node, open_node}
+use Rattle.proof_scanner.proofs.Sound.Outsides.{new_key, keys_saved, saved_numbered, must_be_here, one_node, taken_node, same_node, open_node}
 use Rattle.proof_scanner.proofs.Sound.InFlow.{steps_in_flow}
 use Rattle.proof_scanner.proofs.Sound.Reads.{Onward, Reads, stands_so}
 
@@ -93,7 +93,7 @@ module _ (text : List ℕ) (t u : ScannerState) (level : Option FlowLevel) (k : 
 
   goes : (strict c : Bool) → MayChoose strict c key_then u.held.position u.rest → Goes text t k a piece (gap ++ u.rest) tok x r.reads.cut at_site strict (bit_of t.held.key_allowed c) (line_of c a.line) (line_of c a.line_here) (after_by c)
   goes strict c may =
-      let after = line_after_node strict (is_in_column x.position.col x.blocks) t.held.key_allowed c k (new_key t) a.line_here t.held.position u.held.position x.blocks u.rest (line_node text t k a within deep some u.held.position u.rest later) refl (must_be_here text t k a within deep) may in
+      let after = line_after_node strict (is_in_column x.position.col x.blocks) t.held.key_allowed c k (new_key t) a.line_here t.held.position u.held.position x.blocks u.rest (grind (arith, some)) refl (must_be_here text t k a within deep) may in
       let one = one_node text t k a within deep some u.held.position u.rest later piece (λ x y. (r.one_line x y).0) strict c may in
       grind (arith, r, r.reads, a, stands_here text t u level [] (k ∷ []) [] a tok piece gap r, after, one)
 
@@ -104,7 +104,7 @@ module _ (text : List ℕ) (t u : ScannerState) (level : Option FlowLevel) (k : 
       (outer_completes text t k a piece (gap ++ u.rest) tok x r.reads.cut at_site strict (bit_of t.held.key_allowed c) (line_of c a.line) (line_of c a.line_here) (after_by c) (tokens_up_to (Outer a.site (line_of c a.line)) (k ∷ []) a.tokens)
       (λ ws last. with_keys 0 (site_then t [] a.site piece tok (gap ++ u.rest)).position ws last x.blocks (line_by c key_then taken) (begun_by tok) keys_then u.held.tokens) (goes strict c may)
       (λ ws last h. rw r.tokens_are (node_outer_tokens level a.site a.separation piece (gap ++ u.rest) tok strict t.held.key_allowed c k (new_key t) a.line a.line_here t.held.position u.held.position u.rest
-      a.tokens t.held.tokens ws last r.act r.begun (line_node text t k a within deep some u.held.position u.rest later) may a.no_key (among (length a.tokens) (k ∷ []) a.are_numbered) h place
+      a.tokens t.held.tokens ws last r.act r.begun (grind (arith, some)) may a.no_key (among (length a.tokens) (k ∷ []) a.are_numbered) h place
       a.tokens_are (r.shown x) refl refl (same_node text t k a within deep some u.held.position u.rest later)))
       (a.completes strict (choice_before t.held.key_allowed c) [] (grind arith)))
 
