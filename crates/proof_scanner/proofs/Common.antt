@@ -37,7 +37,7 @@ pub use Rattle.defs_token.specs.Separation.{is_blanks, is_separation}
 pub use Rattle.defs_token.specs.Step.{Act, act_of, another, blanks_and_comment, block_scalar, comment_of, directive, flow_collection, gives_block_scalar, gives_closing, gives_colon, gives_comma, gives_dash, gives_marker, gives_node, gives_nothing, gives_question, has_break, is_marker, is_on_line, past_blanks_and_comment, past_comment, plain_scalar, Previous, previous_by, quoted_scalar, Row, spelled, Step}
 pub use Rattle.defs_token.specs.Token.{alias, anchor, block_end, block_entry, block_mapping_start, block_sequence_start, document_end, document_start, double_quoted, flow_entry, flow_mapping_end, flow_mapping_start, flow_sequence_end, flow_sequence_start, key, plain, scalar, single_quoted, stream_end, stream_start, Style, tag, tag_directive, Tok, Token, value, version_directive}
 pub use Rattle.defs_token.specs.Tokens.{begun_inside, begun_outside, Colon, colon_of, content_position, depth_past, ends_at, ends_with_stream, key_end, key_tokens, pair_end, pair_position, past_line_rest, put, shown_position, start_if, stream_position, tokens_at, tokens_at_end, tokens_from, tokens_of_step}
-pub use Rattle.model_scanner.proofs.Holds.{both_hold, chained, checked, either, held_of, Holds, read, refused, tried, weakened, went}
+pub use Rattle.model_scanner.proofs.Holds.{both_hold, chained, checked, either, held_of, Holds, read, refused, tried, weakened, went, passes}
 pub use Rattle.model_scanner.proofs.QuotedLemmas.{after_gap, after_quote, closed_end, coded, digit_turn, named_code}
 pub use Rattle.model_scanner.specs.Anchor.{anchor_name}
 pub use Rattle.model_scanner.specs.Blanks.{after_spaces, are_skipped, comment_after, is_line, linebreak, space_step, Spaces, spaces_end, with_found}
@@ -122,7 +122,7 @@ pub use Rattle.proof_row.proofs.Cuts.{beginnings_are_cuts, cut_past, cut_past_no
 pub use Rattle.proof_row.proofs.Like.{IsLike, LikeEntries, LikeHad, LikeLine, Stepped}
 pub use Rattle.proof_row.proofs.Lines.{first_line, line_is, line_more, lines_after, no_lines, of_lines, split_append, up_to_break}
 pub use Rattle.proof_row.proofs.Pieces.{clean_up_to_end, no_piece_at_end}
-pub use Rattle.proof_row.proofs.Runs.{ends_run, longer, runs, same_head}
+pub use Rattle.proof_row.proofs.Runs.{ends_run, longer, runs, same_head, neither}
 pub use Rattle.proof_row.proofs.Separations.{separations}
 pub use Rattle.proof_row.proofs.Splits.{More, splits}
 pub use Rattle.proof_row.proofs.Texts.{no_nul_after}
@@ -155,10 +155,8 @@ pub use Rattle.yaml_tokens.specs.declared.problem.Fault.{Fault}
 pub use Rattle.yaml_tokens.specs.declared.problem.Fault.TheVariants.{At, OutOfMemory}
 pub use Rattle.yaml_tokens.specs.declared.problem.Problem.{Problem}
 pub use Rattle.yaml_tokens.specs.declared.problem.Problem.TheVariants.{AnchorIndentation, AnchorName, BlockEntryInFlow, BlockEntryNotAllowed, BlockScalarHeader, BlockScalarIndentation, BlockScalarTab, BlockScalarZero, ColonMisplaced, CommentNotSeparated, ContentAfterDocumentEnd, ContentAfterQuoted, DirectiveEnd, DirectiveName, DirectiveNameEnd, EscapedCode, FlowIndentation, FlowTooDeep, GlobalTagCharacter, HexadecimalDigit, InvalidIndentation, KeyExpected, KeyNotAllowed, KeyWithoutColon, PlainDashInFlow, PlainTab, QuotedDocumentMarker, QuotedEnd, QuotedIndentation, TabAfterColon, TabAfterDash, TabAfterKey, TabAsIndentation, TabInBlockIndentation, TagDirectiveEnd, TagDirectiveHandle, TagEnd, TagStart, UnexpectedAt, UnexpectedBacktick, UnexpectedPercent, UnknownEscape, ValueNotAllowed, VerbatimTagEnd, VersionDot, VersionNumber, VersionTooLong, WhitespaceExpected}
-pub use Rattle.model_scanner.proofs.Holds.{passes}
 pub use Rattle.model_scanner.specs.declared.kind.NameKind.TheVariants.{Alias, Anchor}
 pub use Rattle.proof_lexers.specs.Ends.{EndsAs, reads, refuses}
 pub use Rattle.proof_row.proofs.Columns.{further_is_no_break}
-pub use Rattle.proof_row.proofs.Runs.{neither}
 pub use Rattle.model_scanner.proofs.PlainLemmas.{break_leads}
 pub use Rattle.proof_row.proofs.KeyLines.{KeysBefore, keys_before, line_grows}

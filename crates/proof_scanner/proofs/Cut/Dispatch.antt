@@ -1,5 +1,5 @@
 -- The next token by its first characters, and what these say: the text goes on, or a document marker stands there.
-use Rattle.proof_scanner.proofs.Common.{[], Alias, Anchor, and_false, ap, are_marks, are_single, arith, At, begins_separation, begins_with, Bool, class_of, codes, comes_marker, comes_plain, eqb-true, Err, false, Fault, fetch_anchor, fetch_block_entry, fetch_block_scalar, fetch_content, fetch_directive, fetch_document_end, fetch_document_marker, fetch_first_column, fetch_flow_collection_end, fetch_flow_collection_start, fetch_flow_entry, fetch_flow_scalar, fetch_indented, fetch_key, fetch_plain_scalar, fetch_tag, fetch_token, fetch_value, has_no_nul, if◌then◌else◌, in_flow, InvalidIndentation, is_at_gap, is_blank_or_breakz, is_document_marker, is_empty, is_literal, is_nul, is_value, is_value_indicator, is_white, List, mark_of, may_begin, NameKind, nat_lt, nat_tests, not, peek, quote_of, Quotes, refl, Result, row, same_gap, ScannerState, slice_index, sym, Tok, token_by, true, UnexpectedAt, UnexpectedBacktick, UnexpectedPercent, ℕ, ◌&&◌, ◌+◌, ◌==◌, ◌||◌, ◌∙◌, ◌∷◌, ◌≡◌}
+use Rattle.proof_scanner.proofs.Common.{[], Alias, Anchor, ap, are_marks, are_single, arith, At, begins_separation, begins_with, Bool, class_of, codes, comes_marker, comes_plain, eqb-true, Err, false, Fault, fetch_anchor, fetch_block_entry, fetch_block_scalar, fetch_content, fetch_directive, fetch_document_end, fetch_document_marker, fetch_first_column, fetch_flow_collection_end, fetch_flow_collection_start, fetch_flow_entry, fetch_flow_scalar, fetch_indented, fetch_key, fetch_plain_scalar, fetch_tag, fetch_token, fetch_value, has_no_nul, if◌then◌else◌, in_flow, InvalidIndentation, is_at_gap, is_blank_or_breakz, is_document_marker, is_empty, is_literal, is_nul, is_value, is_value_indicator, is_white, List, mark_of, may_begin, NameKind, nat_lt, nat_tests, not, peek, quote_of, Quotes, refl, Result, row, same_gap, ScannerState, slice_index, sym, Tok, token_by, true, UnexpectedAt, UnexpectedBacktick, UnexpectedPercent, ℕ, ◌&&◌, ◌+◌, ◌==◌, ◌||◌, ◌∙◌, ◌∷◌, ◌≡◌}
 use Rattle.yaml_chars.specs.Class.{is_blank, is_break, is_flow}
 use Rattle.model_scanner.specs.declared.kind.BlockStyle.{BlockStyle}
 use Rattle.model_scanner.specs.declared.kind.Collection.TheVariants.{Mapping, Sequence}
@@ -154,17 +154,6 @@ pub record ContentHolds (Q : Result ScannerState Fault → Type 0) (t : ScannerS
 pub content_holds : (Q : Result ScannerState Fault → Type 0) (t : ScannerState) → is_empty t.rest ≡ false → ContentHolds Q t → Q (fetch_content t)
 unfolding fetch_content fetch_first_column fetch_indented
 content_holds Q t some h =
-    either (t.held.position.col == 0) (λ e. first (eqb-true t.held.position.col 0 e)) (λ e. indented (rw e refl, λ col. absurd (grind (arith, e, col))))
-  where
-    either : {x y : Result ScannerState Fault} (b : Bool) → (b ≡ true → Q x) → (b ≡ false → Q y) → Q (if b then x else y)
-    either a p q = grind arith
-
-    indented : IsNoLine t → Q (fetch_indented t)
-    indented n = either (nat_lt (t.held.position.col + 1) t.held.indent) (h.shallow n) (λ e. h.token n (grind (arith, nat_tests)))
-
-    first : t.held.position.col ≡ 0 → Q (fetch_first_column t)
-    first col =
-        either (peek t.rest == 37) (λ e. h.directive (((grind arith) ∙ ap (λ d. d ∷ after t.rest) (eqb-true (peek t.rest) 37 e))) col) (λ n.
-        either (comes_marker 45 t.rest) (λ e. let m : Marked 45 t.rest = marked 45 t.rest refl e in h.document_start m.more m.is_text m.gap col) (λ x.
-        either (comes_marker 46 t.rest) (λ e. let m : Marked 46 t.rest = marked 46 t.rest refl e in h.document_end m.more m.is_text m.gap col) (λ y.
-        indented (ap (λ b. (t.held.position.col == 0) && b) (no_marker t.rest x y) ∙ and_false (t.held.position.col == 0), λ _. n))))
+    let dashes = marked 45 t.rest refl in
+    let dots = marked 46 t.rest refl in
+    grind (arith, nat_tests, eqb-true, h, dashes, dots, no_marker t.rest)

@@ -1,14 +1,10 @@
 -- What the model passes between tokens.
-use Rattle.proof_scanner.proofs.Common.{are_spaces, begins_white_space, ends_spaces, false, Fault, go_on, HasPassed, HasSpaces, Holds, is_separation, lexed, List, position_after, Read, read, read_as, refl, refused, Result, ScannerState, skip_spaces, skip_yaml_whitespace, SkipTabs, space, spaces, spaces_are_passed, true, went, white_space_is_passed, Whitespace, ℕ, ◌++◌, ◌≡◌, nat_tests, eqb-true, arith, EndsAs}
+use Rattle.proof_scanner.proofs.Common.{are_spaces, ends_spaces, false, Fault, Holds, is_separation, lexed, List, position_after, read, read_as, refused, Result, ScannerState, skip_spaces, SkipTabs, space, spaces_are_passed, true, went, Whitespace, ℕ, ◌++◌, ◌≡◌, nat_tests, eqb-true, arith, EndsAs}
 use Rattle.proof_lexers.specs.PlainEnds.{has_break}
 
 -- of a scan that ends as its text says, what was read
 pub read_holds : {A : Type 0} {Reads : A → Type 0} {Why : Fault → Type 0} {x : Result A Fault} → EndsAs Reads Why x → Holds Reads x
 read_holds a = grind (arith, nat_tests, eqb-true, went, refused)
-
-pub white_passed : (t : ScannerState) → Holds (HasPassed begins_white_space t.held t.rest) (skip_yaml_whitespace t)
-unfolding skip_yaml_whitespace
-white_passed t = read_holds (white_space_is_passed t.held t.rest)
 
 -- Within a line blanks and a comment were passed.
 pub record Spaced (tabs : SkipTabs) (t u : ScannerState) : Type 0 where
@@ -22,10 +18,7 @@ pub record Spaced (tabs : SkipTabs) (t u : ScannerState) : Type 0 where
   pub is_held : u.held ≡ record t.held { position = position_after t.held.position (blanks ++ comment) u.rest }
 
 pub spaced : (tabs : SkipTabs) (t : ScannerState) (go : Whitespace → ScannerState → Result ScannerState Fault) (P : ScannerState → Type 0) → ((w : Whitespace) (u : ScannerState) → Spaced tabs t u → Holds P (go w u)) → Holds P (lexed (space tabs t.rest t.held.position) t.held go)
-spaced tabs t go P f = read t.held (space tabs t.rest t.held.position) go (λ x k. f x.value _ (by x (read_as k (spaces_are_passed tabs t.rest t.held.position))))
-  where
-    by : (x : Read Whitespace) → HasSpaces tabs t.held.position t.rest x → Spaced tabs t (go_on x t.held)
-    by x (spaces blanks comment rest cut are fills break ends) = record { blanks = blanks; comment = comment; is_rest = cut; are_blanks = are; is_filled = fills; no_break = break; ends = ends; is_held = refl }
+spaced tabs t go P f = read t.held (space tabs t.rest t.held.position) go (λ x k. f x.value _ (let s = read_as k (spaces_are_passed tabs t.rest t.held.position) in grind (arith, s)))
 
 pub spaces_skipped : (tabs : SkipTabs) (t : ScannerState) → Holds (Spaced tabs t) (skip_spaces tabs t)
 unfolding skip_spaces

@@ -111,17 +111,11 @@ module _ (text : List ℕ) (t : ScannerState) (some : is_empty t.rest ≡ false)
 pub some_row : (o : Option Account) (ws : List Step) (last : List ℕ) → IsRowFrom o ws last → (c : Account) × (o ≡ Some c) × IsRowFrom (Some c) ws last
 some_row o ws last h = grind (arith, nat_tests, eqb-true)
 
--- Where the steps of a row lead.
-record RowEnd (o : Option Account) (ws : List Step) (last : List ℕ) : Type 0 where
-  account : Account
-  leads : Leads o ws last account
-  is_filled : Holds (is_separation false last [])
-  may : Holds (may_end account)
-
-row_end : (ws : List Step) (last : List ℕ) (o : Option Account) → IsRowFrom o ws last → RowEnd o ws last
+-- a row leads to where the text ends
+row_end : (ws : List Step) (last : List ℕ) (o : Option Account) → IsRowFrom o ws last → (b : Account) × Leads o ws last b × (is_separation false last [] ≡ true) × (may_end b ≡ true)
 row_end ws last None row = absurd row
-row_end [] last (Some a) row = record { account = a; leads = refl; is_filled = row.0; may = row.1 }
-row_end (w ∷ ws) last (Some a) row = let n = row_end ws last (account_past a w (spelled ws last)) row.1 in record { account = n.account; leads = (row.0, n.leads); is_filled = n.is_filled; may = n.may }
+row_end [] last (Some a) row = (a, refl, row.0, row.1)
+row_end (w ∷ ws) last (Some a) row = grind (arith, row_end ws last (account_past a w (spelled ws last)) row.1)
 
 leads_row : (ws : List Step) (last : List ℕ) (o : Option Account) (b : Account) → LeadsBy Same o ws last b → Holds (is_separation false last []) → Holds (may_end b) → IsRowFrom o ws last
 leads_row (w ∷ ws) last (Some a) b h f m = grind (arith, leads_row ws last (account_past a w (spelled ws last)) b)
@@ -145,15 +139,15 @@ clean_after [] after h = h
 clean_after (w ∷ ws) after h = clean_after ws after (no_nul_after w.piece (spelled ws after) (no_nul_after w.separation (w.piece ++ spelled ws after) h))
 
 pub walk : (J : Account → Account → Type 0) (R : Account → Account → List ℕ → Type 0) → KeepsOn J Same R → (vs ws : List Step) (after last : List ℕ) (x y a : Account) → IsLike x y → R x y (spelled vs after) → LeadsBy J (Some x) vs after a → IsRowFrom (Some y) ws last → spelled vs after ≡ spelled ws last → Holds (has_no_nul (spelled vs after)) → Walked R a after
-walk J R keeps vs ws after last x y a i h leads row e clean = by (meet J Same R keeps vs ws after last x y a end.account i h leads (strictly ws last (Some y) end.account end.leads) e clean)
+walk J R keeps vs ws after last x y a i h leads row e clean = by (meet J Same R keeps vs ws after last x y a end.0 i h leads (strictly ws last (Some y) end.0 end.1) e clean)
   where
-    end : RowEnd (Some y) ws last
+    end : (b : Account) × Leads (Some y) ws last b × (is_separation false last [] ≡ true) × (may_end b ≡ true)
     end = row_end ws last (Some y) row
 
-    by : Meet J Same R a end.account after last → Walked R a after
-    by (same_place like holds e) = record { account = end.account; is_like = like; holds = holds; steps = []; last = last; is_row = (end.is_filled, end.may); spells = sym e; is_clean = clean_after vs after clean }
-    by (first_on n) = absurd (at_end n.account n.step last (spelled n.steps after) end.is_filled n.is_written (sym n.spells))
-    by (second_on n) = record { account = n.account; is_like = n.is_like; holds = n.holds; steps = n.step ∷ n.steps; last = last; is_row = (n.is_written, rw n.is_past (leads_row n.steps last (Some n.past) end.account n.leads end.is_filled end.may)); spells = n.spells; is_clean = clean_after vs after clean }
+    by : Meet J Same R a end.0 after last → Walked R a after
+    by (same_place like holds e) = record { account = end.0; is_like = like; holds = holds; steps = []; last = last; is_row = (end.2, end.3); spells = sym e; is_clean = clean_after vs after clean }
+    by (first_on n) = absurd (at_end n.account n.step last (spelled n.steps after) end.2 n.is_written (sym n.spells))
+    by (second_on n) = record { account = n.account; is_like = n.is_like; holds = n.holds; steps = n.step ∷ n.steps; last = last; is_row = (n.is_written, rw n.is_past (leads_row n.steps last (Some n.past) end.0 n.leads end.2 end.3)); spells = n.spells; is_clean = clean_after vs after clean }
 
 pub row_walks : (J : Account → Account → Type 0) (R : Account → Account → List ℕ → Type 0) → KeepsOn J Same R → (text after : List ℕ) (a : Account) (r : Row) → R first_account first_account (up_to_nul text) → Way J text after a → HasRow text r → Walked R a after
 row_walks J R keeps text after a r p way h = grind (arith, nat_tests, eqb-true, walk, first_account, clean_up_to_end)

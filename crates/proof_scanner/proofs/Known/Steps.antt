@@ -1,10 +1,10 @@
 -- What is known of keys that wait, after a step: from what was known before it.
 use Rattle.proof_scanner.proofs.Common.{[], Account, Act, act_of, ap, arith, Begins, begins_free_line, Bool, Entry, eqb-true, false, FlowLevel, free, gives_block_scalar, gives_node, is_empty, is_far, is_in_column, is_in_flow, IsLineHere, IsWritten, Key, KnowsKey, LikeLine, Line, line_by, line_past, line_past_separation, List, nat_tests, None, not, not-true, Option, Outside, outside_key, Position, position_after, refl, same_flow, ScannerState, Site, site_here, Some, Step, subst, sym, taken, Tok, true, up_to_nul, waits, ℕ, ◌++◌, ◌+◌, ◌∙◌, ◌∷◌, ◌≡◌, ◌≤◌, first_account, IsAt}
-use Rattle.proof_scanner.proofs.Sound.Common.{ArrivesBy, index_after, IsDeep, not_before_after, not_before_same, saved, some_rest, with_entries, begins_at_start}
+use Rattle.proof_scanner.proofs.Sound.Common.{ArrivesBy, index_after, IsDeep, not_before_after, saved, some_rest, with_entries, begins_at_start}
 use Rattle.proof_scanner.proofs.Known.Rows.{begins_whole, Came, came_by, goes_past, way_inside, way_outside}
 use Rattle.proof_scanner.proofs.Known.Made.{begun, inside, kept, Made, made, outside, same_of, still_there, waited, Waits, waits_past}
 use Rattle.proof_scanner.proofs.Known.Ways.{GivesUp, Way, With}
-use Rattle.proof_scanner.proofs.Sound.Outsides.{line_node, must_be_here, new_key}
+use Rattle.proof_scanner.proofs.Sound.Outsides.{must_be_here, new_key}
 
 -- ---- without a step
 
@@ -117,9 +117,7 @@ module _ (text : List ℕ) (s : Site) (l line_here : Line) (allowed : Bool) (k :
           let same : new ≡ x = same_of new x e in
           let like : LikeLine l z.from.line = subst (λ o. LikeLine (line_by c o l) z.from.line) j z.is_like in
           let line : z.line ≡ free = (grind arith) in
-          let is : is_in_column here.col at.blocks ≡ true = sym must ∙ (ap (λ (q : Key). q.required) same ∙ m) in
-          (grind arith) ∙
-          ap (λ q. waits q) (sym place ∙ ap (λ (q : Key). q.position) same)
+          grind (arith, same, line, keyed, must, place)
       waited_on false None i j b x z e m = absurd (cc e)
       waited_on false (Some y) i j b x z e m =
           let was : z.line ≡ waits x.position = (still_there false (begins_free_line s.before w.separation) z.from.line z.line x.position (n.required z.from x z.begins (j ∙ e) m) z.sep).1 in
@@ -155,5 +153,5 @@ module _ (text : List ℕ) (t : ScannerState) (piece next : List ℕ) (tok : Tok
     knows_saved out deep keyed n =
         let here : t.held.position ≡ position_after a.site.position a.separation (piece ++ next) = a.position_is ∙ ap (λ r. position_after a.site.position a.separation r) cut in
         later (saved t.held.key_allowed (new_key t) k) (known_saved text a.site a.line a.line_here t.held.key_allowed k (new_key t) (keyless a.separation piece tok) next written keyed
-        (line_node text t k a out deep (goes_on written.1.0) t.held.position t.rest (not_before_same t.held.position)) a.is_line way.0 way.1 t.held.position here
+        (let some = goes_on written.1.0 in grind (arith, some)) a.is_line way.0 way.1 t.held.position here
         (rw (sym here) (must_be_here text t k a out deep)) (rw (sym cut) n))

@@ -47,13 +47,10 @@ spelled_append (v ∷ vs) ws after = ap (λ r. v.separation ++ (v.piece ++ r)) (
 given_up_on : (vs ws : List Step) (after : List ℕ) (o : Option Account) (a b : Account) (begin : Position) → Leads o vs (spelled ws after) a → a.line ≡ waits begin → is_in_column begin.col a.site.blocks ≡ true → Leads (Some (record { site = a.site; line = taken; entries = a.entries })) ws after b →
     LeadsBy GivesUp o (vs ++ ws) after b
 given_up_on vs ws after None a b begin h waiting must k = absurd h
-given_up_on [] [] after (Some x) a b begin h waiting must k = given_up begin (ap (λ (z : Account). z.line) h ∙ waiting) (rw h must) (ap (λ (z : Account). let y : Account = record { site = z.site; line = taken; entries = z.entries } in y) h ∙ k)
-given_up_on [] (w ∷ ws) after (Some x) a b begin h waiting must k = (
-  record { site = x.site; line = taken; entries = x.entries },
-  given_up begin (ap (λ (z : Account). z.line) h ∙ waiting) (rw h must) refl,
-  rw h k.0,
-  loosely ws after (account_past (record { site = x.site; line = taken; entries = x.entries }) w (spelled ws after)) b (rw h k.1),
-)
+given_up_on [] [] after (Some x) a b begin h waiting must k = rw h (given_up begin waiting must k)
+given_up_on [] (w ∷ ws) after (Some x) a b begin h waiting must k =
+    let y : Account = record { site = a.site; line = taken; entries = a.entries } in
+    rw h (y, given_up begin waiting must refl, k.0, loosely ws after (account_past y w (spelled ws after)) b k.1)
 given_up_on (v ∷ vs) ws after (Some x) a b begin h waiting must k = (
   x,
   stays refl,

@@ -1,8 +1,7 @@
 -- Where a piece begins, and between two fetches: what holds with the flow levels, the open keys and the entries taken apart, outside flow and in flow.
-use Rattle.proof_scanner.proofs.Common.{[], Account, Act, act_of, After, ap, append-nil, AreAround, AreLevels, AreNumbered, arith, Arrives, ArrivesWith, awaits_in_block, awaits_in_flow, awaits_past, begins_free_line, begins_separation, begun_by, Bool, chosen, columns, Entry, false, FlowLevel, further_lines_stand, has_break, Held, in_flow, Indent, innermost, is_break, is_deep_enough, is_empty, is_in_column, is_waiting, IsLive, IsNotRight, IsOpenHere, IsOpenOutside, Key, KnowsKey, least_column, least_for, length, Line, line_by, line_past_separation, List, may_precede, MayChoose, must_be_key, nat_le, not, NotBefore, Option, or_true, outside_key, Position, position_after, Previous, previous_by, ScannerState, shown_position, Site, SoFar, Some, Stands, StandsWith, subst, suc, sym, taken, Tok, tokens_up_to, true, ℕ, ◌&&◌, ◌++◌, ◌+◌, ◌==◌, ◌∙◌, ◌∷◌, ◌≡◌, ◌≤◌}
-use Rattle.proof_scanner.proofs.Cut.Positions.{after_then, no_break_on_line, not_before_after, not_before_then, weaker}
+use Rattle.proof_scanner.proofs.Common.{[], Account, Act, act_of, After, ap, append-nil, AreAround, AreLevels, AreNumbered, arith, Arrives, ArrivesWith, awaits_past, begins_free_line, begins_separation, begun_by, Bool, columns, Entry, false, FlowLevel, further_lines_stand, has_break, Held, in_flow, Indent, innermost, is_break, is_deep_enough, is_empty, is_in_column, is_waiting, IsLive, IsNotRight, IsOpenHere, IsOpenOutside, Key, KnowsKey, least_column, least_for, length, Line, line_by, line_past_separation, List, may_precede, MayChoose, must_be_key, nat_le, not, NotBefore, Option, or_true, outside_key, Position, position_after, Previous, previous_by, ScannerState, shown_position, Site, Some, Stands, StandsWith, subst, suc, sym, taken, Tok, true, ℕ, ◌&&◌, ◌++◌, ◌+◌, ◌==◌, ◌∙◌, ◌∷◌, ◌≡◌, ◌≤◌}
+use Rattle.proof_scanner.proofs.Cut.Positions.{no_break_on_line, not_before_after, not_before_then, weaker}
 use Rattle.proof_scanner.proofs.Cut.Stoods.{IsDeep}
-use Rattle.proof_scanner.proofs.Sound.OutOfFlow.{no_waiting}
 
 -- an account by its parts
 abbrev pub with_entries : Site → Line → List Entry → Account
@@ -43,11 +42,6 @@ stands_by text t fs ks base f k s = record { base = base; known = subst (λ x. S
 
 -- ---- what lets a piece stand: four tests, and its column in flow
 
--- whether a value is awaited stays as it was after a token that says nothing of it
-pub awaits_kept : (tok : Tok) → ((b : Bool) → awaits_in_flow tok b ≡ b) → ((bs : List ℕ) (b : Bool) (next : List ℕ) → awaits_in_block tok bs b next ≡ (b && true)) →
-    (fl : Bool) (bs : List ℕ) (b : Bool) (next : List ℕ) → awaits_past fl tok bs b next ≡ b
-awaits_kept tok inside outside a bs b next = grind arith
-
 -- What is said of a token whose piece stands where the token is shown, and not left of the least column: what the piece does, what it begins and what it was;
 -- when its further lines and the text after it let it stand, and whether a value is awaited then.
 pub record IsToken (tok : Tok) (k : Act) (es : List Entry) (before : Previous) (stand : ℕ → List ℕ → Bool) (follow : Bool → (piece next : List ℕ) → Bool) (await : Bool → List ℕ → Bool → Bool) : Type 0 where
@@ -63,8 +57,6 @@ pub record IsToken (tok : Tok) (k : Act) (es : List Entry) (before : Previous) (
 -- a piece that is no plain scalar, in the least column or deeper
 pub deep_for : (fl : Bool) (tok : Tok) (x : Site) → least_for tok x ≡ least_column x.blocks x.awaits → nat_le (least_column x.blocks x.awaits) x.position.col ≡ true → is_deep_enough fl tok x ≡ true
 deep_for a tok x least h = grind (arith, or_true)
-
--- ---- facts where a piece begins: lines and positions, the open key outside flow, and levels of indentation
 
 -- ---- texts
 
@@ -87,6 +79,9 @@ pub not_free : (before : Previous) (f : List ℕ) → has_break f ≡ false → 
 not_free a f h = grind arith
 
 -- ---- lines
+
+pub no_waiting : (b w : Bool) → w ≡ false → (b && w) ≡ false
+no_waiting a w h = grind arith
 
 -- in flow a separation does not change what may begin outside
 pub line_kept : (broken : Bool) (l m : Line) → is_waiting l ≡ false → line_past_separation true broken l ≡ Some m → l ≡ m
@@ -112,14 +107,6 @@ numbered_more m n (k ∷ ks) h a = grind (arith, numbered_more m n ks)
 -- the keys around one are numbered too
 pub numbered_around : (m : ℕ) (k : Option Key) (ks : List (Option Key)) → AreNumbered m (k ∷ ks) → AreNumbered m ks
 numbered_around m b ks a = grind (arith, numbered_more)
-
--- ---- rows
-
--- the rows before a piece, with the text and the position there by other names
-pub completes_at : (text : List ℕ) (t : ScannerState) (fs : List FlowLevel) (ks : List (Option Key)) (es : List Entry) (a : ArrivesBy text t fs ks es) (r : List ℕ) (q : Position) → t.rest ≡ r → t.held.position ≡ q →
-    (strict c : Bool) (cs : List Bool) → MayChoose strict c (outside_key es ks) q r →
-    SoFar strict text (a.separation ++ r) (chosen c cs ks (with_entries a.site a.line es)) (tokens_up_to (chosen c cs ks (with_entries a.site a.line es)) ks a.tokens)
-completes_at text t fs ks es a r q e f strict c cs may = grind arith
 
 pub many_around : (fs : List FlowLevel) (ks : List (Option Key)) (es : List Entry) → AreAround fs ks es → length fs ≡ length es
 many_around (f ∷ fs) (k ∷ ks) (e ∷ es) h = ap suc (many_around fs ks es h.2)
@@ -149,17 +136,11 @@ module _ (text : List ℕ) (t : ScannerState) (f : FlowLevel) (fs : List FlowLev
 
   -- to a later position, where other text is left
   module _ (some : is_empty t.rest ≡ false) (end : Position) (rest : List ℕ) (later : NotBefore t.held.position end) where
-    live_inside : (x : Key) → IsLive x end rest → IsLive x t.held.position t.rest
-    live_inside x l = (omega (arith, later.0, l.0), some)
-
     pub unbroken_around : (strict c : Bool) → MayChoose strict c (outside_key es ks) end rest → line_past_separation true (begins_free_line a.site.before a.separation) (line_by c (outside_key es ks) a.line) ≡ Some (line_by c (outside_key es ks) a.line)
-    unbroken_around strict c may = grind (arith, live_inside, not_free, unbroken, around_of, (a.is_line ∙ ap (λ l. Some l) (sym (line_kept (begins_free_line a.site.before a.separation) a.line a.line_here a.no_key a.is_line))))
+    unbroken_around strict c may = grind (arith, not_free, unbroken, around_of, (a.is_line ∙ ap (λ l. Some l) (sym (line_kept (begins_free_line a.site.before a.separation) a.line a.line_here a.no_key a.is_line))))
 
     pub one_around : (piece : List ℕ) → (is_empty rest ≡ false → end.line ≤ t.held.position.line → has_break piece ≡ false) → (strict c : Bool) → MayChoose strict c (outside_key es ks) end rest → (has_break piece && is_waiting (line_by c (outside_key es ks) a.line)) ≡ false
     one_around piece one strict c may = grind (arith, no_waiting, around_before)
 
-    pub may_around : (strict c : Bool) → MayChoose strict c (outside_key es ks) end rest → MayChoose strict c (outside_key es ks) t.held.position t.rest
-    may_around strict c may = grind arith
-
     pub open_around : (q : Position) → NotBefore t.held.position q → IsOpenOutside (outside_key es ks) q end rest a.site.blocks
-    open_around q a = grind (arith, around_of, after_then, not_before_then, last_before, live_inside)
+    open_around q a = grind (arith, around_of, not_before_then, last_before)

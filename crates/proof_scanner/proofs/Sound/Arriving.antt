@@ -1,5 +1,5 @@
 -- The block collections that end where a piece begins: the levels that go on are those of the row, and each end has its token.
-use Rattle.proof_scanner.proofs.Common.{end_level, [], if◌then◌else◌, ap, append-nil, append_assoc, AreLevels, arith, Arrives, before_by, before_past, begins_free_line, begins_separation, begins_token, block_end, blocks, Bool, chained, columns, ends_at, ends_here, false, Fault, free, has_open_level, Holds, Indent, is_adjacent, is_at_comment_or_end, is_deeper, is_empty, is_indented_by_spaces, IsLine, IsLineHere, IsNear, Key, length, Levels, Line, line_past_separation, List, nat_lt, not, not-false, not_ended, on_held, Option, outside_key, Position, put, refl, replicate, Result, ScannerState, site_here, skip_to_next_token, Some, stale, Stands, sym, taken, Token, tried, true, try_held, unroll_indent, unrolled, with_levels, ℕ, ◌&&◌, ◌++◌, ◌+◌, ◌-◌, ◌==◌, ◌>>=◌, ◌∙◌, ◌∷◌, ◌≡◌, ◌≤◌, both_hold, length-append, ArrivesAmong}
+use Rattle.proof_scanner.proofs.Common.{end_level, [], if◌then◌else◌, ap, append-nil, append_assoc, AreLevels, arith, Arrives, before_by, before_past, begins_free_line, begins_separation, begins_token, block_end, blocks, Bool, chained, columns, ends_at, ends_here, false, Fault, free, has_open_level, Holds, Indent, is_adjacent, is_at_comment_or_end, is_deeper, is_empty, is_indented_by_spaces, IsLine, IsLineHere, IsNear, Key, length, Levels, Line, line_past_separation, List, not, not-false, not_ended, on_held, Option, outside_key, Position, put, refl, replicate, Result, ScannerState, site_here, skip_to_next_token, Some, stale, Stands, sym, taken, Token, tried, true, try_held, unroll_indent, unrolled, with_levels, ℕ, ◌&&◌, ◌++◌, ◌+◌, ◌-◌, ◌==◌, ◌>>=◌, ◌∙◌, ◌∷◌, ◌≡◌, ◌≤◌, both_hold, length-append, ArrivesAmong}
 use Rattle.proof_scanner.proofs.Sound.Steps.{exact, shorter, stale_stands, unrolled_in_flow, unrolled_outside}
 use Rattle.proof_scanner.proofs.Sound.Rolled.{all_close, deeper_is}
 use Rattle.proof_scanner.proofs.Sound.ToToken.{passed_stands}
@@ -44,9 +44,6 @@ line_here a broken allowed p rest k l close h = grind arith
 solid_midst : (a : List ℕ) → begins_separation a ≡ false → is_empty a ≡ false → (is_at_comment_or_end a ≡ false) × (begins_token a ≡ true)
 solid_midst b h d = grind arith
 
-indented : (text : List ℕ) (v : ScannerState) (s : Stands text v) → begins_separation v.rest ≡ false → is_empty v.rest ≡ false → is_indented_by_spaces s.base.site.before s.base.site.blocks s.base.site.awaits s.separation ≡ true
-indented text v s solid some = grind (arith, solid_midst)
-
 adjacent : (text : List ℕ) (v : ScannerState) (s : Stands text v) → begins_separation v.rest ≡ false → is_empty v.held.flow ≡ false → is_empty v.rest ≡ false → is_adjacent (before_past (before_by s.base.site.before) s.separation) ≡ (v.held.position.index == v.held.adjacent_value_at)
 adjacent text v s solid fl some =
     let none : v.held.position.index + 0 ≡ v.held.position.index = omega arith in
@@ -74,7 +71,8 @@ arrives_with text v s solid near u blocks awaits levels tokens = record {
   known =
       let k : Option Key = outside_key s.base.entries v.held.keys in
       let line = past_line (not (is_empty v.held.flow)) (begins_free_line s.base.site.before s.separation) v.held.key_allowed v.held.position v.rest k s.base.line s.line_is in
-      let among : ArrivesAmong (with_ends v u) v.held.flow s.base.site s.base.line = search (line, s.is_filled, s, tokens, indented text v s solid, adjacent text v s solid) in
+      let indented : is_empty v.rest ≡ false → is_indented_by_spaces s.base.site.before s.base.site.blocks s.base.site.awaits s.separation ≡ true = λ some. grind (arith, solid_midst) in
+      let among : ArrivesAmong (with_ends v u) v.held.flow s.base.site s.base.line = search (line, s.is_filled, s, tokens, indented, adjacent text v s solid) in
       let near_now : is_empty v.held.flow ≡ true → IsNear k v.held.position = λ out. (grind arith) in
       let line_then = line_here (not (is_empty v.held.flow)) (begins_free_line s.base.site.before s.separation) v.held.key_allowed v.held.position v.rest k s.base.line (λ e. near_now (not-false (is_empty v.held.flow) e)) s.line_is in
       record { among = among; one_each = s.one_each; are_entries = s.are_entries; line_is = line_then; is_open = s.is_open; is_near = near_now; are_numbered = s.are_numbered; carries = s.carries; completes = s.completes };

@@ -1,7 +1,8 @@
 -- Blanks and a comment after a piece, within its line: what the model reads there is all of them, and it stands where they end.
 use Rattle.std.proofs.lemmas.List.{append-nil}
-use Rattle.proof_scanner.proofs.Common.{CommentNotSeparated, [], after, after_spaces, ap, append_assoc, arith, At, begins_with, blanks_and_comment, Bool, comment_of, eqb-true, Err, false, Fault, has_no_break, Holds, if◌then◌else◌, in_line_position, is_blank, is_break, is_line, is_on_line, is_one_of, is_separation, leading, lexed, List, No, not, Ok, or_false, or_true, pass_indicator, past, past_blanks_and_comment, past_comment, past_line_rest, Position, position_after, position_append, position_in_line, Read, refl, refused, Result, same_break, ScannerState, skip_indicator, skip_spaces, skip_while, space, space_step, span_cut, sym, true, walk, went, Whitespace, with_found, Yes, ℕ, ◌&&◌, ◌++◌, ◌==◌, ◌||◌, ◌∙◌, ◌∷◌, ◌≡◌}
+use Rattle.proof_scanner.proofs.Common.{CommentNotSeparated, [], after, after_spaces, ap, append_assoc, arith, At, begins_with, blanks_and_comment, Bool, comment_of, eqb-true, Err, false, Fault, has_no_break, Holds, if◌then◌else◌, in_line_position, is_blank, is_break, is_line, is_on_line, is_one_of, is_separation, leading, lexed, List, No, not, Ok, or_false, or_true, pass_indicator, past, past_blanks_and_comment, past_comment, past_line_rest, Position, position_after, position_append, position_in_line, Read, refl, refused, Result, same_break, ScannerState, skip_indicator, skip_spaces, skip_while, space, space_step, span_cut, sym, true, walk, went, Whitespace, with_found, Yes, ℕ, ◌&&◌, ◌++◌, ◌==◌, ◌||◌, ◌∙◌, ◌∷◌, ◌≡◌, all_leading}
 use Rattle.proof_scanner.proofs.Cut.Pieces.Separations.{no_break_append}
+use Rattle.proof_scanner.proofs.Cut.Pieces.Names.{all_in_line}
 use Rattle.model_scanner.specs.State.{after as after_first}
 use Rattle.proof_scanner.proofs.Cut.Documents.{past_indicator}
 
@@ -15,15 +16,10 @@ same_in_line p l x y h = sym (position_in_line p l x h) ∙ position_in_line p l
 
 pub no_break_in_blanks : (a : List ℕ) → has_no_break (leading is_blank a) ≡ true
 unfolding is_blank is_break
-no_break_in_blanks [] = refl
-no_break_in_blanks (c ∷ a) = grind (arith, no_break_in_blanks a)
-
--- what was found before, and among these blanks
-abbrev with_blanks : Whitespace → List ℕ → Whitespace
-with_blanks w l = record { found_tabs = w.found_tabs || is_one_of l 9; has_valid_yaml_ws = w.has_valid_yaml_ws || is_one_of l 32 }
+no_break_in_blanks a = all_in_line is_blank (λ c h. grind arith) (leading is_blank a) (all_leading is_blank a)
 
 blanks_walked : (a : List ℕ) (p : Position) (w : Whitespace) →
-    walk (space_step Yes) a (record { position = p; found = w }) ≡ record { rest = after is_blank a; state = record { position = position_after p (leading is_blank a) []; found = with_blanks w (leading is_blank a) } }
+    walk (space_step Yes) a (record { position = p; found = w }) ≡ record { rest = after is_blank a; state = record { position = position_after p (leading is_blank a) []; found = record { found_tabs = w.found_tabs || is_one_of (leading is_blank a) 9; has_valid_yaml_ws = w.has_valid_yaml_ws || is_one_of (leading is_blank a) 32 } } }
 unfolding is_blank is_break
 blanks_walked [] p w = grind (arith, or_false)
 blanks_walked (c ∷ a) p w = grind (arith, blanks_walked a)
@@ -31,8 +27,7 @@ blanks_walked (c ∷ a) p w = grind (arith, blanks_walked a)
 -- ---- a comment
 
 pub no_break_in_line : (a : List ℕ) → has_no_break (leading is_on_line a) ≡ true
-no_break_in_line [] = refl
-no_break_in_line (c ∷ a) = grind (arith, no_break_in_line a)
+no_break_in_line a = all_in_line is_on_line (λ c h. grind arith) (leading is_on_line a) (all_leading is_on_line a)
 
 comment_passed : (a : List ℕ) (p : Position) → skip_while is_line a p ≡ record { rest = after is_on_line a; position = position_after p (leading is_on_line a) []; value = tt }
 comment_passed [] p = refl
@@ -158,10 +153,6 @@ pub indicator_passed : (u : ScannerState) (more : List ℕ) → after_first u.re
 unfolding pass_indicator
 indicator_passed u more e = rw (sym e) (rest_skipped (skip_indicator u))
 
--- the position after an indicator
-pub past_one : (p : Position) (c : ℕ) (next : List ℕ) → is_break c ≡ false → position_after p (c ∷ []) next ≡ past p
-past_one p c next e = past_indicator p c next e
-
 -- the position after all of it
 pub indicator_end : (p : Position) (c : ℕ) (more : List ℕ) → is_break c ≡ false → past_line_rest (past p) more ≡ position_after (position_after p (c ∷ []) more) (blanks_and_comment more) (past_blanks_and_comment more)
-indicator_end p c more e = grind (arith, past_one, same_in_line, line_rest_in_line)
+indicator_end p c more e = grind (arith, past_indicator, same_in_line, line_rest_in_line)

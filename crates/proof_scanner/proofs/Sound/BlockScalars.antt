@@ -1,12 +1,12 @@
 -- Block scalars: what holds where one begins holds between two fetches after it. No key waits over it, and after it a key may begin.
-use Rattle.proof_scanner.proofs.Common.{Act, Arrives, Block, BlockStyle, Bool, Holds, IsLive, IsPiece, IsReadOn, IsTakenBy, Key, KnowsKey, Levels, Line, List, MayChoose, None, NotBefore, Ok, Option, Outside, Position, Previous, Read, ScannerState, Site, SoFar, Some, Tok, Token, [], act_of, allow_key, ap, append-nil, append_assoc, arith, awaits_past, before_by, begun_by, block, block_may_end, block_position, block_read, block_scalar, block_style, chosen, collection_of, content_position, false, fetch_block_scalar, folded, free, further_lines_stand, further_position, gives_block_scalar, has_break, has_no_nul, if◌then◌else◌, inl, innermost, is_break, is_empty, is_in_column, is_literal, is_one_of, is_separation, least_for, line_past, literal, may_precede, may_stand, nat_tests, no_nul_after, not, position_after, previous_by, read, refl, seen, shown_position, site_at, site_here, site_in, site_past, subst, suc, sym, take, taken, token, tokens_up_to, true, unroll_non_block_indents, went, without_open, without_spaces, ℕ, ◌&&◌, ◌++◌, ◌∙◌, ◌∷◌, ◌≡◌, ◌⊎◌, eqb-true, go_on, push, with_levels, on_held, on_held}
+use Rattle.proof_scanner.proofs.Common.{Act, Arrives, Block, BlockStyle, Bool, Holds, IsLive, IsPiece, IsReadOn, IsTakenBy, Key, KnowsKey, Levels, Line, List, MayChoose, None, NotBefore, Ok, Option, Outside, Position, Previous, Read, ScannerState, Site, SoFar, Some, Tok, Token, [], act_of, allow_key, ap, append-nil, append_assoc, arith, awaits_past, before_by, begun_by, block, block_may_end, block_position, block_read, block_scalar, block_style, chosen, collection_of, content_position, false, fetch_block_scalar, folded, free, further_lines_stand, further_position, gives_block_scalar, has_break, has_no_nul, if◌then◌else◌, innermost, is_break, is_empty, is_in_column, is_literal, is_one_of, least_for, line_past, literal, may_precede, may_stand, nat_tests, no_nul_after, position_after, previous_by, read, refl, seen, shown_position, site_here, site_in, site_past, subst, suc, sym, take, taken, token, tokens_up_to, true, unroll_non_block_indents, went, without_open, without_spaces, ℕ, ◌&&◌, ◌++◌, ◌∙◌, ◌∷◌, ◌≡◌, ◌⊎◌, eqb-true, go_on, push, with_levels, on_held, on_held}
 use Rattle.model_scanner.specs.declared.kind.BlockStyle as kind
 use Rattle.model_scanner.specs.declared.kind.BlockStyle.TheVariants.{Literal, Folded}
 use Rattle.defs_token.specs.Account as pieces
-use Rattle.proof_scanner.proofs.Sound.Steps.{AreClosed, ArrivesBy, IsDeep, Onward, Reads, adjacent_kept, after_piece, by_sides, is_of_node, knows_saved, last_whole, no_waiting, none_completes, not_before_after, not_before_same, not_before_then, outer_completes, outer_then, outer_tokens, saved, saved_is, saved_keys, some_rest, stands_so, tokens_then, weaker, with_entries, without_is}
+use Rattle.proof_scanner.proofs.Sound.Steps.{AreClosed, ArrivesBy, IsDeep, Onward, Reads, adjacent_kept, after_piece, by_sides, is_of_node, knows_saved, last_whole, no_waiting, not_before_after, not_before_same, not_before_then, outer_then, saved, saved_is, saved_keys, some_rest, stands_so, tokens_then, weaker, with_entries, without_is, is_written, keyless_completes}
 use Rattle.proof_scanner.proofs.Cut.Pieces.Blocks.{spaces_of, spaces_cut, spaces_fill, spaces_position, some_piece, token_of, IsBelow, below}
 use Rattle.proof_scanner.proofs.Sound.BlockEnds.{IsLeast, BlockAs, block_as, ends_at_margin}
-use Rattle.proof_scanner.proofs.Sound.Outsides.{must_be_here, numbered_past, open_node, new_key, keys_saved}
+use Rattle.proof_scanner.proofs.Sound.Outsides.{must_be_here, saved_numbered, open_node, new_key, keys_saved}
 use Rattle.proof_scanner.proofs.Sound.PlainKeeps.{same_innermost}
 
 -- ---- spaces
@@ -95,48 +95,6 @@ module _ (text : List ℕ) (t : ScannerState) (k : Option Key) (a : ArrivesBy te
   stands : may_stand false a.site here a.separation r.piece tok r.next ≡ true
   stands = rw (a.is_indented some, n.lines (least_for tok here) r.piece, n.precedes here.blocks r.piece r.next, r.may_end here.blocks least) refl
 
-  -- no key waits over it
-  is_below : IsBelow p end rest
-  is_below = by r.piece r.is_read is_solid
-    where
-      by : (piece : List ℕ) → block_read (collection_of w.indent) piece r.next ≡ Some r.scalar → is_empty piece ≡ false → IsBelow p (further_position p piece r.next) rest
-      by [] e h = absurd (cc h)
-      by (c ∷ piece) e h = below seen_here w.indent refl (same_innermost here.blocks ∙ sym least.0) c piece r.next r.scalar clean e
-
-  dead : (y : Key) → NotBefore y.position p → IsLive y end rest → ⊥
-  dead y h l = grind (arith, nat_tests, eqb-true, is_below)
-
-  place : end ≡ position_after (position_after p r.piece r.next) gap rest
-  place = spaces_position (position_after p r.piece r.next) r.next
-
-  -- ---- rows
-
-  same_site : site_at false a.site a.separation r.piece tok r.next ≡ here
-  same_site = ap (λ q. site_in false (act_of tok) q a.site) (sym (a.position_is ∙ ap (λ l. position_after a.site.position a.separation l) r.is_text)) ∙ ap (λ b. site_in false b p a.site) n.act
-
-  abbrev site_then : Site
-  site_then = site_past false here r.piece tok r.next here.blocks
-
-  -- what may begin here: a key need not
-  abbrev LineHere : Bool → Type 0
-  LineHere strict = ((a.line_here ≡ free) × ((strict && is_in_column p.col here.blocks) ≡ false)) ⊎ (a.line_here ≡ taken)
-
-  -- if a key need not begin here, and the open one need not be one
-  rows : (strict : Bool) → LineHere strict → MayChoose strict false k t.held.position t.rest → SoFar strict text (gap ++ rest) (with_entries site_then free []) (λ ws last. t.held.tokens ++ own ∷ [])
-  rows strict line may =
-      let after : Outside = record { line = free; blocks = here.blocks } in
-      let all : SoFar strict text r.next (outer_then text a.site a.separation r.piece r.next tok here same_site after) (λ ws last. a.tokens ++ tokens_then a.site here r.piece tok r.next a.line_here) =
-      outer_completes text a.site a.separation r.piece r.next tok here same_site strict false a.line a.line_here after (λ ws last. a.tokens) (λ ws last. a.tokens ++ tokens_then a.site here r.piece tok r.next a.line_here)
-      (assumption ((subst (λ l. is_separation false a.separation l ≡ true) r.is_text a.is_filled), is_solid, is_piece, stands, a.is_line, after_by (strict && is_in_column p.col here.blocks) p here.blocks (act_of tok) a.line_here n.act line, no_waiting (has_break r.piece) false refl))
-      (λ ws last h. outer_tokens text a.site a.separation r.piece r.next tok here same_site a.line a.line_here a.is_line a.tokens ws last h) (subst (λ l. SoFar strict text (a.separation ++ l) (with_entries a.site a.line []) (λ ws last. a.tokens)) r.is_text (none_completes strict text (a.separation ++ t.rest) (with_entries a.site a.line []) (k ∷ []) a.tokens a.no_key refl (a.completes strict false [] may))) in
-      subst (λ l. SoFar strict text l (with_entries site_then free []) (λ ws last. t.held.tokens ++ own ∷ [])) (spaces_cut r.next)
-      (subst (λ es. SoFar strict text r.next (with_entries site_then free es) (λ ws last. t.held.tokens ++ own ∷ [])) n.begun
-      (subst (λ ts. SoFar strict text r.next (with_entries site_then free (begun_by tok)) (λ ws last. ts)) (grind (arith, append-nil, (n.shown here r.piece r.next ∙ ap (λ o. content_position o p r.piece r.next) (ap (λ c. block_read c r.piece r.next) (sym least.0) ∙ r.is_read)), append_assoc)) all))
-
-  -- what may begin at it
-  line_by_allowed : (strict b : Bool) (y : Option Key) → t.held.key_allowed ≡ b → k ≡ y → MayChoose strict false (saved b (new_key t) y) end rest → LineHere strict × MayChoose strict false k t.held.position t.rest
-  line_by_allowed strict b y e i may = grind (arith, must_be_here text t k a within deep, some)
-
   abbrev key_now : Option Key
   key_now = saved t.held.key_allowed (new_key t) k
 
@@ -144,18 +102,45 @@ module _ (text : List ℕ) (t : ScannerState) (k : Option Key) (a : ArrivesBy te
   before_it : (y : Key) → key_now ≡ Some y → NotBefore y.position p
   before_it y e = grind (arith, not_before_same, not_before_then, weaker, not_before_after)
 
+  -- no key waits over it
+  dead : (y : Key) → key_now ≡ Some y → IsLive y end rest → ⊥
+  dead y e l =
+      let early = before_it y e in
+      let low : IsBelow p end rest = below seen_here w.indent refl (same_innermost here.blocks ∙ sym least.0) r.piece r.next r.scalar clean r.is_read in grind (arith, nat_tests, eqb-true, low, early)
+
+  place : end ≡ position_after (position_after p r.piece r.next) gap rest
+  place = spaces_position (position_after p r.piece r.next) r.next
+
+  -- ---- rows
+
+  same : site_in false (act_of tok) p a.site ≡ here
+  same = ap (λ b. site_in false b p a.site) n.act
+
+  abbrev site_then : Site
+  site_then = site_past false here r.piece tok r.next here.blocks
+
+  -- if the key that is open after it need not be one, and none must begin here
+  rows : (strict : Bool) → MayChoose strict false key_now end rest → SoFar strict text (gap ++ rest) (with_entries site_then free []) (λ ws last. t.held.tokens ++ own ∷ [])
+  rows strict may =
+      let here_is : (((a.line_here ≡ free) × ((strict && is_in_column p.col here.blocks) ≡ false)) ⊎ (a.line_here ≡ taken)) × MayChoose strict false k t.held.position t.rest =
+      grind (arith, must_be_here text t k a within deep, some) in
+      let after : Outside = record { line = free; blocks = here.blocks } in
+      let all : SoFar strict text r.next (outer_then text t k a r.piece r.next tok here r.is_text same after) (λ ws last. a.tokens ++ tokens_then a.site here r.piece tok r.next a.line_here) =
+      keyless_completes text t k a r.piece r.next tok here r.is_text same strict after
+      (assumption (is_solid, is_piece, stands, a.is_line, after_by (strict && is_in_column p.col here.blocks) p here.blocks (act_of tok) a.line_here n.act here_is.0, no_waiting (has_break r.piece) false refl)) here_is.1 in
+      subst (λ l. SoFar strict text l (with_entries site_then free []) (λ ws last. t.held.tokens ++ own ∷ [])) (spaces_cut r.next)
+      (subst (λ es. SoFar strict text r.next (with_entries site_then free es) (λ ws last. t.held.tokens ++ own ∷ [])) n.begun
+      (subst (λ ts. SoFar strict text r.next (with_entries site_then free (begun_by tok)) (λ ws last. ts)) (grind (arith, append-nil, (n.shown here r.piece r.next ∙ ap (λ o. content_position o p r.piece r.next) (ap (λ c. block_read c r.piece r.next) (sym least.0) ∙ r.is_read)), append_assoc)) all))
+
   then_rows : (strict c : Bool) (cs : List Bool) (y : Option Key) → key_now ≡ y → MayChoose strict c y end rest →
       SoFar strict text (gap ++ rest) (chosen c cs (y ∷ []) (with_entries site_then free [])) (tokens_up_to (chosen c cs (y ∷ []) (with_entries site_then free [])) (y ∷ []) (t.held.tokens ++ own ∷ []))
-  then_rows strict c cs None e may = grind (arith, line_by_allowed, rows)
-  then_rows true true cs (Some y) e may = absurd (dead y (before_it y e) may)
-  then_rows false true cs (Some y) e may = absurd may
-  then_rows strict false cs (Some y) e may =
-      let q = line_by_allowed strict t.held.key_allowed k refl refl (rw e may) in
-      rows strict q.0 q.1
+  then_rows strict c cs None e may = rows strict (rw e tt)
+  then_rows strict true cs (Some y) e may = absurd (grind (arith, dead))
+  then_rows strict false cs (Some y) e may = rows strict (rw e may)
 
   taken_by : (y : Option Key) → key_now ≡ y → IsTakenBy true end rest y free
   taken_by None e = tt
-  taken_by (Some y) e = λ l. absurd (dead y (before_it y e) l)
+  taken_by (Some y) e = λ l. absurd (dead y e l)
 
   read_on : (b : Previous) → b ≡ block_scalar → IsReadOn b (position_after p r.piece r.next) gap rest
   read_on b e = grind (arith, ends_at_margin, clean)
@@ -167,19 +152,11 @@ module _ (text : List ℕ) (t : ScannerState) (k : Option Key) (a : ArrivesBy te
   -- What stands after a block scalar that was read; the spaces after it are the separation.
   pub block_stands : KnowsKey text (a.separation ++ t.rest) t.held.position k → Onward text t.rest (read_state t w style x)
   block_stands known = rw r.is (rw closed.same_tokens (stands_so text t after_it r.piece r.next gap [] (key_now ∷ []) (with_entries site_then free []) a.is_clean a.started a.going scalar_reads (record {
-    flow_is = within;
-    keys_are = keys_saved t k [] keys;
-    one_each = refl;
-    are_entries = tt;
-    line_is = (inl refl, refl, taken_by key_now refl);
+    fits = grind (arith, within, keys_saved t k [] keys, taken_by key_now refl, saved_numbered t a.tokens _ k [] own a.tokens_are a.are_numbered t.held.key_allowed);
     is_open = open_node text t k a within deep some end rest (grind (arith, place, not_before_then, not_before_after)) (position_after p r.piece r.next) (after_piece p r.piece r.next is_solid);
-    no_key = refl;
-    are_numbered = numbered_past text t k a within deep own t.held.key_allowed;
     carries = λ cs x key m inside some. absurd (cc inside);
-    knows = knows_saved text t r.piece r.next tok r.is_text end gap rest place (spaces_cut r.next) k a (
-      (rw (sym r.is_text) a.is_filled),
-      (ap not is_solid, subst (λ y. IsPiece (seen (with_entries a.site a.line []) y a.separation) r.piece r.next None (shown_position y r.piece tok r.next) tok) (sym same_site) is_piece),
-    ) within deep (ap is_of_node n.act) known;
+    knows = knows_saved text t r.piece r.next tok r.is_text end gap rest place (spaces_cut r.next) k a
+        (is_written text t k a r.piece r.next tok here r.is_text same false a.line is_solid is_piece) within deep (ap is_of_node n.act) known;
     completes = λ strict c cs may. then_rows strict c cs key_now refl may;
   })))
 

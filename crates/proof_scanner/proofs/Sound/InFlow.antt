@@ -1,8 +1,8 @@
 -- A piece in flow was read: if the definition and the scanner agree on its entries and tokens, what holds where it begins holds between two fetches after it.
-use Rattle.proof_scanner.proofs.Common.{[], Account, account_past, act_of, ap, AreEntries, AreNumbered, arith, begins_free_line, begun_by, begun_inside, Bool, chosen, colon_of, columns, entries_by, entries_past, Entry, entry_by, false, FlowLevel, has_break, HasHadHere, is_empty, is_renewed, is_waiting, IsEntryOf, IsLine, IsPiece, Key, least_column, length, length-append, Line, line_by, line_past_separation, List, may_stand, MayChoose, nat_le, None, not, NotBefore, Option, outside_key, pair_position, pop, Position, position_after, previous_by, put, refl, ScannerState, seen, shown_position, Site, site_here, site_past, Some, spelled, Step, suc, sym, takes_pair, Tok, Token, tokens_at, tokens_up_to, true, with_keys, ℕ, ◌&&◌, ◌++◌, ◌∙◌, ◌∷◌, ◌≡◌, ◌≤◌, subst}
-use Rattle.proof_scanner.proofs.Sound.Common.{among, ArrivesBy, but_for_key_past, completes_at, goes_past, had_as_it_was, IsDeep, keys_along, line_taken, may_around, not_before_after, not_before_then, numbered_around, numbered_more, one_around, open_around, past_step, same_levels, some_rest, unbroken, unbroken_around, with_entries, keys_own}
+use Rattle.proof_scanner.proofs.Common.{[], Account, account_past, act_of, ap, AreNumbered, arith, begins_free_line, begun_by, begun_inside, Bool, chosen, colon_of, columns, entries_by, entries_past, Entry, entry_by, false, FlowLevel, has_break, HasHadHere, is_empty, is_renewed, is_waiting, IsEntryOf, IsPiece, Key, least_column, length, length-append, Line, line_by, line_past_separation, List, may_stand, MayChoose, nat_le, None, not, NotBefore, Option, outside_key, pair_position, pop, Position, position_after, previous_by, put, refl, ScannerState, seen, shown_position, Site, site_here, site_past, Some, spelled, Step, suc, sym, takes_pair, Tok, Token, tokens_at, tokens_up_to, true, with_keys, ℕ, ◌&&◌, ◌++◌, ◌∙◌, ◌∷◌, ◌≡◌, ◌≤◌, subst}
+use Rattle.proof_scanner.proofs.Sound.Common.{among, ArrivesBy, but_for_key_past, goes_past, had_as_it_was, IsDeep, keys_along, line_taken, not_before_after, not_before_then, numbered_around, numbered_more, one_around, open_around, past_step, same_levels, some_rest, unbroken, unbroken_around, with_entries, keys_own}
 use Rattle.proof_scanner.proofs.Known.Steps.{keyless, knows_inside}
-use Rattle.proof_scanner.proofs.Sound.Reads.{Onward, Reads, stands_so}
+use Rattle.proof_scanner.proofs.Sound.Reads.{Onward, Reads, stands_so, IsHeld}
 
 module _ (text : List ℕ) (t u : ScannerState) (f : FlowLevel) (fs : List FlowLevel) (k : Option Key) (ks : List (Option Key)) (e : Entry) (es : List Entry) (a : ArrivesBy text t (f ∷ fs) (k ∷ ks) (e ∷ es)) (piece next : List ℕ) (tok : Tok) (ls : List (Option Key)) (es2 : List Entry) where
   -- the sites at the piece and after it, and the account after it in which no open key is one
@@ -20,13 +20,8 @@ module _ (text : List ℕ) (t u : ScannerState) (f : FlowLevel) (fs : List FlowL
 
   -- the scanner goes on so
   pub record Enters (gs : List FlowLevel) (gap : List ℕ) : Type 0 where
-    pub flow_is : u.held.flow ≡ gs
-    pub keys_are : u.held.keys ≡ ls
-    pub one_each : length ls ≡ suc (length gs)
+    pub fits : IsHeld u gs ls (account_then t.held.position) gap
     pub same_key : outside_key es2 ls ≡ outside_key es ks
-    pub are_entries : AreEntries u.held.key_allowed (is_renewed (previous_by tok) gap) gs ls es2
-    pub line_is : IsLine (not (is_empty gs)) u.held.key_allowed (begins_free_line (previous_by tok) gap) u.held.position u.rest (outside_key es2 ls) a.line
-    pub are_numbered : AreNumbered (length u.held.tokens) ls
     pub in_line : is_empty u.rest ≡ false → u.held.position.line ≤ t.held.position.line → has_break piece ≡ false
 
   -- the position, from the last piece
@@ -51,30 +46,23 @@ module _ (text : List ℕ) (t u : ScannerState) (f : FlowLevel) (fs : List FlowL
 
     steps_there : (gs : List FlowLevel) (gap : List ℕ) → Reads t u (flow_past t.held.position) piece next gap → Enters gs gap → Steps piece_here → TokensAre → t.held.position ≡ piece_here → Onward text t.rest u
     steps_there gs gap r g n tokens place = stands_so text t u piece next gap gs ls (account_then t.held.position) a.is_clean a.started a.going r (record {
-      flow_is = g.flow_is;
-      keys_are = g.keys_are;
-      one_each = g.one_each;
-      are_entries = g.are_entries;
-      line_is = g.line_is;
+      fits = g.fits;
       is_open = rw g.same_key
           (open_around text t f fs k ks e es a some u.held.position u.rest later (flow_past t.held.position).position (not_before_after t.held.position piece next));
-      no_key = a.no_key;
-      are_numbered = g.are_numbered;
       carries = λ cs key own must inside more. rw (sym r.is_rest)
           (rw place
-          (but_for_key_past text (a.separation ++ (piece ++ next)) key.position (before false cs) (chosen false cs ls (account_then piece_here)) (flow_step (bit cs)) next refl (grind (arith, same_levels))
+          (but_for_key_past text (a.separation ++ t.rest) key.position (before false cs) (chosen false cs ls (account_then piece_here)) (flow_step (bit cs)) next (ap (λ r. a.separation ++ r) r.cut) (grind (arith, same_levels))
           (account false cs (grind arith) (grind arith))
-          (rw (sym r.cut) (a.carries (choice cs ∷ outer cs) key (sym g.same_key ∙ own) must refl some))));
+          (a.carries (choice cs ∷ outer cs) key (sym g.same_key ∙ own) must refl some)));
       knows = rw g.same_key (knows_inside text t piece next tok r.cut u.held.position gap u.rest r.position_is r.is_rest f fs k ks e es a ((rw (sym r.cut) a.is_filled), (ap not r.is_solid, n.is_piece)));
       completes = λ strict c cs may.
           let was : MayChoose strict c (outside_key es ks) u.held.position u.rest = rw (sym g.same_key) may in
           rw (sym r.is_rest) (rw place
-          (goes_past strict text (a.separation ++ (piece ++ next)) (before c cs) (chosen c cs ls (account_then piece_here)) (tokens_up_to (before c cs) (k ∷ ks) a.tokens) (tokens_up_to (chosen c cs ls (account_then piece_here)) ls u.held.tokens)
-          (flow_step (bit cs)) next refl (grind (arith, same_levels))
+          (goes_past strict text (a.separation ++ t.rest) (before c cs) (chosen c cs ls (account_then piece_here)) (tokens_up_to (before c cs) (k ∷ ks) a.tokens) (tokens_up_to (chosen c cs ls (account_then piece_here)) ls u.held.tokens)
+          (flow_step (bit cs)) next (ap (λ r. a.separation ++ r) r.cut) (grind (arith, same_levels))
           (account c cs (unbroken_around text t f fs k ks e es a some u.held.position u.rest later strict c was) (one_around text t f fs k ks e es a some u.held.position u.rest later piece g.in_line strict c was))
           (λ _ i. ap (λ y. is_waiting (line_by c y a.line)) g.same_key ∙ i) (grind (arith, tokens))
-          (completes_at text t (f ∷ fs) (k ∷ ks) (e ∷ es) a (piece ++ next) piece_here r.cut place strict c (choice cs ∷ outer cs)
-          (rw (sym place) (rw (sym r.cut) (may_around text t f fs k ks e es a some u.held.position u.rest later strict c was))))));
+          (a.completes strict c (choice cs ∷ outer cs) (grind (arith, some, later, was)))));
     })
       where
         some : is_empty t.rest ≡ false
@@ -141,7 +129,7 @@ module _ (text : List ℕ) (t u : ScannerState) (f g : FlowLevel) (fs : List Flo
   pub goes_inside : (gap : List ℕ) → Reads t u (flow_past text t u f fs k ks e es a piece next tok (None ∷ ks) (e2 ∷ es) t.held.position) piece next gap → GoesInside gap → Onward text t.rest u
   goes_inside gap r n =
       steps_in_flow text t u f fs k ks e es a piece next tok (None ∷ ks) (e2 ∷ es) (λ _. false) pop (λ _. false) (g ∷ fs) gap r
-      (assumption (n, a, line_taken text t f fs k ks e es a, numbered_then a.tokens u.held.tokens k ks (tokens_inside at_piece piece tok next e) n.tokens_are a.are_numbered))
+      (record { fits = assumption (n, a, line_taken text t f fs k ks e es a, numbered_then a.tokens u.held.tokens k ks (tokens_inside at_piece piece tok next e) n.tokens_are a.are_numbered); same_key = refl; in_line = λ _ _. n.in_line })
       (record { is_piece = n.is_piece; stands = n.stands; entry_past = λ cs. rw (n.begun, had_as_it_was k e.had) (n.entry_past (entries_by (pop cs) ks es)) }) (λ cs l ws last h.
       let along = keys_along (λ m. suc m) (λ m. suc m) (λ m. refl) (λ m. refl) 0 a.site.position (past_step a.site.position (keyless a.separation piece tok) ws last)
       (keyless a.separation piece tok) ws last (λ m. n.colons m a.site.position ws last) a.site.blocks l (entries_by (pop cs) ks es) ks in

@@ -1,6 +1,6 @@
 -- The last line of a text as the text grows, and the column after it.
 use Rattle.std.proofs.Math.Seq.{take-nil}
-use Rattle.proof_scanner.proofs.Common.{[], and_parts, ap, arith, Bool, eqb-true, false, has_break, has_no_break, has_tab_within, if◌then◌else◌, is_at_line_end, is_break, is_empty, is_one_of, is_separation, last_line, length, List, nat_lt, nat_tests, not, not-true, or-true, Position, position_after, position_past, put_first, refl, split, suc, take, take-append-le, true, ℕ, ◌&&◌, ◌++◌, ◌+◌, ◌-◌, ◌==◌, ◌||◌, ◌∙◌, ◌∷◌, ◌≡◌, ◌≤◌, ◌⊎◌}
+use Rattle.proof_scanner.proofs.Common.{[], and_parts, ap, arith, Bool, eqb-true, false, has_break, has_no_break, has_tab_within, if◌then◌else◌, is_at_line_end, is_break, is_empty, is_one_of, is_separation, last_line, length, List, nat_lt, nat_tests, not, not-true, or-true, Position, position_after, position_past, refl, split, suc, take, take-append-le, true, ℕ, ◌&&◌, ◌++◌, ◌+◌, ◌-◌, ◌==◌, ◌||◌, ◌∙◌, ◌∷◌, ◌≡◌, ◌≤◌, ◌⊎◌}
 
 -- ---- breaks in a text and one character more
 
@@ -14,10 +14,7 @@ break_append (c ∷ a) b = grind (arith, break_append a b)
 complete_is : (r : List ℕ) → is_empty (split r).complete ≡ has_no_break r
 unfolding is_break
 complete_is [] = refl
-complete_is (c ∷ r) = grind (arith, not-true, kept, complete_is r)
-  where
-    kept : (complete : List (List ℕ)) (last : List ℕ) → is_empty (put_first c complete last).complete ≡ is_empty complete
-    kept a last = grind arith
+complete_is (c ∷ r) = grind (arith, not-true, complete_is r)
 
 -- one character more at its start
 pub last_first : (c : ℕ) (r : List ℕ) → last_line (c ∷ r) ≡ (if is_break c || has_break r then last_line r else c ∷ last_line r)

@@ -1,5 +1,7 @@
 -- What a part of a node begins: an opening bracket the first entry of a collection, other pieces nothing.
-use Rattle.proof_scanner.proofs.Common.{[], if◌then◌else◌, Account, act_of, ap, append_assoc, AreNumbered, arith, begun_by, Bool, Colon, colon_of, depth_past, ends_at, entries_by, entries_past, Entry, entry_by, false, filled, first_entry, flow_mapping_start, FlowLevel, gives_node, Had, had_by, HasHadHere, insert, is_keyed, is_waiting, IsLineHere, IsLive, Key, key, key_tokens, length, level_of, Line, line_by, line_past, List, map, MayChoose, None, Option, pair_position, pop, Position, position_after, put, put_key, refl, shown_position, Site, site_here, Some, spelled, Step, suc, taken, takes_pair, Tok, Token, tokens_at, tokens_of_step, tokens_up_to, true, with_had, with_keys, with_line, zero, ℕ, ◌&&◌, ◌++◌, ◌∷◌, ◌≡◌, ◌≤◌, kind_of}
+use Rattle.proof_scanner.proofs.Common.{[], if◌then◌else◌, Account, act_of, ap, append_assoc, AreNumbered, arith, begun_by, Bool, Colon, colon_of, depth_past, ends_at, entries_by, entries_past, Entry, entry_by, false, filled, first_entry, flow_mapping_start, FlowLevel, gives_node, Had, had_by, HasHadHere, insert, is_keyed, is_waiting, IsLineHere, IsLive, Key, key_tokens, length, level_of, Line, line_by, line_past, List, map, MayChoose, None, Option, pair_position, pop, Position, position_after, put, put_key, refl, shown_position, Site, site_here, Some, spelled, Step, suc, taken, takes_pair, Tok, Token, tokens_at, tokens_of_step, tokens_up_to, true, with_had, with_keys, with_line, ℕ, ◌&&◌, ◌++◌, ◌∷◌, ◌≡◌, ◌≤◌, kind_of, length-append, length-take}
+use Rattle.proof_scanner.specs.StandsInRow.{before_key}
+use Rattle.std.proofs.lemmas.List.{length-drop}
 use Rattle.std.proofs.lemmas.List.Edits.{insert-append_left, insert_end}
 use Rattle.proof_scanner.proofs.Sound.Arrivals.{with_entries}
 use Rattle.proof_scanner.proofs.Sound.OutOfFlow.{Outer}
@@ -62,9 +64,7 @@ node_in_entry again allowed c k new e here begun es h q = grind arith
 -- ---- tokens that go in before others, and tokens after all of them
 
 longer : (ts : List Token) (n : ℕ) (t : Token) → length (insert ts n t) ≡ suc (length ts)
-longer ts zero t = refl
-longer [] (suc n) t = refl
-longer (x ∷ ts) (suc n) t = ap suc (longer ts n t)
+longer ts n t = grind (arith, length-append, length-take, length-drop)
 
 key_first : (b : Bool) (start : Token) (n : ℕ) (here : Position) (ts us : List Token) → n ≤ length ts → put_key b start n here (ts ++ us) ≡ put_key b start n here ts ++ us
 key_first b start n here ts us h = grind (arith, longer, insert-append_left)
@@ -84,8 +84,7 @@ fewer m n (k ∷ ks) h a = grind (arith, fewer m n ks)
 
 pub among : (many : ℕ) (ks : List (Option Key)) → AreNumbered many ks → AreAmong many ks
 among many [] a = tt
-among many (None ∷ ks) a = among many ks a.1
-among many (Some k ∷ ks) a = (omega (arith, a.0), fewer k.number many ks (omega (arith, a.0)) (among k.number ks a.1))
+among many (k ∷ ks) a = grind (arith, fewer, among (before_key many k) ks)
 
 pub had_first : (c : Colon) (single : Bool) (d : Had) (k : Option Key) (ts us : List Token) → AreAmong (length ts) (k ∷ []) → with_had c single d k (ts ++ us) ≡ with_had c single d k ts ++ us
 had_first c a d b ts us h = grind (arith, key_first)
@@ -107,8 +106,6 @@ keys_first d p ws last bs l (e ∷ es) (k ∷ ks) ts us a = grind (arith, first_
 pub keys_own : (d : ℕ) (p : Position) (ws : List Step) (last bs : List ℕ) (l : Line) (e : Entry) (es : List Entry) (k : Option Key) (ks : List (Option Key)) (ts own : List Token) → AreAmong (length ts) (k ∷ ks) →
     with_keys d p ws last bs l (e ∷ es) (k ∷ ks) ts ++ own ≡ with_keys (suc d) p ws last bs l es ks (with_had (colon_of d p ws last) (takes_pair e.kind e.pair) e.had k ts ++ own)
 keys_own d p ws last bs l e es k ks ts own a = grind (arith, keys_first, first_among, fewer, had_longer)
-
--- ---- the tokens of a part of a node: with its key put in, or without
 
 -- ---- an entry in which no key waits
 
@@ -144,8 +141,6 @@ keys_past kind d p w ws last e f bs l es ks ts = keys_along (λ n. n) (depth_beg
 -- a key goes in before the tokens of its node
 pub key_between : (begins : Bool) (p : Position) (start : Tok) (here : Position) (ts us : List Token) → put_key begins (put p start) (length ts) here (ts ++ us) ≡ ts ++ (key_tokens begins p start here ++ us)
 key_between a p start here ts us = grind (arith, insert-append_left, insert_end, append_assoc)
-
--- ---- the tokens of the step
 
 -- ---- a part of a node in flow, be it an opening bracket or no collection: its tokens, and where a key that begins with it goes in
 

@@ -1,9 +1,8 @@
 -- A piece outside flow before and after which no key waits: what holds where it begins holds between two fetches after it.
-use Rattle.proof_scanner.proofs.Common.{[], Account, act_of, ap, arith, begins_free_line, begun_by, Bool, columns, Completes, false, free, has_break, if◌then◌else◌, is_deeper, is_empty, is_in_column, is_separation, is_waiting, IsCarriedOn, IsLine, IsLineHere, IsPiece, IsWritten, Key, Line, line_past, List, may_stand, MayChoose, None, not_ended, opened, Option, Outside, placed, Position, position_after, previous_by, refl, ScannerState, seen, shown_position, Site, site_at, site_in, site_past, SoFar, Some, subst, sym, Tok, Token, token, true, ℕ, ◌++◌, ◌∙◌, ◌∷◌, ◌≡◌}
-use Rattle.proof_scanner.proofs.Known.Steps.{keyless, knows_none, begins_key}
-use Rattle.proof_scanner.proofs.Sound.Common.{ArrivesBy, goes_of, is_written, may_be_no_key, no_waiting, outer_completes, outer_tokens, tokens_then, with_entries}
-use Rattle.proof_scanner.proofs.Sound.Reads.{Onward, Reads, stands_so}
-use Rattle.proof_scanner.proofs.Sound.Stales.{none_completes}
+use Rattle.proof_scanner.proofs.Common.{[], Account, act_of, ap, arith, begun_by, Bool, columns, Completes, false, free, has_break, if◌then◌else◌, is_deeper, is_empty, is_in_column, is_waiting, IsCarriedOn, IsLineHere, IsPiece, Key, Line, line_past, List, may_stand, MayChoose, None, not_ended, opened, Option, Outside, placed, Position, position_after, refl, ScannerState, seen, shown_position, Site, site_in, site_past, SoFar, Some, subst, sym, Tok, Token, token, true, ℕ, ◌++◌, ◌∙◌, ◌∷◌, ◌≡◌}
+use Rattle.proof_scanner.proofs.Known.Steps.{knows_none, begins_key}
+use Rattle.proof_scanner.proofs.Sound.Common.{ArrivesBy, goes_of, is_written, may_be_no_key, no_waiting, tokens_then, with_entries, keyless_completes, none_completes}
+use Rattle.proof_scanner.proofs.Sound.Reads.{Onward, Reads, stands_so, IsHeld}
 
 -- what may begin after an indicator that begins a block collection, if none has begun there
 abbrev pub begun_after : (here : Position) → List ℕ → Outside
@@ -17,23 +16,17 @@ with_start start t = (if is_deeper t.held.position.col (columns t.held.indent t.
 abbrev pub site_then : Site → (piece : List ℕ) → Tok → (next : List ℕ) → Outside → Site
 site_then x piece tok next after = site_past false x piece tok next after.blocks
 
--- What the scanner holds after a piece and a separation after it, where no key is open then.
-pub record EndsOutside (u : ScannerState) (tok : Tok) (line : Line) (gap : List ℕ) : Type 0 where
-  pub line_is : IsLine false u.held.key_allowed (begins_free_line (previous_by tok) gap) u.held.position u.rest None line
-  pub no_key : is_waiting line ≡ false
-  pub flow_is : u.held.flow ≡ []
-  pub keys_are : u.held.keys ≡ None ∷ []
-
 -- If the account after it is one of a row, what holds between two fetches holds after it, with this account.
-pub ends_outside : (text : List ℕ) (t u : ScannerState) (k : Option Key) (a : ArrivesBy text t [] (k ∷ []) []) (piece next gap : List ℕ) (tok : Tok) (after : Outside) (x : Site) → t.held.position ≡ x.position →
-    Reads t u (site_then x piece tok next after) piece next gap → EndsOutside u tok after.line gap → IsWritten (with_entries a.site a.line []) (keyless a.separation piece tok) next → begins_key (act_of tok) ≡ false →
+pub ends_outside : (text : List ℕ) (t u : ScannerState) (k : Option Key) (a : ArrivesBy text t [] (k ∷ []) []) (piece next gap : List ℕ) (tok : Tok) (after : Outside) (x : Site) → site_in false (act_of tok) t.held.position a.site ≡ x →
+    Reads t u (site_then x piece tok next after) piece next gap → IsHeld u [] (None ∷ []) (with_entries (site_then x piece tok next after) after.line []) gap → IsPiece (seen (with_entries a.site a.line []) x a.separation) piece next None (shown_position x piece tok next) tok → begins_key (act_of tok) ≡ false →
     ((strict : Bool) → SoFar strict text next (with_entries (site_then x piece tok next after) after.line []) (λ ws last. u.held.tokens)) → Onward text t.rest u
-ends_outside text t u k a piece next gap tok after x place r m written idle rows =
+ends_outside text t u k a piece next gap tok after x same r m is idle rows =
     let base : Account = with_entries (site_then x piece tok next after) after.line [] in
+    let written = is_written text t k a piece next tok x r.cut same false a.line r.is_solid is in
     stands_so text t u piece next gap [] (None ∷ []) base a.is_clean a.started a.going r (
     let carries : IsCarriedOn text (gap ++ u.rest) u.rest (None ∷ []) base = λ cs x key m inside some. absurd (cc inside) in
     let completes : (strict c : Bool) (cs : List Bool) → MayChoose strict c None u.held.position u.rest → SoFar strict text (gap ++ u.rest) base (λ ws last. u.held.tokens) = λ strict c cs may. rw (sym r.is_rest) (rows strict) in
-    assumption (m, carries, completes, knows_none text t piece next tok r.cut u.held.position gap u.rest (r.position_is ∙ ap (λ p. position_after (position_after p piece next) gap u.rest) (sym place)) r.is_rest k a written idle))
+    assumption (m, carries, completes, knows_none text t piece next tok r.cut u.held.position gap u.rest (r.position_is ∙ ap (λ y. position_after (position_after y.position piece next) gap u.rest) (sym same)) r.is_rest k a written idle))
 
 -- What was read where no key is open: a piece at a site, and what the scanner holds after it.
 pub record ReadOutside (text : List ℕ) (t u : ScannerState) (a : ArrivesBy text t [] (None ∷ []) []) (piece next : List ℕ) (tok : Tok) (after : Outside) (x : Site) : Type 0 where
@@ -46,18 +39,13 @@ pub record ReadOutside (text : List ℕ) (t u : ScannerState) (a : ArrivesBy tex
 
 -- What holds between two fetches holds after it, with the account after the piece; the site under another name.
 pub read_outside : (text : List ℕ) (t u : ScannerState) (a : ArrivesBy text t [] (None ∷ []) []) (piece next gap : List ℕ) (tok : Tok) (after : Outside) (x : Site) → site_in false (act_of tok) t.held.position a.site ≡ x →
-    Reads t u (site_then x piece tok next after) piece next gap → EndsOutside u tok after.line gap → ReadOutside text t u a piece next tok after x → Onward text t.rest u
+    Reads t u (site_then x piece tok next after) piece next gap → IsHeld u [] (None ∷ []) (with_entries (site_then x piece tok next after) after.line []) gap → ReadOutside text t u a piece next tok after x → Onward text t.rest u
 read_outside text t u a piece next gap tok after x same r m n =
-    ends_outside text t u None a piece next gap tok after x (ap (λ y. y.position) same) r m (is_written text a.site a.separation piece next tok x here true false a.line a.line_here after (assumption (ap (λ l. is_separation false a.separation l) (sym r.cut) ∙ a.is_filled, r, n, a, no_waiting (has_break piece) (is_waiting after.line) m.no_key, m))) n.begins_none
+    ends_outside text t u None a piece next gap tok after x same r m n.is_piece n.begins_none
     (λ strict. goes_of strict text next (with_entries (site_then x piece tok next after) after.line []) u.held.tokens (rw m.no_key refl) m.no_key
     (rw n.tokens_are
     (subst (λ es. Completes text next (with_entries (site_then x piece tok next after) after.line es) (λ ws last. a.tokens ++ tokens_then a.site x piece tok next a.line_here)) n.begun
-    (outer_completes text a.site a.separation piece next tok x here true false a.line a.line_here after (λ ws last. a.tokens) (λ ws last. a.tokens ++ tokens_then a.site x piece tok next a.line_here) (assumption (ap (λ l. is_separation false a.separation l) (sym r.cut) ∙ a.is_filled, r, n, a, no_waiting (has_break piece) (is_waiting after.line) m.no_key, m))
-    (λ ws last h. outer_tokens text a.site a.separation piece next tok x here a.line a.line_here a.is_line a.tokens ws last h)
-    (subst (λ l. Completes text (a.separation ++ l) (with_entries a.site a.line []) (λ ws last. a.tokens)) r.cut (a.completes true false [] tt))))))
-  where
-    here : site_at false a.site a.separation piece tok next ≡ x
-    here = ap (λ p. site_in false (act_of tok) p a.site) (sym (a.position_is ∙ ap (λ l. position_after a.site.position a.separation l) r.cut)) ∙ same
+    (keyless_completes text t None a piece next tok x r.cut same true after (assumption (r, n, a, no_waiting (has_break piece) (is_waiting after.line) m.no_key, m)) tt))))
 
 -- ---- parts of it
 

@@ -1,6 +1,6 @@
 -- The key that may begin with a node, among the open keys.
-use Rattle.proof_scanner.proofs.Common.{[], After, after, ap, AreNumbered, arith, Bool, eqb-true, false, has_break, is_empty, is_in_column, is_waiting, IsLineHere, IsLive, IsOpenHere, IsOpenOutside, IsTakenBy, Key, length, length-append, line_by, List, MayChoose, must_be_key, nat_tests, not, NotBefore, Option, Position, ScannerState, Site, site_here, Some, subst, sym, taken, Token, ℕ, ◌&&◌, ◌++◌, ◌∙◌, ◌∷◌, ◌≡◌, ◌≤◌}
-use Rattle.proof_scanner.proofs.Sound.Common.{after_then, AreSame, ArrivesBy, first_not_right, IsDeep, must_be, no_waiting, not_before_after, not_before_same, not_before_then, numbered_around, numbered_more, saved, saved_keys, weaker}
+use Rattle.proof_scanner.proofs.Common.{[], After, after, ap, AreNumbered, arith, Bool, eqb-true, false, has_break, is_empty, is_in_column, is_waiting, IsLive, IsOpenHere, IsOpenOutside, IsTakenBy, Key, length, length-append, line_by, List, MayChoose, must_be_key, nat_tests, not, NotBefore, Option, Position, ScannerState, Site, site_here, Some, subst, sym, taken, Token, ℕ, ◌&&◌, ◌++◌, ◌∙◌, ◌∷◌, ◌≡◌, ◌≤◌}
+use Rattle.proof_scanner.proofs.Sound.Common.{AreSame, ArrivesBy, first_not_right, IsDeep, must_be, no_waiting, not_before_after, not_before_same, not_before_then, numbered_around, numbered_more, saved, saved_keys, weaker}
 
 -- the key that may begin here
 abbrev pub new_key : ScannerState → Key
@@ -10,10 +10,10 @@ new_key t = record { required = must_be_key t.held; number = length t.held.token
 pub keys_saved : (t : ScannerState) (k : Option Key) (ks : List (Option Key)) → t.held.keys ≡ k ∷ ks → saved_keys t.held ≡ saved t.held.key_allowed (new_key t) k ∷ ks
 keys_saved t k ks e = grind (arith, new_key)
 
--- in flow the numbers of the open keys are those of tokens so far
-pub numbered_inside : (t : ScannerState) (before : List Token) (k : Option Key) (ks : List (Option Key)) (own : Token) → t.held.tokens ≡ before → AreNumbered (length before) (k ∷ ks) →
+-- the numbers of the open keys are those of tokens so far
+pub saved_numbered : (t : ScannerState) (before more : List Token) (k : Option Key) (ks : List (Option Key)) (own : Token) → t.held.tokens ≡ before ++ more → AreNumbered (length before) (k ∷ ks) →
     (b : Bool) → AreNumbered (length (t.held.tokens ++ (own ∷ []))) (saved b (new_key t) k ∷ ks)
-numbered_inside t before k ks own e h b = grind (arith, length-append, numbered_more, numbered_around)
+saved_numbered t before more k ks own e h b = grind (arith, length-append, numbered_more, numbered_around)
 
 -- ---- a part of a node outside flow, and the open key: the one that was open, or the one that may begin with the node
 
@@ -31,14 +31,8 @@ module _ (text : List ℕ) (t : ScannerState) (k : Option Key) (a : ArrivesBy te
   pub must_be_here : must_be_key t.held ≡ is_in_column t.held.position.col here.blocks
   must_be_here = must_be t.held (ap (λ x. not (is_empty x)) out) a.are_levels deep ∙ ap (λ bs. is_in_column t.held.position.col bs) (sym a.blocks_are)
 
-  pub numbered_past : (own : Token) (b : Bool) → AreNumbered (length (t.held.tokens ++ (own ∷ []))) (saved b (new_key t) k ∷ [])
-  numbered_past own b = grind (arith, numbered_more, length-append)
-
   -- to a later position, where other text is left
   module _ (some : is_empty t.rest ≡ false) (end : Position) (rest : List ℕ) (later : NotBefore t.held.position end) where
-    live_now : (x : Key) → IsLive x end rest → IsLive x t.held.position t.rest
-    live_now x l = (omega (arith, later.0, l.0), some)
-
     pub one_node : (piece : List ℕ) → (is_empty rest ≡ false → end.line ≤ t.held.position.line → has_break piece ≡ false) → (strict c : Bool) → MayChoose strict c (saved t.held.key_allowed (new_key t) k) end rest →
         (has_break piece && is_waiting (line_by c (saved t.held.key_allowed (new_key t) k) taken)) ≡ false
     one_node piece one strict c may = grind (arith, not_before_same, open_before, no_waiting)
@@ -47,11 +41,8 @@ module _ (text : List ℕ) (t : ScannerState) (k : Option Key) (a : ArrivesBy te
     pub taken_node : (allowed : Bool) → (is_empty rest ≡ false → end.line ≤ t.held.position.line → allowed ≡ false) → IsTakenBy allowed end rest (saved t.held.key_allowed (new_key t) k) taken
     taken_node allowed none = grind (arith, not_before_same, open_before)
 
-    pub line_node : IsLineHere false t.held.key_allowed (0 ∷ []) k a.line_here
-    line_node = grind arith
-
     pub same_node : AreSame k end rest a.site.blocks here.blocks
-    same_node = grind (arith, live_now, open_of, open_before)
+    same_node = grind (arith, open_of, open_before)
 
     pub open_node : (q : Position) → After t.held.position q → IsOpenOutside (saved t.held.key_allowed (new_key t) k) q end rest here.blocks
-    open_node q after = grind (arith, after, after_then, not_before_then, (subst (λ x. NotBefore a.site.position x) (sym a.position_is) (not_before_after a.site.position a.separation t.rest)), open_of, nat_tests, eqb-true, open_before, live_now, weaker, first_not_right, must_be_here)
+    open_node q after = grind (arith, after, not_before_then, (subst (λ x. NotBefore a.site.position x) (sym a.position_is) (not_before_after a.site.position a.separation t.rest)), open_of, nat_tests, eqb-true, open_before, weaker, first_not_right, must_be_here)

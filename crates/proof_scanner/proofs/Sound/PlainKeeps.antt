@@ -1,10 +1,10 @@
 -- Plain scalars: what holds between two fetches holds after them.
-use Rattle.proof_scanner.proofs.Common.{Arrives, Bool, Context, Entry, FlowLevel, HasNoTabs, Holds, IsPiece, IsPlainRead, Key, Levels, List, None, Ok, Option, Plain, Position, ScannerState, Site, Some, Style, Tok, [], allow_key, and_parts, ap, arith, before_by, before_past, begins_separation, begins_solid, begins_white, collection_of, comes_plain, ends_with_content, eqb-true, false, fetch_plain_scalar, has_break, has_no_nul, in_flow, innermost, innermost_column, is_adjacent, is_break, is_deep_enough, is_empty, is_gap, is_indented, is_no_comment, is_one_of, is_renewed, is_white, is_whole_plain, leading, least_column, map, nat_tests, not, other, plain_value, position_after, position_append, read, read_as, refl, scans_end, seen, sym, true, unroll_non_block_indents, went, whole_plain, without_open, ℕ, ◌++◌, ◌==◌, ◌∙◌, ◌∷◌, ◌≡◌, ◌≤◌, after_plain, go_on, on_held, push, with_levels}
-use Rattle.defs_token.specs.Account.{Account as PieceAccount, is_in_flow}
+use Rattle.proof_scanner.proofs.Common.{Arrives, Bool, Context, Entry, FlowLevel, HasNoTabs, Holds, IsPiece, IsPlainRead, Key, Levels, List, None, Ok, Option, Plain, Position, ScannerState, Site, Some, Style, Tok, [], allow_key, and_parts, ap, arith, before_by, before_past, begins_separation, begins_solid, begins_white, collection_of, comes_plain, ends_with_content, eqb-true, false, fetch_plain_scalar, has_break, has_no_nul, in_flow, innermost, innermost_column, is_adjacent, is_break, is_deep_enough, is_empty, is_gap, is_indented, is_no_comment, is_one_of, is_white, is_whole_plain, leading, least_column, map, nat_tests, not, other, plain_value, position_after, position_append, read, read_as, refl, scans_end, seen, true, unroll_non_block_indents, went, whole_plain, without_open, ℕ, ◌++◌, ◌==◌, ◌∙◌, ◌∷◌, ◌≡◌, ◌≤◌, after_plain, go_on, on_held, push, with_levels}
+use Rattle.defs_token.specs.Account.{Account as PieceAccount}
 use Rattle.model_scanner.specs.Machine as machine
 use Rattle.model_scanner.specs.Plain.{plain}
 use Rattle.proof_lexers.specs.PlainEnds as plains
-use Rattle.proof_scanner.proofs.Sound.Steps.{AreClosed, ArrivesBy, IsDeep, IsRead, Onward, adjacent_kept, begins_as_read, ends_in_line, gap_is_separation, less_or, node_read, not_before_after, on_one_line, same_flow, same_has_break, saved_is, saved_keys, site_of, site_then, white_is_no_hash, with_entries, without_is}
+use Rattle.proof_scanner.proofs.Sound.Steps.{AreClosed, ArrivesBy, IsDeep, IsRead, Onward, adjacent_kept, begins_as_read, ends_in_line, gap_is_separation, less_or, node_read, not_before_after, on_one_line, same_has_break, saved_is, saved_keys, site_of, site_then, white_is_no_hash, with_entries, without_is}
 use Rattle.proof_scanner.proofs.Cut.Positions.{no_break_on_line}
 use Rattle.proof_scanner.proofs.Sound.PlainLines.{PlainFits, plain_fits}
 
@@ -91,14 +91,11 @@ module _ (text : List ℕ) (t : ScannerState) (a : Arrives text t) (deep : IsDee
       abbrev own : PieceAccount
       own = seen (with_entries r.site r.line es) at r.separation
 
-      own_flow : is_in_flow own ≡ in_flow t.held
-      own_flow = ap not ((grind arith) ∙ sym (same_flow t.held.key_allowed (is_renewed r.site.before r.separation) fs ks es r.are_entries)) ∙ sym (ap (λ f. not (is_empty f)) flow)
-
       least_here : least_column at.blocks true ≡ gone.indent
       least_here = ap (λ bs. least_column bs true) (r.blocks_are ∙ closed.same_columns) ∙ closed.is_least.1
 
       piece_is : IsPiece own q.piece (q.gap ++ x.rest) None t.held.position tok
-      piece_is = grind (arith, own_flow, q, same_innermost at.blocks, closed, begins_as_read ctx (is_adjacent own.before) t.rest t.held.position x, scanned)
+      piece_is = grind (arith, q, same_innermost at.blocks, closed, begins_as_read ctx (is_adjacent own.before) t.rest t.held.position x, scanned)
 
       deep_by : (f : Bool) → f ≡ in_flow t.held → is_deep_enough f tok at ≡ true
       deep_by a h = grind (arith, nat_tests, eqb-true, q, least_here)

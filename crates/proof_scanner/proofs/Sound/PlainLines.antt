@@ -80,11 +80,9 @@ module _ (ctx : Context) (start : Position) (c : ℕ) (a : List ℕ) where
     goes : (t : PlainState) → IsCalm t.mode t.folded.leading → may_go (spot_of m s.folded.leading s.position.col) c ≡ true → IsAt t (past_spot ctx.indent (spot_of m s.folded.leading s.position.col) c) a →
         (ctx.flow && is_apart m && (c == 45) && begins_flow a) ≡ false → is_apart t.mode ≡ (is_break c || is_blank c) → Goes m s (on t)
 
-  module _ (breaks : is_break c ≡ false) where
-    module _ (solid : is_blank c ≡ false) where
-      no_spot : (x : Spot) → may_go x c ≡ true → past_spot ctx.indent x c ≡ in_text
-      unfolding is_blank
-      no_spot a h = grind (arith, breaks, solid)
+  no_spot : is_break c ≡ false → is_blank c ≡ false → (x : Spot) → may_go x c ≡ true → past_spot ctx.indent x c ≡ in_text
+  unfolding is_blank
+  no_spot breaks solid a h = grind arith
 
   -- ---- a turn
 

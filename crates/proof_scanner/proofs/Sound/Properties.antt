@@ -1,7 +1,7 @@
 -- Anchors, aliases and tags: what holds between two fetches holds after them.
 use Rattle.proof_scanner.proofs.Common.{Arrives, Entry, FlowLevel, Holds, Key, List, NameKind, None, Option, Position, ScannerState, Site, Tok, [], anchor_name, anchor_token, another, arith, false, fetch_anchor, fetch_tag, gives_node, in_flow, is_empty, mark_of, node_start, not, on_held, push, read, refl, seen, true, unled, went, ℕ, ◌∙◌, ◌∷◌, ◌≡◌, allow_key}
 use Rattle.model_scanner.specs.Tag as tags
-use Rattle.proof_scanner.proofs.Sound.Steps.{Onward, IsToken, ArrivesBy, awaits_kept, deep_for, IsDeep, IsRead, node_read, reads_before_none, same_flow, saved_is, site_of, site_then, with_entries}
+use Rattle.proof_scanner.proofs.Sound.Steps.{Onward, IsToken, ArrivesBy, deep_for, IsDeep, IsRead, node_read, reads_before_none, same_flow, saved_is, site_of, site_then, with_entries}
 use Rattle.proof_scanner.proofs.Cut.Pieces.Names.{IsProperty, name_property}
 use Rattle.proof_scanner.proofs.Cut.Pieces.Tags.{tag_property}
 use Rattle.proof_scanner.proofs.Sound.Common.{saved_keys}
@@ -36,4 +36,4 @@ anchor_keeps text kind t more e deep a = read (node_start t.held) (anchor_name t
 pub tag_keeps : (text : List ℕ) (t : ScannerState) (more : List ℕ) → t.rest ≡ 33 ∷ more → IsDeep t.held → Arrives text t → Holds (Onward text t.rest) (fetch_tag t)
 unfolding fetch_tag
 tag_keeps text t more e deep a = read (node_start t.held) (tags.tag (in_flow t.held) t.rest t.held.position) _ (λ x k.
-    went (property_stands text t (Tok.tag x.value.handle x.value.suffix) x.rest x.position (tag_property (in_flow t.held) t.held.position t.rest more e x k) (record { act = refl; begun = refl; shown = λ s piece next. refl; previous = refl; least = λ s. refl; lines = λ c p. refl; precedes = λ f bs p n. refl; awaits = awaits_kept _ (λ b. refl) (λ bs b n. refl) }) deep a))
+    went (property_stands text t (Tok.tag x.value.handle x.value.suffix) x.rest x.position (tag_property (in_flow t.held) t.held.position t.rest more e x k) (grind arith) deep a))

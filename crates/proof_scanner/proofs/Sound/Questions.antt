@@ -1,12 +1,11 @@
 -- The function of the model that reads a dash: what holds where it begins holds between two fetches after it.
-use Rattle.proof_scanner.proofs.Common.{BlockEntryInFlow, BlockEntryNotAllowed, TabAfterKey, before_by, [], if◌then◌else◌, weakened, allow_key, another, ap, AreLevels, arith, Arrives, At, begin_key, begins_with_space_or_break, blanks_and_comment, both_hold, check_block_entry, check_dash, check_key_space, checked, columns, dash_may_precede, Entry, eqb-true, false, Fault, fetch_block_entry, fetch_key, FlowLevel, gap, gives_question, has_break, has_open_level, has_tab_before_piece, Held, Holds, in_flow, Indent, inl, is_at_break_or_flow, is_at_gap, is_break, is_empty, is_one_of, is_separation, Key, Keyed, keyed, lexed, List, No, None, not, not-false, Ok, on_held, opened, Option, or_parts, or_true, pair_past, past, peek, Position, position_after, push, refl, remove_implicit_key, Result, roll_entry, roll_indent, same_break, ScannerState, settled, Site, skip_indicator, skip_spaces, skip_yaml_whitespace, space, subst, suc, sym, take, takes_pair, Tok, token, top_needs_block_end, true, try_held, went, Yes, ℕ, ◌==◌, ◌>>=◌, ◌∙◌, ◌∷◌, ◌≡◌, ◌≤◌, refused, append_assoc, append_assoc, append-nil, append-nil}
+use Rattle.proof_scanner.proofs.Common.{BlockEntryInFlow, BlockEntryNotAllowed, TabAfterKey, before_by, [], weakened, allow_key, another, ap, AreLevels, arith, Arrives, At, begin_key, begins_with_space_or_break, blanks_and_comment, both_hold, check_block_entry, check_dash, check_key_space, checked, columns, dash_may_precede, Entry, eqb-true, false, Fault, fetch_block_entry, fetch_key, FlowLevel, gap, gives_question, has_break, has_open_level, has_tab_before_piece, Held, Holds, in_flow, Indent, is_at_break_or_flow, is_at_gap, is_break, is_empty, is_one_of, is_separation, Key, Keyed, keyed, lexed, List, No, None, not, not-false, Ok, on_held, opened, Option, or_parts, or_true, pair_past, past, peek, Position, position_after, push, refl, remove_implicit_key, Result, roll_entry, roll_indent, same_break, ScannerState, settled, Site, skip_indicator, skip_spaces, skip_yaml_whitespace, space, subst, suc, sym, take, takes_pair, Tok, token, top_needs_block_end, true, try_held, went, Yes, ℕ, ◌==◌, ◌>>=◌, ◌∙◌, ◌∷◌, ◌≡◌, ◌≤◌, refused, append_assoc, append_assoc, append-nil, append-nil}
 use Rattle.yaml_chars.specs.Class.{is_break as is_break_here, is_flow as is_flow_here}
 use Rattle.model_scanner.specs.State.{after, after as after_first}
 use Rattle.proof_lexers.proofs.Bridges.{same_flow}
-use Rattle.proof_scanner.proofs.Sound.Steps.{exactly, held_exactly, ArrivesBy, IsDeep, Onward, Reads, RollsTo, adjacent_kept, begins_here, begun_after, by_sides, entry_from, first_not_right, gap_here, goes_inside, indicator_end, key_removed, line_free, line_rest_cut, line_rest_fills, line_rest_in_line, low_enough, none_skipped, opens_one, past_one, past_rest, past_rest_is_clear, read_outside, reads_before_none, rest_read, rolls_to, tokens_before, top_closed, with_sides, with_start}
+use Rattle.proof_scanner.proofs.Sound.Steps.{exactly, held_exactly, ArrivesBy, IsDeep, Onward, Reads, RollsTo, adjacent_kept, begins_here, begun_after, by_sides, entry_from, first_not_right, gap_here, goes_inside, indicator_end, key_removed, line_free, line_rest_cut, line_rest_fills, line_rest_in_line, low_enough, none_skipped, opens_level, past_indicator, past_rest, past_rest_is_clear, read_outside, reads_before_none, rest_read, rolls_to, tokens_before, top_closed, with_sides, with_start}
 use Rattle.model_scanner.specs.declared.level.FlowLevel.TheVariants.{Entry as InEntry}
 use Rattle.proof_scanner.proofs.Sound.WhiteSpaces.{no_tab_before, no_tab_in_last, past_white, past_white_space, white_cut, white_exactly, white_first, white_of}
-use Rattle.proof_lexers.specs.PlainEnds as ends
 
 -- ---- what the model checks
 
@@ -28,7 +27,7 @@ pub record Entered (w u : ScannerState) : Type 0 where
 
 pub entered : (w : ScannerState) → in_flow w.held ≡ false → AreLevels w.held.indent w.held.indents → top_needs_block_end w.held.indents ≡ true → Entered w (roll_entry w)
 unfolding roll_entry is_break_here is_flow_here
-entered w out levels top = grind (arith, same_break, same_flow, opens_one, top_closed)
+entered w out levels top = grind (arith, same_break, same_flow, opens_level, top_closed)
 
 -- ---- the step
 
@@ -67,7 +66,7 @@ dash_outside text more t a e gap allowed deep =
         (reads_before_none (with_sides t [] (None ∷ [])) _ _ (45 ∷ []) more (blanks_and_comment more) refl e (line_rest_cut more) (line_rest_fills more)
         (line_rest_in_line more) refl (indicator_end p 45 more refl) refl refl (ap (opened p.col) a.blocks_are ∙ sym (n.columns_are ∙ r.columns_are)) (sym n.awaits)
         n.are_levels a.was_adjacent (refl, refl, refl))
-        (record { line_is = (inl refl, refl, tt); no_key = refl; flow_is = refl; keys_are = refl }) (grind (arith, append_assoc, append-nil, past_one, line_free, a.is_indented (ap is_empty e))))))
+        (grind arith) (grind (arith, append_assoc, append-nil, past_indicator, line_free, a.is_indented (ap is_empty e))))))
 
 -- A dash that begins an entry is read as in the row.
 pub dash_keeps : (text more : List ℕ) (t : ScannerState) → Arrives text t → t.rest ≡ 45 ∷ more → is_at_gap more ≡ true → IsDeep t.held → Holds (Onward text t.rest) (fetch_block_entry t)
@@ -94,7 +93,7 @@ question_reads : (t u : ScannerState) (more : List ℕ) (y : Site) → t.rest �
     t.held.adjacent_value_at ≤ t.held.position.index → (u.held.adjacent_value_at ≡ t.held.adjacent_value_at) × (u.held.started ≡ t.held.started) × (u.held.ended ≡ t.held.ended) → Reads t u y (63 ∷ []) more (white_of false more)
 unfolding is_break
 question_reads t u more y cut rest fills place leads here before columns_are awaits levels was same =
-    grind (arith, past_one, white_cut, no_tab_in_last, no_tab_taken, adjacent_kept t u (before_by y.before) (63 ∷ []) more (white_of false more) refl)
+    grind (arith, past_indicator, white_cut, no_tab_in_last, no_tab_taken, adjacent_kept t u (before_by y.before) (63 ∷ []) more (white_of false more) refl)
 
 -- ---- the function
 
@@ -119,7 +118,7 @@ question_outside text more t a e gap deep =
     read_outside text v _ a (63 ∷ []) more (white_of false more) Tok.key (begun_after p a.site.blocks) _ refl
     (question_reads v _ more _ e refl fills refl refl refl refl (ap (opened p.col) a.blocks_are ∙ sym r.columns_are) (sym (top_closed r.indents (r.is_top deep)).1)
     r.are_levels a.was_adjacent (refl, refl, refl))
-    (record { line_is = (inl refl, or_true (ends.has_break (white_of false more)), tt); no_key = refl; flow_is = refl; keys_are = refl })
+    (grind (arith, or_true))
     (grind (arith, append_assoc, append-nil, line_free, a.is_indented (ap is_empty e))))))))
   where
     p : Position

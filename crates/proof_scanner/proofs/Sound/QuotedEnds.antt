@@ -1,5 +1,5 @@
 -- What the scanner checks after a quoted scalar: the line holds no more, or goes on as it may.
-use Rattle.proof_scanner.proofs.Common.{Bool, Err, Fault, Holds, List, Ok, Position, Result, ScannerState, SkipTabs, Yes, [], after, and_parts, ap, append_assoc, arith, begins_with, both_hold, chained, check_after_quoted, either, eqb-true, false, goes_on_quoted, has_break, has_no_nul, in_flow, is_at_line_end, is_blank, is_blanks, is_blanks_and_comment, is_break, is_breakz, is_nul, is_on_line, is_separation, leading, line_is_done, may_follow_quoted, no_nul_after, not, or_right, peek, position_after, position_past, quoted_may_end, refl, refused, skip_spaces, space, sym, true, went, ℕ, ◌++◌, ◌<◌, ◌==◌, ◌∙◌, ◌∷◌, ◌≡◌, ◌≤◌, nat_tests}
+use Rattle.proof_scanner.proofs.Common.{Bool, Err, Fault, Holds, List, Ok, Position, Result, ScannerState, SkipTabs, Yes, [], after, and_parts, append_assoc, arith, begins_with, both_hold, chained, check_after_quoted, either, eqb-true, false, goes_on_quoted, has_break, has_no_nul, in_flow, is_at_line_end, is_blank, is_blanks, is_blanks_and_comment, is_break, is_breakz, is_nul, is_on_line, is_separation, leading, line_is_done, may_follow_quoted, no_nul_after, not, or_right, peek, position_after, position_past, quoted_may_end, refl, refused, skip_spaces, space, true, went, ℕ, ◌++◌, ◌<◌, ◌==◌, ◌∷◌, ◌≡◌, ◌≤◌, nat_tests}
 use Rattle.yaml_chars.specs.Class as model_classes
 use Rattle.proof_lexers.specs.PlainEnds as plains
 use Rattle.proof_scanner.proofs.Cut.Passes.{Spaced, spaces_skipped}
@@ -98,11 +98,7 @@ pub record Checked (piece : List ℕ) (t u : ScannerState) : Type 0 where
 checks : (p : Position) (piece : List ℕ) (t u : ScannerState) → ends_in_line piece ≡ true → has_no_nul t.rest ≡ true → t.held.position ≡ position_after p piece t.rest → Spaced Yes t u → begins_with 35 t.rest ≡ false →
     may_follow_quoted (in_flow u.held) (p.line == u.held.position.line) (peek u.rest) ≡ true → Checked piece t u
 checks p piece t u in_line none is s no_hash follows =
-    let g : List ℕ = s.blanks ++ s.comment in
-    let cut : t.rest ≡ g ++ u.rest = s.is_rest ∙ sym (append_assoc s.blanks s.comment u.rest) in
-    let here : u.held.position ≡ position_after (position_after p piece (g ++ u.rest)) g u.rest = ap (λ h. h.position) s.is_held ∙ ap (λ q. position_after q g u.rest) (is ∙ ap (λ r. position_after p piece r) cut) in
-    let same_flow : in_flow u.held ≡ in_flow t.held = ap in_flow s.is_held in
-    record { spaces = s; may_end = grind (arith, cut, here, same_flow, no_nul_after g u.rest, may_end_by (in_flow t.held) p piece g u.rest u.held.position in_line) }
+    let may_end = may_end_by (in_flow t.held) p piece (s.blanks ++ s.comment) u.rest u.held.position in_line in grind (arith, s, may_end, append_assoc, no_nul_after)
 
 pub quoted_checked : (p : Position) (piece : List ℕ) (t : ScannerState) → ends_in_line piece ≡ true → has_no_nul t.rest ≡ true → t.held.position ≡ position_after p piece t.rest → Holds (Checked piece t) (check_after_quoted p.line t)
 unfolding check_after_quoted

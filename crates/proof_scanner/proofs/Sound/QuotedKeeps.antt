@@ -1,36 +1,11 @@
 -- Quoted scalars: what holds between two fetches holds after them.
-use Rattle.proof_scanner.proofs.Common.{Arrives, Bool, Context, Entry, FlowLevel, HasNoTabs, Held, Holds, IsQuotedRead, Key, List, None, Ok, Option, Position, Quotes, ScannerState, Site, Some, Tok, [], adjacent_here, allow_key, and_parts, ap, append_assoc, append_cancel_right, are_single, arith, between, both_hold, chained, columns, context, element_of, ends_before, false, fetch_flow_scalar, gives_node, go_on, has_break, has_no_nul, has_open_level, in_flow, inr, is_break, is_empty, is_nul, least_column, no_nul_after, not, on_held, position_after, position_append, push, quote_of, quoted, quoted_lines_fit, quoted_may_end, quoted_scalar, quoted_style, read, read_as, refl, skip_to_next_token, subst, sym, true, unled, value_of, went, ℕ, ◌&&◌, ◌++◌, ◌-◌, ◌||◌, ◌∙◌, ◌∷◌, ◌≡◌, ◌≤◌, eqb-true, nat_tests}
+use Rattle.proof_scanner.proofs.Common.{Arrives, Bool, Entry, FlowLevel, HasNoTabs, Held, Holds, Key, List, None, Ok, Option, Position, Quotes, ScannerState, Site, Tok, [], adjacent_here, allow_key, and_parts, ap, append_assoc, append_cancel_right, are_single, arith, between, both_hold, chained, columns, context, element_of, false, fetch_flow_scalar, gives_node, go_on, has_break, has_no_nul, has_open_level, in_flow, inr, is_break, is_empty, is_nul, least_column, no_nul_after, not, on_held, position_after, position_append, push, quote_of, quoted, quoted_lines_fit, quoted_may_end, quoted_scalar, quoted_style, read, refl, skip_to_next_token, subst, sym, true, unled, went, ℕ, ◌&&◌, ◌++◌, ◌||◌, ◌∙◌, ◌∷◌, ◌≡◌, ◌≤◌, eqb-true, nat_tests}
 use Rattle.model_scanner.specs.Machine as machine
 use Rattle.proof_lexers.specs.PlainEnds as plains
-use Rattle.proof_lexers.proofs.Quoted.ScanEnds.{scans_end}
-use Rattle.proof_scanner.proofs.Cut.Pieces.Quoted.{some_chars}
+pub use Rattle.proof_scanner.proofs.Cut.Pieces.Quoted.{QuotedAs, piece_of, quoted_as}
 use Rattle.proof_scanner.proofs.Sound.Steps.{ArrivesBy, Checked, Cleared, Exact, IsAt, IsDeep, IsRead, IsToken, Onward, break_append, deep_for, ends_in_line, exact, least_is, node_read, not_before_after, on_one_line, quoted_checked, same_has_break, saved_is, saved_keys, separation_append, site_of, site_then, skip_clears, some_levels, unbroken}
 use Rattle.proof_scanner.proofs.Cut.Stoods.{adjacent_quoted}
 use Rattle.proof_lexers.proofs.Bridges.{or_false}
-use Rattle.proof_scanner.proofs.Sound.QuotedBreaks.{same_limit}
-use Rattle.proof_scanner.proofs.Refusals.QuotedLines.{body_read}
-
--- ---- what was read
-
-abbrev pub piece_of : (single : Bool) → (body : List ℕ) → List ℕ
-piece_of single body = quote_of single ∷ (body ++ quote_of single ∷ [])
-
--- What the scan of a quoted scalar read at a position: the text between its quotes; its further lines are indented.
-pub record QuotedAs (single : Bool) (ctx : Context) (p : Position) (text : List ℕ) (x : machine.Read (List ℕ)) : Type 0 where
-  pub body : List ℕ
-  pub value_is : value_of single body ≡ Some x.value
-  pub ends : ends_before single x.rest ≡ true
-  pub cut : text ≡ piece_of single body ++ x.rest
-  pub end_is : x.position ≡ position_after p (piece_of single body) x.rest
-  pub fits : quoted_lines_fit (ctx.indent - 1) (element_of single) (piece_of single body) ≡ true
-
-pub quoted_as : (quotes : Quotes) (ctx : Context) (p : Position) (more : List ℕ) (x : machine.Read (List ℕ)) → has_no_nul more ≡ true → quoted (are_single quotes) ctx (quote_of (are_single quotes) ∷ more) p ≡ Ok x → QuotedAs (are_single quotes) ctx p (quote_of (are_single quotes) ∷ more) x
-quoted_as quotes ctx p more x none e =
-    let q : IsQuotedRead (are_single quotes) more x = read_as e (scans_end (are_single quotes) ctx more p (some_chars more none)) in
-    let there = body_read (are_single quotes) ctx p (ctx.indent - 1) (λ k. same_limit k ctx.indent) q.body x (rw (sym q.is_text) (some_chars more none))
-    (ap (λ l. quoted (are_single quotes) ctx (quote_of (are_single quotes) ∷ l) p) (sym q.is_text) ∙ e) in
-    let all : quote_of (are_single quotes) ∷ more ≡ piece_of (are_single quotes) q.body ++ x.rest = ap (λ l. quote_of (are_single quotes) ∷ l) q.is_text ∙ (ap (λ l. (quote_of (are_single quotes)) ∷ l) (sym (append_assoc q.body ((quote_of (are_single quotes)) ∷ []) x.rest))) in
-    search (q.is_value, q.may_end, all, there.end_is, there.lines)
 
 -- a quote is no break
 pub in_line : (single : Bool) (body : List ℕ) → ends_in_line (piece_of single body) ≡ true
@@ -40,8 +15,6 @@ in_line single body = last (quote_of single) body
     last : (c : ℕ) (r : List ℕ) → ends_in_line (c ∷ (r ++ quote_of single ∷ [])) ≡ true
     last c [] = grind arith
     last c (d ∷ r) = last d r
-
--- ---- its token
 
 -- ---- the step
 

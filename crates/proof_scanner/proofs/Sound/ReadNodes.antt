@@ -1,8 +1,8 @@
 -- A part of a node was read where a piece begins, be it an opening bracket or no collection: what holds between two fetches holds after it.
-use Rattle.proof_scanner.proofs.Common.{[], Account, AreEntries, Arrives, Bool, Entry, FlowLevel, IsCarriedOn, IsLine, IsNear, IsOpenOutside, IsPairOf, IsPiece, Key, KnowsKey, Line, List, MayChoose, None, NotBefore, Option, Outside, Previous, ScannerState, Site, SoFar, Some, Tok, Token, act_of, ap, arith, begins_free_line, begun_by, chosen, entries_by, false, first_choice, first_entry, further_lines_stand, gives_node, has_break, inl, is_deep_enough, is_empty, is_in_column, is_renewed, least_for, length, line_by, may_precede, may_stand, no_pair, not, outside_key, pop, position_after, previous_by, put, refl, seen, shown_position, site_at, site_here, site_in, site_past, subst, sym, taken, tokens_up_to, true, with_keys, ℕ, ◌++◌, ◌∙◌, ◌∷◌, ◌≡◌, ◌≤◌, must_be_key, kind_of}
-use Rattle.proof_scanner.proofs.Sound.Common.{after_piece, among, by_sides, ArrivesBy, begun_numbered, bit_of, choice_before, choices_around, completes_at, entry_past_node, Goes, IsDeep, levels_by, line_after_node, line_taken, node_in_entry, node_outer_tokens, node_tokens, not_before_after, not_before_then, Outer, outer_completes, past_step, saved, saved_keys, some_rest, tokens_before, with_begun, with_entries, with_no_key}
+use Rattle.proof_scanner.proofs.Common.{[], Account, AreEntries, Arrives, Bool, Entry, FlowLevel, IsCarriedOn, IsPairOf, IsPiece, Key, KnowsKey, Line, List, MayChoose, None, NotBefore, Option, Outside, Previous, ScannerState, Site, SoFar, Some, Tok, Token, act_of, ap, arith, begins_free_line, begun_by, chosen, entries_by, false, first_choice, further_lines_stand, gives_node, has_break, inl, is_deep_enough, is_empty, is_in_column, is_renewed, least_for, length, line_by, may_precede, may_stand, no_pair, not, outside_key, pop, position_after, previous_by, put, refl, seen, shown_position, site_here, site_in, site_past, subst, sym, taken, tokens_up_to, true, with_keys, ℕ, ◌++◌, ◌∙◌, ◌∷◌, ◌≡◌, ◌≤◌, must_be_key, IsLive}
+use Rattle.proof_scanner.proofs.Sound.Common.{after_piece, among, by_sides, ArrivesBy, begun_numbered, bit_of, choice_before, choices_around, entry_past_node, Goes, IsDeep, levels_by, line_after_node, line_taken, node_in_entry, node_outer_tokens, node_tokens, not_before_after, not_before_then, Outer, outer_completes, past_step, saved, saved_keys, some_rest, tokens_before, with_begun, with_entries, with_no_key, is_written, outer_then}
 use Rattle.proof_scanner.proofs.Known.Steps.{knows_saved, is_of_node}
-use Rattle.proof_scanner.proofs.Sound.Outsides.{new_key, keys_saved, numbered_inside, must_be_here, numbered_past, one_node, taken_node, line_node, same_node, open_node}
+use Rattle.proof_scanner.proofs.Sound.Outsides.{new_key, keys_saved, saved_numbered, must_be_here, one_node, taken_node, same_node, open_node}
 use Rattle.proof_scanner.proofs.Sound.InFlow.{steps_in_flow}
 use Rattle.proof_scanner.proofs.Sound.Reads.{Onward, Reads, stands_so}
 
@@ -81,8 +81,8 @@ module _ (text : List ℕ) (t u : ScannerState) (level : Option FlowLevel) (k : 
   abbrev x : Site
   x = site_of t [] a.site
 
-  same_site : site_at false a.site a.separation piece tok (gap ++ u.rest) ≡ x
-  same_site = ap (λ y. site_in false y (position_after a.site.position a.separation (piece ++ (gap ++ u.rest))) a.site) r.act ∙ ap (λ p. site_here false p a.site) (sym place)
+  at_site : site_in false (act_of tok) t.held.position a.site ≡ x
+  at_site = ap (λ y. site_in false y t.held.position a.site) r.act
 
   -- what may begin at it and after it, by a choice after it
   abbrev line_of : Bool → Line → Line
@@ -91,67 +91,50 @@ module _ (text : List ℕ) (t u : ScannerState) (level : Option FlowLevel) (k : 
   abbrev after_by : Bool → Outside
   after_by c = record { line = line_by c key_then taken; blocks = x.blocks }
 
-  goes : (strict c : Bool) → MayChoose strict c key_then u.held.position u.rest → Goes text a.site a.separation piece (gap ++ u.rest) tok x same_site strict (bit_of t.held.key_allowed c) (line_of c a.line) (line_of c a.line_here) (after_by c)
+  goes : (strict c : Bool) → MayChoose strict c key_then u.held.position u.rest → Goes text t k a piece (gap ++ u.rest) tok x r.reads.cut at_site strict (bit_of t.held.key_allowed c) (line_of c a.line) (line_of c a.line_here) (after_by c)
   goes strict c may =
-      let after = line_after_node strict (is_in_column x.position.col x.blocks) t.held.key_allowed c k (new_key t) a.line_here t.held.position u.held.position x.blocks u.rest (line_node text t k a within deep some u.held.position u.rest later) refl (must_be_here text t k a within deep) may in
+      let after = line_after_node strict (is_in_column x.position.col x.blocks) t.held.key_allowed c k (new_key t) a.line_here t.held.position u.held.position x.blocks u.rest (grind (arith, some)) refl (must_be_here text t k a within deep) may in
       let one = one_node text t k a within deep some u.held.position u.rest later piece (λ x y. (r.one_line x y).0) strict c may in
       grind (arith, r, r.reads, a, stands_here text t u level [] (k ∷ []) [] a tok piece gap r, after, one)
 
   rows : (strict c : Bool) (cs : List Bool) → MayChoose strict c key_then u.held.position u.rest → SoFar strict text (gap ++ u.rest) (chosen c cs keys_then base_then) (tokens_up_to (chosen c cs keys_then base_then) keys_then u.held.tokens)
   rows strict c cs may =
-      subst (λ b. SoFar strict text (gap ++ u.rest) b (tokens_up_to b keys_then u.held.tokens))
-      (ap (λ es. record { site = site_then t [] a.site piece tok (gap ++ u.rest); line = line_by c key_then taken; entries = es }) (r.begun ∙ (grind arith)) ∙
-      ap (λ y. record { site = site_then t [] a.site piece tok (gap ++ u.rest); line = line_by c y taken; entries = entries_by cs keys_then (with_begun level []) }) (sym (grind arith)))
-      (outer_completes text a.site a.separation piece (gap ++ u.rest) tok x same_site strict (bit_of t.held.key_allowed c) (line_of c a.line) (line_of c a.line_here) (after_by c) (tokens_up_to (Outer a.site (line_of c a.line)) (k ∷ []) a.tokens)
+      let same : outer_then text t k a piece (gap ++ u.rest) tok x r.reads.cut at_site (after_by c) ≡ chosen c cs keys_then base_then = grind (arith, r.begun) in
+      subst (λ b. SoFar strict text (gap ++ u.rest) b (tokens_up_to b keys_then u.held.tokens)) same
+      (outer_completes text t k a piece (gap ++ u.rest) tok x r.reads.cut at_site strict (bit_of t.held.key_allowed c) (line_of c a.line) (line_of c a.line_here) (after_by c) (tokens_up_to (Outer a.site (line_of c a.line)) (k ∷ []) a.tokens)
       (λ ws last. with_keys 0 (site_then t [] a.site piece tok (gap ++ u.rest)).position ws last x.blocks (line_by c key_then taken) (begun_by tok) keys_then u.held.tokens) (goes strict c may)
       (λ ws last h. rw r.tokens_are (node_outer_tokens level a.site a.separation piece (gap ++ u.rest) tok strict t.held.key_allowed c k (new_key t) a.line a.line_here t.held.position u.held.position u.rest
-      a.tokens t.held.tokens ws last r.act r.begun (line_node text t k a within deep some u.held.position u.rest later) may a.no_key (among (length a.tokens) (k ∷ []) a.are_numbered) h place
+      a.tokens t.held.tokens ws last r.act r.begun (grind (arith, some)) may a.no_key (among (length a.tokens) (k ∷ []) a.are_numbered) h place
       a.tokens_are (r.shown x) refl refl (same_node text t k a within deep some u.held.position u.rest later)))
-      (completes_at text t [] (k ∷ []) [] a (piece ++ (gap ++ u.rest)) (position_after a.site.position a.separation (piece ++ (gap ++ u.rest))) r.reads.cut place strict (choice_before t.held.key_allowed c) []
-      (rw (sym place) (rw (sym r.reads.cut) (grind arith)))))
+      (a.completes strict (choice_before t.held.key_allowed c) [] (grind arith)))
 
   -- where a flow level begins, a key that must be one is on this line
-  carried : (lv : Option FlowLevel) → IsBegun lv t u → ((strict c : Bool) (cs : List Bool) → MayChoose strict c key_then u.held.position u.rest →
-      SoFar strict text (gap ++ u.rest) (chosen c cs (with_no_key lv (key_then ∷ [])) (with_entries (site_then t [] a.site piece tok (gap ++ u.rest)) taken (with_begun lv [])))
-      (tokens_up_to (chosen c cs (with_no_key lv (key_then ∷ [])) (with_entries (site_then t [] a.site piece tok (gap ++ u.rest)) taken (with_begun lv []))) (with_no_key lv (key_then ∷ [])) u.held.tokens)) →
-      IsCarriedOn text (gap ++ u.rest) u.rest (with_no_key lv (key_then ∷ [])) (with_entries (site_then t [] a.site piece tok (gap ++ u.rest)) taken (with_begun lv []))
-  carried None i all cs x is must inner goes = absurd (cc inner)
-  carried (Some lv) i all cs x is must inner goes = record {
-    account = chosen true cs (None ∷ key_then ∷ []) (with_entries (site_then t [] a.site piece tok (gap ++ u.rest)) taken (first_entry (kind_of lv) ∷ []));
-    steps = [];
-    begins = (all true true cs (rw is (let own_line = key_line t.held.key_allowed is in let stays = i.1 in (omega (arith, stays, own_line), goes)))).0;
-    is_inside = refl;
-    line_is = ap (λ o. line_by true o taken) is;
-    must_be = sym ((subst (λ o. IsOpenOutside o (site_then t [] a.site piece tok (gap ++ u.rest)).position u.held.position u.rest (site_of t [] a.site).blocks) is (open_node text t k a within deep some u.held.position u.rest later (site_then t [] a.site piece tok (gap ++ u.rest)).position (after_piece t.held.position piece (gap ++ u.rest) r.reads.is_solid))).1 (let own_line = key_line t.held.key_allowed is in let stays = i.1 in (omega (arith, stays, own_line), goes))).must_be ∙ must;
-    leads = ap (λ l. with_entries (site_then t [] a.site piece tok (gap ++ u.rest)) l (entries_by cs (None ∷ key_then ∷ []) (first_entry (kind_of lv) ∷ []))) (sym (ap (λ o. line_by false o taken) is));
-  }
-    where
-      key_line : (b : Bool) → saved b (new_key t) k ≡ Some x → t.held.position.line ≤ x.position.line
-      key_line true e = let same : new_key t ≡ x = cc e in subst (λ z. t.held.position.line ≤ z.position.line) same (omega arith)
-      key_line false e = (subst (λ o. IsNear o t.held.position) e (a.is_near refl)).0
+  carried : IsCarriedOn text (gap ++ u.rest) u.rest keys_then base_then
+  carried cs y is must inner goes =
+      let own : key_then ≡ Some y = grind arith in
+      let live : IsLive y u.held.position u.rest = let begun = r.is_begun in let near = a.is_near refl in grind arith in
+      let opens = open_node text t k a within deep some u.held.position u.rest later base_then.site.position (after_piece t.held.position piece (gap ++ u.rest) r.reads.is_solid) in
+      record {
+        account = chosen true cs keys_then base_then;
+        steps = [];
+        begins = (rows true true cs (rw own live)).0;
+        is_inside = grind arith;
+        line_is = ap (λ o. line_by true o taken) is;
+        must_be = grind (arith, opens, own, live, must);
+        leads = ap (λ l. with_entries base_then.site l (entries_by cs keys_then base_then.entries)) (sym (ap (λ o. line_by false o taken) is));
+      }
 
   node_outside : t.held.keys ≡ k ∷ [] → KnowsKey text (a.separation ++ t.rest) t.held.position k → Onward text t.rest u
   node_outside keys known =
       let same : outside_key (with_begun level []) keys_then ≡ key_then = (grind arith) in
       stands_so text t u piece (gap ++ u.rest) gap (levels_by level []) keys_then base_then a.is_clean a.started a.going r.reads (record {
-        flow_is = r.flow_is;
-        keys_are = r.keys_are ∙ ap (with_no_key level) (keys_saved t k [] keys);
-        one_each = grind arith;
-        are_entries = grind (arith, r);
-        line_is = subst (λ y. IsLine (not (is_empty (levels_by level []))) u.held.key_allowed (begins_free_line (previous_by tok) gap) u.held.position u.rest y taken) (sym same) (grind (arith, taken_node text t k a within deep some u.held.position u.rest later u.held.key_allowed, r.one_line));
-        is_open = subst (λ y. IsOpenOutside y (site_then t [] a.site piece tok (gap ++ u.rest)).position u.held.position u.rest (site_of t [] a.site).blocks) (sym same) (open_node text t k a within deep some u.held.position u.rest later (site_then t [] a.site piece tok (gap ++ u.rest)).position (after_piece t.held.position piece (gap ++ u.rest) r.reads.is_solid));
-        no_key = refl;
-        are_numbered = rw r.tokens_are (begun_numbered level (length (t.held.tokens ++ (own ∷ []))) (key_then ∷ []) (numbered_past text t k a within deep own t.held.key_allowed));
-        carries = carried level r.is_begun rows;
-        knows = subst (λ y. KnowsKey text (gap ++ u.rest) u.held.position y) (sym same)
-            (knows_saved text t piece (gap ++ u.rest) tok r.reads.cut u.held.position gap u.rest r.reads.position_is refl k a (
-              (rw (sym r.reads.cut) a.is_filled),
-              (
-                ap not r.reads.is_solid,
-                subst (λ y. IsPiece (seen (with_entries a.site a.line []) y a.separation) piece (gap ++ u.rest) None (shown_position y piece tok (gap ++ u.rest)) tok) (sym same_site)
-                    (subst (λ p. IsPiece (seen (with_entries a.site a.line []) x a.separation) piece (gap ++ u.rest) None p tok) (sym (r.shown x)) r.is_piece),
-              ),
-            ) within deep (ap is_of_node r.act) known);
+        fits = let numbered = begun_numbered level (length (t.held.tokens ++ (own ∷ []))) (key_then ∷ []) (saved_numbered t a.tokens _ k [] own a.tokens_are a.are_numbered t.held.key_allowed) in
+            grind (arith, r, keys_saved t k [] keys, taken_node text t k a within deep some u.held.position u.rest later u.held.key_allowed, r.one_line, numbered);
+        is_open = rw same (open_node text t k a within deep some u.held.position u.rest later (site_then t [] a.site piece tok (gap ++ u.rest)).position (after_piece t.held.position piece (gap ++ u.rest) r.reads.is_solid));
+        carries = carried;
+        knows = rw same
+            (knows_saved text t piece (gap ++ u.rest) tok r.reads.cut u.held.position gap u.rest r.reads.position_is refl k a
+            (is_written text t k a piece (gap ++ u.rest) tok x r.reads.cut at_site false a.line r.reads.is_solid (rw (r.shown x) r.is_piece)) within deep (ap is_of_node r.act) known);
         completes = λ strict c cs may. rows strict c cs (rw (sym same) may);
       })
 
@@ -175,7 +158,7 @@ module _ (text : List ℕ) (t u : ScannerState) (level : Option FlowLevel) (f : 
   node_inside keys =
       let n : Entry = entry_past_node t.held.key_allowed e in
       let place = here_is text t u level (f ∷ fs) (k ∷ ks) (e ∷ es) a tok piece gap r in
-      let own = numbered_inside t a.tokens k ks shown_token (tokens_before text t f fs k ks e es a) a.are_numbered t.held.key_allowed in
+      let own = saved_numbered t a.tokens [] k ks shown_token a.tokens_are a.are_numbered t.held.key_allowed in
       let numbered = begun_numbered level (length (t.held.tokens ++ (shown_token ∷ []))) (key_past ∷ ks) own in
       steps_in_flow text t u f fs k ks e es a piece (gap ++ u.rest) tok (with_no_key level (key_past ∷ ks)) (with_begun level (n ∷ es))
       (λ cs. choice_before t.held.key_allowed (first_choice (choices_around level cs))) (λ cs. pop (choices_around level cs)) (λ cs. bit_of t.held.key_allowed (first_choice (choices_around level cs))) (levels_by level (f ∷ fs)) gap r.reads

@@ -26,16 +26,21 @@ pub record Reads (t u : ScannerState) (y : Site) (piece next gap : List ℕ) : T
   pub adjacent_before : u.held.adjacent_value_at ≤ u.held.position.index
   pub unchanged : (u.held.started ≡ t.held.started) × (u.held.ended ≡ t.held.ended)
 
--- What holds between two fetches of a state that was read so, by what a key decides.
-pub record StandsThen (text : List ℕ) (u : ScannerState) (gs : List FlowLevel) (ls : List (Option Key)) (base : Account) (gap : List ℕ) : Type 0 where
+-- What the scanner holds then fits an account, with the separation after the last piece.
+pub record IsHeld (u : ScannerState) (gs : List FlowLevel) (ls : List (Option Key)) (base : Account) (gap : List ℕ) : Type 0 where
   pub flow_is : u.held.flow ≡ gs
   pub keys_are : u.held.keys ≡ ls
   pub one_each : length ls ≡ suc (length gs)
   pub are_entries : AreEntries u.held.key_allowed (is_renewed base.site.before gap) gs ls base.entries
   pub line_is : IsLine (not (is_empty gs)) u.held.key_allowed (begins_free_line base.site.before gap) u.held.position u.rest (outside_key base.entries ls) base.line
-  pub is_open : IsOpenOutside (outside_key base.entries ls) base.site.position u.held.position u.rest base.site.blocks
   pub no_key : is_waiting base.line ≡ false
   pub are_numbered : AreNumbered (length u.held.tokens) ls
+
+-- What holds between two fetches of a state that was read so, by what a key decides.
+pub record StandsThen (text : List ℕ) (u : ScannerState) (gs : List FlowLevel) (ls : List (Option Key)) (base : Account) (gap : List ℕ) : Type 0 where
+  pub fits : IsHeld u gs ls base gap
+  pub open fits use *
+  pub is_open : IsOpenOutside (outside_key base.entries ls) base.site.position u.held.position u.rest base.site.blocks
   pub carries : IsCarriedOn text (gap ++ u.rest) u.rest ls base
   pub knows : KnowsKey text (gap ++ u.rest) u.held.position (outside_key base.entries ls)
   pub completes : (strict c : Bool) (cs : List Bool) → MayChoose strict c (outside_key base.entries ls) u.held.position u.rest → SoFar strict text (gap ++ u.rest) (chosen c cs ls base) (tokens_up_to (chosen c cs ls base) ls u.held.tokens)

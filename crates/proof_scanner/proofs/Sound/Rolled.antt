@@ -1,5 +1,5 @@
 -- The levels of indentation: without those at the top that open no collection; where a block collection begins; and where the value of an entry is awaited.
-use Rattle.proof_scanner.proofs.Common.{[], AreCollections, AreLevels, arith, columns, deepen, drop_open, drop_open_level, eqb-true, false, has_open_level, Held, if◌then◌else◌, in_block, in_flow, Indent, innermost, is_deeper, is_empty, IsNotRight, Levels, List, nat_le, nat_lt, nat_tests, opened, Option, placed, Position, refl, roll_indent, roll_one_col_indent, sym, Tok, Token, token, top_needs_block_end, true, without_open, ℕ, ◌+◌, ◌∷◌, ◌≡◌, ◌≤◌}
+use Rattle.proof_scanner.proofs.Common.{[], AreCollections, AreLevels, arith, columns, deepen, drop_open, drop_open_level, eqb-true, false, has_open_level, Held, if◌then◌else◌, in_block, in_flow, Indent, innermost, is_deeper, is_empty, IsNotRight, Levels, List, nat_le, nat_lt, nat_tests, opened, Option, placed, Position, refl, roll_indent, roll_one_col_indent, sym, Tok, Token, token, top_needs_block_end, true, without_open, ℕ, ◌+◌, ◌∷◌, ◌≡◌, ◌≤◌, not}
 use Rattle.proof_scanner.proofs.Sound.BlockEnds.{IsLeast}
 
 -- What is known of these levels.
@@ -39,15 +39,13 @@ all_close i ds a = grind arith
 pub rolls_to : (col : ℕ) (number : Option ℕ) (tok : Tok) (p : Position) (s : Held) → in_flow s ≡ false → AreLevels s.indent s.indents → IsNotRight (innermost (columns s.indent s.indents)) col →
     RollsTo col number (token p tok) s (roll_indent col number tok p s)
 unfolding roll_indent drop_open_level deepen
-rolls_to col number tok p s out levels right = rw out (all _ (by s.indents refl levels right))
+rolls_to col number tok p s out levels right =
+    let f = by s.indents refl levels right in rw out (record { indents = _; indent = _; is_held = f.0; columns_are = f.1; are_levels = f.2; is_top = f.3 })
   where
     Facts : Held → Type 0
     Facts u =
         (u ≡ record s { indents = u.indents; indent = u.indent; tokens = (if is_deeper col (columns s.indent s.indents) then placed number (token p tok) s.tokens else s.tokens) }) ×
         (columns u.indent u.indents ≡ opened col (columns s.indent s.indents)) × AreLevels u.indent u.indents × (s.indent ≤ col + 1 → top_needs_block_end u.indents ≡ true)
-
-    all : (u : Held) → Facts u → RollsTo col number (token p tok) s u
-    all u f = record { indents = u.indents; indent = u.indent; is_held = f.0; columns_are = f.1; are_levels = f.2; is_top = f.3 }
 
     by : (ds : List Indent) → s.indents ≡ ds → AreLevels s.indent ds → IsNotRight (innermost (columns s.indent ds)) col → Facts (deepen col number (token p tok) (if nat_le s.indent (col + 1) then drop_open s ds else s))
     by [] e l r = grind (arith, nat_tests, eqb-true)
@@ -55,24 +53,18 @@ rolls_to col number tok p s out levels right = rw out (all _ (by s.indents refl 
 
 -- ---- the value of an entry is awaited
 
--- A level that opens no collection stands innermost, and the collections are as before.
-pub record OpensOne (s u : Held) : Type 0 where
+-- A level that opens no collection, where one may stand.
+pub record OpensLevel (s u : Held) : Type 0 where
   pub indents : List Indent
   pub indent : ℕ
   pub is_held : u ≡ record s { indents = indents; indent = indent }
   pub columns_are : columns indent indents ≡ columns s.indent s.indents
   pub are_levels : AreLevels indent indents
-  pub awaits : has_open_level indents ≡ true
+  pub awaits : has_open_level indents ≡ (if in_flow s then has_open_level s.indents else not (is_empty (columns s.indent s.indents)))
 
--- outside flow, in a block collection
-pub opens_one : (s : Held) → in_flow s ≡ false → AreLevels s.indent s.indents → is_empty s.indents ≡ false → OpensOne s (roll_one_col_indent s)
+pub opens_level : (s : Held) → AreLevels s.indent s.indents → OpensLevel s (roll_one_col_indent s)
 unfolding roll_one_col_indent in_block
-opens_one s out levels some = grind arith
-
--- in flow nothing changes
-pub opens_none : (s : Held) → in_flow s ≡ true → roll_one_col_indent s ≡ s
-unfolding roll_one_col_indent in_block
-opens_none s inside = rw inside refl
+opens_level s l = grind arith
 
 -- where a collection is innermost, no value is awaited
 pub top_closed : (ds : List Indent) → top_needs_block_end ds ≡ true → (is_empty ds ≡ false) × (has_open_level ds ≡ false)

@@ -1,5 +1,5 @@
 -- What holds between two fetches holds after the stream's start, and so along a run.
-use Rattle.proof_scanner.proofs.Common.{[], ap, arith, begins, false, Fares, fetch, fetch_stream_start, FetchKeeps, first_account, first_position, goes, has_no_nul, here, inl, inr, IsRead, List, Ok, over, put, Reaches, refl, ScannerState, SoFar, Stands, start, stream_start, subst, sym, there, TokensAreOfARow, true, up_to_nul, ℕ, ◌∷◌, ◌≡◌}
+use Rattle.proof_scanner.proofs.Common.{[], ap, arith, begins, false, Fares, fetch, fetch_stream_start, FetchKeeps, first_account, first_position, goes, has_no_nul, here, inl, inr, List, Ok, over, put, Reaches, refl, ScannerState, SoFar, Stands, start, stream_start, subst, sym, there, TokensAreOfARow, true, up_to_nul, ℕ, ◌∷◌, ◌≡◌}
 use Rattle.proof_scanner.proofs.Sound.Steps.{completed_at_start, goes_of, known_at_start, whole_text}
 
 unfoldable pub stream_started : (text : List ℕ) → has_no_nul text ≡ true → Stands text (fetch_stream_start (start text))
@@ -51,7 +51,4 @@ reached kept text nul t u (there {u = v} going e run) s = reached kept text nul 
 
 -- If each fetch keeps it, the tokens that the model gives a text are those of a row of it, positions included.
 pub read_as_a_row : FetchKeeps → TokensAreOfARow
-read_as_a_row kept text tokens nul h = by (reached kept text nul (start text) h.end h.run (begins refl))
-  where
-    by : Fares text h.end → IsRead text tokens
-    by a = grind arith
+read_as_a_row kept text tokens nul h = let f = reached kept text nul (start text) h.end h.run (begins refl) in grind (arith, f, h)

@@ -1,7 +1,7 @@
 -- What the model skips between tokens leaves no TAB in the indentation of the next one.
 use Rattle.std.proofs.lemmas.List.{length-append}
-use Rattle.proof_scanner.proofs.Common.{TabInBlockIndentation, At, Bool, Err, Fault, Gap, Held, Holds, List, Ok, Previous, Result, ScannerState, [], and_parts, ap, append-nil, append_assoc, arith, begins_line, between, comment, eqb-true, false, has_tab_within, if◌then◌else◌, is_at_comment_or_end, is_before_indent, is_cr_lf, is_empty, last_line, length, moved, no_hash, or-false, or-true, past_line, refl, refused, same_break, skip, subst, suc, tab_line, true, weakened, went, ℕ, ◌&&◌, ◌++◌, ◌==◌, ◌||◌, ◌∷◌, ◌≡◌, ◌⊎◌}
-use Rattle.yaml_chars.specs.Class.{is_break, is_blank}
+use Rattle.proof_scanner.proofs.Common.{TabInBlockIndentation, At, Err, Fault, Gap, Held, Holds, List, Ok, Previous, Result, ScannerState, [], and_parts, ap, append-nil, append_assoc, arith, begins_line, between, comment, eqb-true, false, has_tab_within, is_at_comment_or_end, is_before_indent, is_cr_lf, is_empty, last_line, length, moved, no_hash, or-false, or-true, past_line, refl, refused, same_break, skip, subst, suc, tab_line, true, weakened, went, ℕ, ◌&&◌, ◌++◌, ◌==◌, ◌||◌, ◌∷◌, ◌≡◌, ◌⊎◌}
+use Rattle.yaml_chars.specs.Class.{is_break}
 use Rattle.defs_text.specs.Classes as classes
 use Rattle.proof_scanner.proofs.Sound.LastLines.{break_append, last_more, tab_within_more}
 
@@ -99,13 +99,10 @@ module _ (before : Previous) (least : ℕ) where
     unfolding skip
     tab_by g a c s e l h ih = rw e (grind (arith, w.fails g a c s h, w.blank g c e h, w.further g a c s (moved s), ih tab_line (g ++ c ∷ []) (moved s) l, ih comment (g ++ c ∷ []) (moved s) l))
 
-    one_by : (m : Gap) (g a : List ℕ) (c : ℕ) (s : Held) (b : Bool) → is_break c ≡ b → IsLeast s → IsPassed Tabbed m g s (c ∷ a) → Tells a → Q g (c ∷ a) s (skip m (c ∷ a) s)
-    one_by m g a c s b e l h ih = grind (arith, broken, between_by, comment_by, tab_by)
-
     pub skip_tells : (a : List ℕ) → Tells a
     unfolding skip
     skip_tells [] m g s l h = w.ended g s
-    skip_tells (c ∷ a) m g s l h = one_by m g a c s (is_break c) refl l h (skip_tells a)
+    skip_tells (c ∷ a) m g s l h = grind (arith, broken, between_by, comment_by, tab_by, skip_tells a)
 
   pub skip_clears : (a : List ℕ) (m : Gap) (g : List ℕ) (s : Held) → IsLeast s → IsIn m g s a → Holds (Cleared g a) (skip m a s)
   skip_clears = skip_tells (λ g a s r. Holds (Cleared g a) r) (λ _. Unit {0}) (record {

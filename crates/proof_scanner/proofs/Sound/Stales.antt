@@ -1,16 +1,11 @@
 -- Keys that are too far back are dropped: what holds between two fetches still holds, without them.
-use Rattle.proof_scanner.proofs.Common.{[], Account, ap, append_assoc, AreEntries, arith, Arrives, Bool, chosen, drop_stale, either, Entry, false, first_position, FlowLevel, have_no_key, Held, Holds, in_flow, is_empty, is_far, is_renewed, is_waiting, IsCarriedOn, IsCutUpTo, IsNear, IsPositionIn, Key, length, List, MayChoose, None, not-false, Option, Position, position_after, position_append, refl, refused, ScannerState, SoFar, Some, stale, Stands, StandsWith, Step, subst, suc, sym, Token, tokens_from, tokens_up_to, true, up_to_nul, went, ℕ, ◌++◌, ◌∙◌, ◌∷◌, ◌≡◌}
+use Rattle.proof_scanner.proofs.Common.{[], Account, ap, append_assoc, AreEntries, arith, Arrives, Bool, drop_stale, either, Entry, false, first_position, FlowLevel, Held, Holds, in_flow, is_empty, is_far, is_renewed, IsCarriedOn, IsCutUpTo, IsNear, IsPositionIn, Key, length, List, MayChoose, None, not-false, Option, Position, position_after, position_append, refl, refused, ScannerState, SoFar, Some, stale, Stands, StandsWith, subst, suc, sym, Token, true, up_to_nul, went, ℕ, ◌++◌, ◌∙◌, ◌∷◌, ◌≡◌}
 use Rattle.proof_scanner.proofs.Known.Steps.{known_far}
-use Rattle.proof_scanner.proofs.Sound.Common.{may_be_no_key, none_chosen, none_put, stands_by, with_entries}
+use Rattle.proof_scanner.proofs.Sound.Common.{may_be_no_key, stands_by, with_entries}
 use Rattle.defs_token.specs.Account.{first_account}
 use Rattle.defs_token.specs.Cut.{spelled}
 use Rattle.proof_scanner.proofs.Cut.Positions.{row_position, spelled_before}
-use Rattle.proof_scanner.proofs.Sound.StreamEnds.{entries_no_key}
-
--- rows are completed alike by tokens that are alike
-pub completes_alike : (strict : Bool) (text after : List ℕ) (a : Account) (T U : List Step → List ℕ → List Token) → ((ws : List Step) (last : List ℕ) → T ws last ≡ U ws last) → SoFar strict text after a T → SoFar strict text after a U
-completes_alike true text after a T U same h = (h.0, λ ws last e. h.1 ws last e ∙ ap (λ x. x ++ tokens_from (Some a) ws last) (same ws last))
-completes_alike false text after a T U same h = (h.0, λ ws last e. subst (λ ts. IsCutUpTo text after a ts) (same ws last) (h.1 ws last e))
+use Rattle.proof_scanner.proofs.Sound.StreamEnds.{entries_no_key, none_completes}
 
 -- outside flow there is one open key or none, and no entry
 pub no_entries : (allowed again : Bool) (fs : List FlowLevel) (ks : List (Option Key)) (es : List Entry) → is_empty fs ≡ true → AreEntries allowed again fs ks es → es ≡ []
@@ -19,11 +14,6 @@ no_entries allowed again a ks es o b = grind arith
 pub one_key : (ks : List (Option Key)) (fs : List FlowLevel) → length ks ≡ suc (length fs) → is_empty fs ≡ true → (k : Option Key) × (ks ≡ k ∷ [])
 one_key (k ∷ []) fs n o = (k, refl)
 one_key ks fs n o = absurd (grind arith)
-
--- where no open key is one, the tokens are those that the scanner holds
-pub none_completes : (strict : Bool) (text after : List ℕ) (a : Account) (ks : List (Option Key)) (ts : List Token) → is_waiting a.line ≡ false → have_no_key a.entries ≡ true →
-    SoFar strict text after (chosen false [] ks a) (tokens_up_to (chosen false [] ks a) ks ts) → SoFar strict text after a (λ ws last. ts)
-none_completes strict text after a ks ts no_key none h = grind (arith, completes_alike, none_put, none_chosen)
 
 -- The open key outside flow is dropped, if it need not be one.
 pub key_dropped : (text : List ℕ) (u : ScannerState) → (s : Stands text u) → is_empty u.held.flow ≡ true → (k : Key) → u.held.keys ≡ Some k ∷ [] → is_far k.position u.held.position ≡ true → k.required ≡ false → Stands text (record u { held = record u.held { keys = None ∷ [] } })

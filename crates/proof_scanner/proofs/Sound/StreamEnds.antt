@@ -1,7 +1,7 @@
 -- Where a text ends: no open key is one, and the stream's end and those of the block collections stand where the row has them.
 use Rattle.proof_scanner.proofs.Sound.Rolled.{all_close}
 use Rattle.std.proofs.lemmas.List.{append-nil}
-use Rattle.proof_scanner.proofs.Common.{KeyExpected, if◌then◌else◌, [], Account, AreAround, AreCollections, AreEntries, AreLevels, Arrives, At, Bool, Completes, Entry, FlowLevel, Held, Holds, Indent, IsRead, Key, Line, List, MayChoose, Option, Position, ScannerState, Site, Step, Token, ap, append_assoc, arith, block_end, blocks, checked, chosen, cleared, columns, ended_at, ends_at, ends_here, ends_with_stream, entries_by, false, fetch_stream_end, has_required, have_no_key, in_flow, is_empty, is_renewed, is_waiting, length, may_end, nat_lt, next_line, not, not-true, not_ended, outside_key, pop, position_after, put, refl, replicate, site_here, stream_position, suc, sym, tokens_at_end, tokens_up_to, tried, true, unroll_indent, unrolled, went, with_keys, ℕ, ◌++◌, ◌∙◌, ◌∷◌, ◌≡◌, ◌≤◌, IsNotRight, innermost, end_level}
+use Rattle.proof_scanner.proofs.Common.{KeyExpected, if◌then◌else◌, [], Account, AreAround, AreCollections, AreEntries, AreLevels, Arrives, At, Bool, Completes, Entry, FlowLevel, Held, Holds, Indent, IsRead, Key, Line, List, MayChoose, Option, Position, ScannerState, Site, Step, Token, ap, append_assoc, arith, block_end, blocks, checked, chosen, cleared, columns, ended_at, ends_at, ends_here, ends_with_stream, entries_by, false, fetch_stream_end, has_required, have_no_key, in_flow, is_empty, is_renewed, is_waiting, length, nat_lt, next_line, not, not-true, not_ended, outside_key, pop, position_after, put, refl, replicate, site_here, stream_position, suc, sym, tokens_at_end, tokens_up_to, tried, true, unroll_indent, unrolled, went, with_keys, ℕ, ◌++◌, ◌∙◌, ◌∷◌, ◌≡◌, ◌≤◌, IsNotRight, innermost, end_level, SoFar, tokens_from, IsCutUpTo, subst, Some}
 use Rattle.proof_scanner.proofs.Cut.Documents.{unroll_keeps, unrolled_in_flow}
 use Rattle.proof_scanner.proofs.Sound.Completed.{completed_at_end}
 
@@ -27,6 +27,16 @@ pub none_put : (d : ℕ) (p : Position) (ws : List Step) (last bs : List ℕ) (l
 none_put d p ws last bs l es [] ts h n = refl
 none_put d p ws last bs l [] (k ∷ ks) ts h n = grind arith
 none_put d p ws last bs l (e ∷ es) (k ∷ ks) ts h n = grind (arith, none_put (suc d) p ws last bs l es ks ts h)
+
+-- rows are completed alike by tokens that are alike
+pub completes_alike : (strict : Bool) (text after : List ℕ) (a : Account) (T U : List Step → List ℕ → List Token) → ((ws : List Step) (last : List ℕ) → T ws last ≡ U ws last) → SoFar strict text after a T → SoFar strict text after a U
+completes_alike true text after a T U same h = (h.0, λ ws last e. h.1 ws last e ∙ ap (λ x. x ++ tokens_from (Some a) ws last) (same ws last))
+completes_alike false text after a T U same h = (h.0, λ ws last e. subst (λ ts. IsCutUpTo text after a ts) (same ws last) (h.1 ws last e))
+
+-- where no open key is one, the tokens are those that the scanner holds
+pub none_completes : (strict : Bool) (text after : List ℕ) (a : Account) (ks : List (Option Key)) (ts : List Token) → is_waiting a.line ≡ false → have_no_key a.entries ≡ true →
+    SoFar strict text after (chosen false [] ks a) (tokens_up_to (chosen false [] ks a) ks ts) → SoFar strict text after a (λ ws last. ts)
+none_completes strict text after a ks ts no_key none h = grind (arith, completes_alike, none_put, none_chosen)
 
 -- ---- the ends of block collections
 
@@ -95,22 +105,19 @@ outside_free (e ∷ es) (k ∷ ks) p rest h = grind (arith, outside_free es ks p
 -- the text is read as the tokens before the separation and those at its end
 at_end : (text : List ℕ) (t : ScannerState) (a : Arrives text t) → t.rest ≡ [] → has_required t.held.keys ≡ false → IsRead text (a.tokens ++ tokens_at_end t.held.position a.base.site.blocks a.base.entries)
 at_end text t a e required =
-    let none : Account = chosen false [] t.held.keys a.base in
     let plain : have_no_key a.base.entries ≡ true = entries_no_key t.held.key_allowed (is_renewed a.base.site.before a.separation) t.held.flow t.held.keys a.base.entries a.are_entries in
-    let ends : may_end a.base ≡ true = rw (a.no_key, plain) refl in
     let last : a.separation ++ t.rest ≡ a.separation = ap (λ x. a.separation ++ x) e ∙ append-nil a.separation in
-    let own : Completes text a.separation a.base (λ ws z. tokens_up_to a.base t.held.keys a.tokens ws z) =
-    rw (sym (none_chosen t.held.keys a.base)) (rw (sym last) (a.completes true false [] (outside_free a.base.entries t.held.keys t.held.position t.rest required))) in
-    let whole : IsRead text (tokens_up_to a.base t.held.keys a.tokens [] a.separation ++ tokens_at_end (position_after a.base.site.position a.separation []) a.base.site.blocks a.base.entries) =
-    completed_at_end text a.separation a.base (λ ws z. tokens_up_to a.base t.held.keys a.tokens ws z) (rw (sym e) a.is_filled) ends own in
-    let put_none : tokens_up_to a.base t.held.keys a.tokens [] a.separation ≡ a.tokens = none_put 0 a.base.site.position [] a.separation a.base.site.blocks a.base.line a.base.entries t.held.keys a.tokens a.no_key plain in
+    let own : Completes text a.separation a.base (λ ws z. a.tokens) = rw (sym last) (none_completes true text (a.separation ++ t.rest) a.base t.held.keys a.tokens a.no_key plain (a.completes true false [] (outside_free a.base.entries t.held.keys t.held.position t.rest required))) in
     let same : position_after a.base.site.position a.separation [] ≡ t.held.position = ap (λ x. position_after a.base.site.position a.separation x) (sym e) ∙ sym a.position_is in
-    rw (sym put_none) (rw (sym same) whole)
+    rw (sym same) (completed_at_end text a.separation a.base (λ ws z. a.tokens) (rw (sym e) a.is_filled) (rw (a.no_key, plain) refl) own)
 
--- what the scanner holds after the ends of all levels
-unrolled_outside : (s : Held) → in_flow s ≡ false → AreLevels s.indent s.indents → ((unroll_indent 0 s).tokens ≡ s.tokens ++ ends_of (length (columns s.indent s.indents)) s.position) × ((unroll_indent 0 s).position ≡ s.position)
+-- all levels have ended
+abbrev pub all_ended : Held → Held
+all_ended s = record s { indent = 0; indents = []; tokens = s.tokens ++ ends_of (length (columns s.indent s.indents)) s.position }
+
+pub ended_outside : (s : Held) → in_flow s ≡ false → AreLevels s.indent s.indents → unroll_indent 0 s ≡ all_ended s
 unfolding unroll_indent
-unrolled_outside s e a = rw e (ap (λ u. u.tokens) (all_levels s.position s.indent s.indents s.tokens a), refl)
+ended_outside s e a = grind (arith, all_levels)
 
 -- the scanner where its stream ends, before the last ends
 abbrev at_stream_end : Held → Held
@@ -121,7 +128,7 @@ same_flow allowed again a ks es b = grind arith
 
 last_tokens : (h : Held) (ts : List Token) (x : Site) (es : List Entry) → is_empty h.flow ≡ is_empty es → AreLevels h.indent h.indents → h.tokens ≡ ts ++ ends_here (not (is_empty h.flow)) h.position x.blocks →
     (site_here (not (is_empty h.flow)) h.position x).blocks ≡ columns h.indent h.indents → (ended_at (unroll_indent 0 (at_stream_end h))).tokens ≡ ts ++ tokens_at_end h.position x.blocks es
-last_tokens h ts x [] e levels tokens blocks = grind (arith, unrolled_outside, append_assoc, ends_by_levels, ends_here, columns)
+last_tokens h ts x [] e levels tokens blocks = grind (arith, ended_outside, append_assoc, ends_by_levels, ends_here, columns)
 last_tokens h ts x (y ∷ es) e levels tokens blocks = grind (arith, unrolled_in_flow, not-true, append-nil)
 
 -- At the text's end the stream ends, unless a key must still come to its colon, and the tokens are those of a row of the text.

@@ -1,5 +1,5 @@
 -- The way to the next token, or to the text's end, keeps what holds between two fetches, with the separation up to there.
-use Rattle.proof_scanner.proofs.Common.{Site, AreEntries, BeginsButForKey, Bool, HasNoTabs, Holds, IsAdjacent, IsLine, IsLive, IsOpenHere, IsOpenOutside, IsReadOn, IsTakenBy, Key, KnowsKey, Line, List, None, Option, Position, Previous, ScannerState, SoFar, Some, Stands, [], after_separation, ap, append_assoc, append_cancel_right, arith, before_by, before_past, begins_free_line, begins_separation, between, both_hold, chosen, false, follows_plain, has_no_nul, in_flow, is_at_comment_or_end, is_empty, is_indented_by_spaces, is_one_of, is_separation, least_column, not, or-false, outside_key, plain_scalar, position_after, position_append, refl, skip_to_next_token, subst, sym, tokens_up_to, true, weakened, went, ℕ, ◌&&◌, ◌++◌, ◌==◌, ◌||◌, ◌∙◌, ◌∷◌, ◌≡◌, ◌≤◌, IsCarriedOn, IsLeading, MayChoose}
+use Rattle.proof_scanner.proofs.Common.{Site, AreEntries, BeginsButForKey, Bool, HasNoTabs, Holds, IsAdjacent, IsLine, IsLive, IsOpenHere, IsOpenOutside, IsReadOn, IsTakenBy, Key, KnowsKey, Line, List, None, Option, Position, Previous, ScannerState, SoFar, Some, Stands, [], after_separation, ap, append_assoc, append_cancel_right, arith, before_by, before_past, begins_free_line, begins_separation, between, both_hold, chosen, false, follows_plain, has_no_nul, in_flow, is_at_comment_or_end, is_empty, is_indented_by_spaces, is_one_of, is_separation, least_column, not, or-false, outside_key, plain_scalar, position_after, position_append, refl, skip_to_next_token, subst, sym, tokens_up_to, true, weakened, went, ℕ, ◌&&◌, ◌++◌, ◌==◌, ◌||◌, ◌∙◌, ◌∷◌, ◌≡◌, ◌≤◌, IsCarriedOn, IsLeading, MayChoose, cases_Bool, inl, inr}
 use Rattle.proof_lexers.specs.PlainEnds as plain_ends
 use Rattle.proof_lexers.proofs.Separation.EachSeparation.{no_nul_after}
 use Rattle.proof_scanner.proofs.Sound.Steps.{Cleared, Exact, IsAt, IsIn, Spaced, column_after, exact, free_line_append, goes_on, index_after, known_past, last_whole, least_is, live_before_it, may_before, no_comment_in_last, not_before_after, read_on_append, renewed_alike, same_has_break, separation_append, skip_clears, skip_stays, stands_by, unbroken}
@@ -24,9 +24,6 @@ no_plain : (b : Previous) (q : Position) (f g rest rest2 : List ℕ) → rest �
 no_plain plain_scalar q f (c ∷ p) rest rest2 cut r begins solid fills = grind (arith, among)
 no_plain b q f g rest rest2 cut r begins solid fills = grind arith
 
-indented_after : (b : Previous) (bs : List ℕ) (aw : Bool) (g : List ℕ) → follows_plain b g ≡ false → Spaced b (least_column bs aw) g → is_indented_by_spaces b bs aw g ≡ true
-indented_after b bs aw g f h = grind arith
-
 -- what may begin outside flow
 line_after : (fl allowed broken breaks : Bool) (k : Option Key) (p p2 : Position) (rest rest2 : List ℕ) (l : Line) → ((x : Key) → IsLive x p2 rest2 → IsLive x p rest) → ((x : Key) → k ≡ Some x → IsLive x p2 rest2 → breaks ≡ false) →
     IsLine fl allowed broken p rest k l → IsLine fl ((not fl && breaks) || allowed) (broken || breaks) p2 rest2 k l
@@ -49,7 +46,7 @@ module _ (text : List ℕ) (t u : ScannerState) (s : Stands text t) (begins : be
   Now = after_separation t.held e.is_leading e.separation u.rest
 
   tabs : HasNoTabs s.base.site (s.separation ++ e.separation) u.rest
-  tabs = grind (arith, indented_after s.base.site.before s.base.site.blocks s.base.site.awaits (s.separation ++ e.separation), no_plain s.base.site.before s.base.site.position s.separation e.separation t.rest u.rest e.cut s.read_on begins e.solid e.is_filled, at)
+  tabs = grind (arith, no_plain s.base.site.before s.base.site.position s.separation e.separation t.rest u.rest e.cut s.read_on begins e.solid e.is_filled, at)
 
   -- a key that may be one now might be one before
   live : (x : Key) → IsLive x (position_after t.held.position e.separation u.rest) u.rest → IsLive x t.held.position t.rest
@@ -91,11 +88,10 @@ module _ (text : List ℕ) (t u : ScannerState) (s : Stands text t) (begins : be
 -- At the next token, or at the text's end, what holds between two fetches holds.
 pub passed_stands : (text : List ℕ) (t : ScannerState) → Stands text t → Holds (λ u. Stands text u × (begins_separation u.rest ≡ false)) (skip_to_next_token t)
 unfolding skip_to_next_token
-passed_stands text t s = by (begins_separation t.rest) refl
-  where
-    by : (x : Bool) → begins_separation t.rest ≡ x → Holds (λ u. Stands text u × (begins_separation u.rest ≡ false)) (skip_to_next_token t)
-    by false h = rw (skip_stays t.rest t.held h) (went (s, h))
-    by true h =
-        let site : Site = s.base.site in
-        weakened (λ u x. (rw x.0.is_state (now text t u s h x.0 x.1), x.0.solid)) (both_hold (exact t)
-        (skip_clears site.before (least_column site.blocks site.awaits) t.rest between s.separation t.held (least_is site.blocks site.awaits t.held s.blocks_are s.awaits_is s.are_levels) (is_in text t s h)))
+passed_stands text t s = elim (cases_Bool (begins_separation t.rest)) [
+  | inl h ↦
+      let site : Site = s.base.site in
+      weakened (λ u x. (rw x.0.is_state (now text t u s h x.0 x.1), x.0.solid)) (both_hold (exact t)
+      (skip_clears site.before (least_column site.blocks site.awaits) t.rest between s.separation t.held (least_is site.blocks site.awaits t.held s.blocks_are s.awaits_is s.are_levels) (is_in text t s h)))
+  | inr h ↦ rw (skip_stays t.rest t.held h) (went (s, h))
+]

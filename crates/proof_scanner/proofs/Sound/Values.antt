@@ -1,9 +1,9 @@
 -- A colon that ends no key: what holds where it begins holds between two fetches after it.
-use Rattle.proof_scanner.proofs.Common.{ValueNotAllowed, [], if◌then◌else◌, Account, allow_key, another, ap, append-nil, append_assoc, AreLevels, arith, Arrives, At, before_by, before_past, begin_keyless_mapping, begin_keyless_value, begin_pair, begins_free_line, Bool, chained, check_value_space, checked, chosen, colon_may_precede, columns, ends_at, entries_by, Entry, entry_by, false, Fault, fetch_value, first_account, FlowLevel, gives_colon, has_open_level, Held, Holds, in_flow, Indent, inl, innermost, inr, insert, insert_key, is_adjacent, is_break, is_deeper, is_empty, is_near, is_value, is_value_indicator, IsEntryOf, IsLive, IsNotRight, Key, length, length-append, Line, List, None, not, not-false, not_ended, Ok, on_held, opened, opens_pair, Option, Outside, outside_key, pair_past, pair_position, paired, past, placed, pop, Position, position_after, push, put, put_key, refl, Result, roll_indent, roll_one_col_indent, ScannerState, settled, Site, site_at, site_here, Some, spelled, Step, subst, suc, sym, taken, takes_pair, Tok, Token, token, tokens_at, tokens_of_step, tokens_up_to, top_key, tried, true, try_held, waits, went, with_held, with_keys, ℕ, ◌++◌, ◌==◌, ◌>>=◌, ◌||◌, ◌∙◌, ◌∷◌, ◌≡◌, ◌≤◌, KeysBefore, keys_before, line_grows, free, AreNumbered, is_required, keyed}
+use Rattle.proof_scanner.proofs.Common.{ValueNotAllowed, [], if◌then◌else◌, Account, allow_key, another, ap, append-nil, append_assoc, AreLevels, arith, Arrives, At, before_by, before_past, begin_keyless_mapping, begin_keyless_value, begin_pair, begins_free_line, Bool, chained, check_value_space, checked, chosen, colon_may_precede, columns, ends_at, entries_by, Entry, entry_by, false, Fault, fetch_value, first_account, FlowLevel, gives_colon, has_open_level, Held, Holds, in_flow, Indent, innermost, insert, insert_key, is_adjacent, is_break, is_deeper, is_empty, is_near, is_value, is_value_indicator, IsEntryOf, IsLive, IsNotRight, Key, length, length-append, Line, List, None, not, not-false, not_ended, Ok, on_held, opened, opens_pair, Option, Outside, outside_key, pair_past, pair_position, paired, past, placed, pop, Position, position_after, push, put, put_key, refl, Result, roll_indent, roll_one_col_indent, ScannerState, settled, Site, site_here, Some, spelled, Step, subst, suc, sym, taken, takes_pair, Tok, Token, token, tokens_at, tokens_of_step, tokens_up_to, top_key, tried, true, try_held, waits, went, with_held, with_keys, ℕ, ◌++◌, ◌==◌, ◌>>=◌, ◌||◌, ◌∙◌, ◌∷◌, ◌≡◌, ◌≤◌, KeysBefore, keys_before, line_grows, AreNumbered, is_required, in_block}
 use Rattle.model_scanner.specs.declared.level.FlowLevel.TheVariants.{Pair as InPair}
 use Rattle.model_scanner.specs.Block.{value_of}
-use Rattle.proof_scanner.proofs.Sound.Steps.{exactly, held_exactly, Onward, among, by_sides, with_sides, ArrivesBy, begun_after, ends_outside, first_not_right, goes_inside, goes_of, is_written, IsDeep, key_longer, keyless, keys_along, line_free, line_taken, low_enough, no_waiting, not_before_after, not_before_then, numbered_around, numbered_more, opens_none, opens_one, OpensOne, Outer, outer_completes, outer_then, past_one, past_step, read_outside, Reads, reads_before_none, rolls_to, RollsTo, some_levels, steps_in_flow, tokens_before, value_is, weaker, with_entries, with_start, line_rest_in_line, same_in_line}
-use Rattle.proof_scanner.proofs.Sound.ColonSpaces.{colon_gap, colon_spaced, gap_is, past_colon, past_gap}
+use Rattle.proof_scanner.proofs.Sound.Steps.{exactly, held_exactly, Onward, among, by_sides, with_sides, ArrivesBy, begun_after, ends_outside, first_not_right, goes_inside, goes_of, IsDeep, key_longer, keyless, keys_along, line_free, line_taken, low_enough, no_waiting, not_before_after, not_before_then, numbered_around, numbered_more, Outer, outer_completes, outer_then, past_indicator, past_step, read_outside, Reads, reads_before_none, rolls_to, RollsTo, steps_in_flow, tokens_before, value_is, weaker, with_entries, with_start, line_rest_in_line, same_in_line, OpensLevel, opens_level}
+use Rattle.proof_scanner.proofs.Sound.ColonSpaces.{colon_gap, colon_spaced, gap_is, past_gap}
 use Rattle.proof_scanner.proofs.Sound.Questions.{pair_level}
 use Rattle.model_scanner.specs.State.{after}
 use Rattle.proof_scanner.proofs.Sound.Common.{keys_own}
@@ -36,7 +36,7 @@ pub colon_reads : (t : ScannerState) (more : List ℕ) (ds : List Indent) (i : �
     y.blocks ≡ columns i ds → y.awaits ≡ has_open_level ds → AreLevels i ds → t.held.adjacent_value_at ≤ t.held.position.index → Reads t (colon_end t more ds i ts allowed fs ks) y (58 ∷ []) more (colon_gap more)
 unfolding is_break
 colon_reads t more ds i ts allowed fs ks y cut here before columns_are awaits levels was =
-    reads_before_none t (colon_end t more ds i ts allowed fs ks) y (58 ∷ []) more (colon_gap more) refl cut (gap_is more).0 (gap_is more).1 (gap_is more).2 here (grind (arith, past_one, same_in_line, line_rest_in_line)) refl before columns_are awaits levels was (refl, refl, refl)
+    reads_before_none t (colon_end t more ds i ts allowed fs ks) y (58 ∷ []) more (colon_gap more) refl cut (gap_is more).0 (gap_is more).1 (gap_is more).2 here (grind (arith, past_indicator, same_in_line, line_rest_in_line)) refl before columns_are awaits levels was (refl, refl, refl)
 
 -- ---- outside flow
 
@@ -48,17 +48,11 @@ keyless_outside text more t a e apart ind deep =
     (exactly _ (checked (not t.held.key_allowed) (At ValueNotAllowed p) (λ f. went (m.is_held, not-false t.held.key_allowed f))) (λ allowed. went (ap (λ v. allow_key (not (in_flow v)) v) l.is_held, allowed)))) (λ allowed. went
     (read_outside text t _ a (58 ∷ []) more (colon_gap more) Tok.value (begun_after p a.site.blocks) _ refl
     (colon_reads t more l.indents l.indent (with_start Tok.block_mapping_start t) true [] (None ∷ []) _ e refl refl
-    (ap (opened p.col) a.blocks_are ∙ sym (l.columns_are ∙ m.columns_are)) (sym l.awaits) l.are_levels a.was_adjacent)
-    (record { line_is = (inl refl, refl, tt); no_key = refl; flow_is = refl; keys_are = refl }) (grind (arith, append_assoc, append-nil, is_free, a.is_indented (ap is_empty e)))))
+    (ap (opened p.col) a.blocks_are ∙ sym (l.columns_are ∙ m.columns_are)) (sym (l.awaits ∙ ap (λ bs. not (is_empty bs)) m.columns_are ∙ (grind arith))) l.are_levels a.was_adjacent)
+    (grind arith) (grind (arith, append_assoc, append-nil, line_free, a.is_indented (ap is_empty e)))))
   where
     p : Position
     p = t.held.position
-
-    bs : List ℕ
-    bs = not_ended p.col a.site.blocks
-
-    is_free : t.held.key_allowed ≡ true → a.line_here ≡ free
-    is_free allowed = line_free t.held.key_allowed t.rest a.line_here allowed a.line_is
 
     h : Held
     h = at_value more t [] (None ∷ [])
@@ -71,8 +65,8 @@ keyless_outside text more t a e apart ind deep =
     rolled = record h { indents = m.indents; indent = m.indent; tokens = with_start Tok.block_mapping_start t }
 
     -- and one that no collection opens
-    l : OpensOne rolled (roll_one_col_indent rolled)
-    l = opens_one rolled refl m.are_levels (some_levels m.indent m.indents (ap is_empty m.columns_are ∙ (grind arith)))
+    l : OpensLevel rolled (roll_one_col_indent rolled)
+    l = opens_level rolled m.are_levels
 
 -- ---- in flow
 
@@ -86,29 +80,24 @@ single_is f fs k e h = grind arith
 
 pub keyless_inside : (text more : List ℕ) (t : ScannerState) (f : FlowLevel) (fs : List FlowLevel) (ks : List (Option Key)) (e : Entry) (es : List Entry) (a : ArrivesBy text t (f ∷ fs) (None ∷ ks) (e ∷ es)) → t.rest ≡ 58 ∷ more → colon_may_precede more ≡ true →
     is_value_indicator true (is_adjacent (before_past (before_by a.site.before) a.separation)) more ≡ true → IsDeep t.held → Holds (Onward text t.rest) (value_by more t (f ∷ fs) (None ∷ ks))
-unfolding begin_keyless_value begin_keyless_mapping is_break
+unfolding begin_keyless_value begin_keyless_mapping is_break roll_one_col_indent in_block
 keyless_inside text more t f fs ks e es a cut apart ind deep =
     chained {P = λ w. w ≡ record { rest = past_gap more; held = (record t.held { flow = pair_level InPair f ∷ fs; keys = None ∷ ks; position = pair_position (past t.held.position) more; leading = false; key_allowed = false; tokens = ts }) }}
-    (tried (record { rest = past_gap more; held = at_value more t (f ∷ fs) (None ∷ ks) }) _ (grind (arith, went, opens_none)) (λ s d. ap (λ y. record { rest = past_gap more; held = y }) d)) (λ w d.
+    (tried (record { rest = past_gap more; held = at_value more t (f ∷ fs) (None ∷ ks) }) _ (grind (arith, went)) (λ s d. ap (λ y. record { rest = past_gap more; held = y }) d)) (λ w d.
     went (subst (λ z. Onward text t.rest (on_held (push t.held.position Tok.value) z)) (sym d)
     (goes_inside text t _ f (pair_level InPair f) fs None ks e (valued_entry e) es a (58 ∷ []) more Tok.value (colon_gap more)
     (colon_reads t more t.held.indents t.held.indent ts false (pair_level InPair f ∷ fs) (None ∷ ks) _ cut refl refl a.blocks_are a.awaits_is a.are_levels a.was_adjacent)
-    (grind (arith, append_assoc, past_one, single_is, tokens_before, a.is_indented (ap is_empty cut), low_enough text t f fs (None ∷ ks) (e ∷ es) a deep)))))
+    (grind (arith, append_assoc, past_indicator, single_is, tokens_before, a.is_indented (ap is_empty cut), low_enough text t f fs (None ∷ ks) (e ∷ es) a deep)))))
   where
     -- the tokens with the start of a single pair, if one begins
     ts : List Token
     ts = (if opens_pair (f ∷ fs) then t.held.tokens ++ token (pair_position (past t.held.position) more) Tok.flow_mapping_start ∷ [] else t.held.tokens)
 
--- ---- a colon that ends the key that is open: what holds where it begins holds between two fetches after it
-
--- ---- outside flow
+-- ---- a colon that ends the key that is open, outside flow: what holds where it begins holds between two fetches after it
 
 module _ (text more : List ℕ) (t : ScannerState) (k : Key) (a : ArrivesBy text t [] (Some k ∷ []) []) (e : t.rest ≡ 58 ∷ more) (apart : colon_may_precede more ≡ true) (ind : is_value_indicator false (is_adjacent (before_past (before_by a.site.before) a.separation)) more ≡ true) where
   abbrev x : Site
   x = site_here false t.held.position a.site
-
-  same_site : site_at false a.site a.separation (58 ∷ []) Tok.value more ≡ x
-  same_site = grind (arith, a.position_is, e)
 
   live : IsLive k t.held.position t.rest
   live = ((a.is_near refl).0, (ap is_empty e))
@@ -137,8 +126,8 @@ module _ (text more : List ℕ) (t : ScannerState) (k : Key) (a : ArrivesBy text
   abbrev pub held_rolled : Held
   held_rolled = record held_key { indents = rolled.indents; indent = rolled.indent; tokens = now }
 
-  pub awaiting : OpensOne held_rolled (roll_one_col_indent held_rolled)
-  awaiting = opens_one held_rolled refl rolled.are_levels (some_levels rolled.indent rolled.indents (ap is_empty rolled.columns_are ∙ (grind arith)))
+  pub awaiting : OpensLevel held_rolled (roll_one_col_indent held_rolled)
+  awaiting = opens_level held_rolled rolled.are_levels
 
   abbrev pub keyed_end : ScannerState
   keyed_end = colon_end t more awaiting.indents awaiting.indent now false [] (None ∷ [])
@@ -156,12 +145,12 @@ module _ (text more : List ℕ) (t : ScannerState) (k : Key) (a : ArrivesBy text
   keyed_outside =
       subst (λ r. Holds (Onward text t.rest) r) (sym (grind arith)) (went {x = keyed_end}
       (ends_outside text t keyed_end (Some k) a (58 ∷ []) more (colon_gap more) Tok.value outside_after x refl
-      (colon_reads t more awaiting.indents awaiting.indent now false [] (None ∷ []) _ e refl refl (ap (opened k.position.col) a.blocks_are ∙ sym (awaiting.columns_are ∙ rolled.columns_are)) (sym awaiting.awaits) awaiting.are_levels a.was_adjacent)
-      (record { line_is = (inr refl, sym (ap not (gap_is more).2), tt); no_key = refl; flow_is = refl; keys_are = refl })
-      (is_written text a.site a.separation (58 ∷ []) more Tok.value x same_site true false (waits k.position) (waits k.position) outside_after (grind (arith, (ap is_empty e), quiet, no_waiting))) refl
-      (λ strict. goes_of strict text more (outer_then text a.site a.separation (58 ∷ []) more Tok.value x same_site outside_after) keyed_end.held.tokens refl refl
-      (outer_completes text a.site a.separation (58 ∷ []) more Tok.value x same_site true false (waits k.position) (waits k.position) outside_after (tokens_up_to (Outer a.site (waits k.position)) (Some k ∷ []) a.tokens) (λ ws last. keyed_end.held.tokens) (grind (arith, (ap is_empty e), quiet, no_waiting)) keyed_tokens
-      (rw (sym e) (a.completes true true [] live))))))
+      (colon_reads t more awaiting.indents awaiting.indent now false [] (None ∷ []) _ e refl refl (ap (opened k.position.col) a.blocks_are ∙ sym (awaiting.columns_are ∙ rolled.columns_are)) (sym (awaiting.awaits ∙ ap (λ bs. not (is_empty bs)) rolled.columns_are ∙ (grind arith))) awaiting.are_levels a.was_adjacent)
+      (let line = ap not (gap_is more).2 in grind (arith, line))
+      (grind arith) refl
+      (λ strict. goes_of strict text more (outer_then text t (Some k) a (58 ∷ []) more Tok.value x e refl outside_after) keyed_end.held.tokens refl refl
+      (outer_completes text t (Some k) a (58 ∷ []) more Tok.value x e refl true false (waits k.position) (waits k.position) outside_after (tokens_up_to (Outer a.site (waits k.position)) (Some k ∷ []) a.tokens) (λ ws last. keyed_end.held.tokens) (grind (arith, (ap is_empty e), quiet, no_waiting)) keyed_tokens
+      (a.completes true true [] live)))))
 
 -- ---- in flow
 
@@ -174,8 +163,8 @@ module _ (text more : List ℕ) (t : ScannerState) (f : FlowLevel) (fs : List Fl
   -- a single pair's key stands on the colon's line
   pair_begun : (g : FlowLevel) → k.position.line ≤ t.held.position.line →
       Holds (λ y. (y ≡ record t.held { flow = pair_level InPair g ∷ fs; keys = None ∷ ks; position = pair_position (past t.held.position) more; leading = false; key_allowed = false; tokens = in_pair (opens_pair (g ∷ fs)) }) × ((not (opens_pair (g ∷ fs)) || (k.position.line == t.held.position.line)) ≡ true)) (insert_key k t.held.position (opens_pair (g ∷ fs)) (at_value more t (g ∷ fs) (Some k ∷ ks)))
-  unfolding insert_key begin_pair roll_indent
-  pair_begun a h = grind (arith, chained, checked, went, opens_none)
+  unfolding insert_key begin_pair roll_indent roll_one_col_indent in_block
+  pair_begun a h = grind (arith, chained, checked, went)
 
   abbrev pub inner_after : ScannerState
   inner_after = colon_end t more t.held.indents t.held.indent (in_pair (opens_pair (f ∷ fs))) false (pair_level InPair f ∷ fs) (None ∷ ks)
@@ -192,7 +181,7 @@ module _ (text more : List ℕ) (t : ScannerState) (f : FlowLevel) (fs : List Fl
       let own = keys_own 0 a.site.position (w ∷ ws) last a.site.blocks l (entry_by true (Some k) x) ys (Some k) ks a.tokens shown (among (length a.tokens) (Some k ∷ ks) a.are_numbered) in
       let along = keys_along (λ m. suc m) (λ m. suc m) (λ m. refl) (λ m. refl) 0 a.site.position (past_step a.site.position w ws last) w ws last (λ m. refl) a.site.blocks l ys ks in
       let shared = tokens_before text t f fs (Some k) ks x es a in
-      grind (arith, a.position_is, e, h, single_is f fs (Some k) x a.are_entries.0, past_one t.held.position 58 more refl, shared, own, along)
+      grind (arith, a.position_is, e, h, single_is f fs (Some k) x a.are_entries.0, past_indicator t.held.position 58 more refl, shared, own, along)
 
   pub inner_stands : (not (opens_pair (f ∷ fs)) || (k.position.line == t.held.position.line)) ≡ true → Onward text t.rest inner_after
   unfolding is_break
@@ -236,7 +225,7 @@ pub value_keeps : (text more : List ℕ) (t : ScannerState) → Arrives text t �
 unfolding fetch_value
 value_keeps text more t a e ind deep =
     subst (λ l. Holds (Onward text t.rest) (check_value_space (record { rest = after l; held = h }) >>= value_on)) (sym e)
-    (exactly _ (colon_spaced more h) by)
+    (exactly _ (colon_spaced more h) (λ apart. by_sides text t (λ v. is_value v ≡ true → Holds (Onward text t.rest) (value_by more v v.held.flow v.held.keys)) a (λ k x n. outer k x apart) (λ f fs k ks y es x. inner f fs k ks y es x apart) ind))
   where
     h : Held
     h = record t.held { flow = paired t.held.flow; position = past t.held.position; leading = false }
@@ -252,6 +241,3 @@ value_keeps text more t a e ind deep =
         is_value (with_sides t (f ∷ fs) (k ∷ ks)) ≡ true → Holds (Onward text t.rest) (value_by more (with_sides t (f ∷ fs) (k ∷ ks)) (f ∷ fs) (k ∷ ks))
     inner f fs None ks y es x apart ind = keyless_inside text more _ f fs ks y es x e apart (value_here text more _ (f ∷ fs) (None ∷ ks) (y ∷ es) x refl e ind) deep
     inner f fs (Some k) ks y es x apart ind = keyed_inside text more _ f fs k ks y es x e apart (value_here text more _ (f ∷ fs) (Some k ∷ ks) (y ∷ es) x refl e ind) deep (key_before text _ f fs k ks y es x (ap is_empty e))
-
-    by : colon_may_precede more ≡ true → Holds (Onward text t.rest) (value_on (past_colon more h))
-    by apart = by_sides text t (λ v. is_value v ≡ true → Holds (Onward text t.rest) (value_by more v v.held.flow v.held.keys)) a (λ k x n. outer k x apart) (λ f fs k ks y es x. inner f fs k ks y es x apart) ind

@@ -1,9 +1,8 @@
 -- Spaces, breaks and comments after a `?`: what the model reads there is all of them, and no TAB is among them but in comments.
 use Rattle.proof_scanner.proofs.Sound.QuotedEnds.{always}
-use Rattle.proof_scanner.proofs.Common.{WhitespaceExpected, At, Bool, Err, HasPassed, Held, Holds, List, ScannerState, [], after_separation, and_false, and_parts, ap, append_cancel_right, arith, begins_white_space, begins_with, begins_with_space_or_break, both_hold, eqb-true, false, has_break, has_no_break, has_tab_before_piece, if◌then◌else◌, inr, is_at_gap, is_blank, is_blank_or_end, is_break, is_nul, is_one_of, is_separation, last_line, no_break_hash, not, or_true, refl, refused, same_break, skip_yaml_whitespace, slice_index, sym, true, weakened, went, white, ℕ, ◌++◌, ◌==◌, ◌||◌, ◌∙◌, ◌∷◌, ◌≡◌, ◌⊎◌, inl}
-use Rattle.yaml_chars.specs.Class as class
+use Rattle.proof_scanner.proofs.Common.{WhitespaceExpected, At, Bool, Err, HasPassed, Held, Holds, List, ScannerState, [], after_separation, and_false, and_parts, ap, append_cancel_right, arith, begins_white_space, begins_with, begins_with_space_or_break, both_hold, eqb-true, false, has_break, has_no_break, has_tab_before_piece, if◌then◌else◌, inr, is_at_gap, is_blank, is_blank_or_end, is_break, is_nul, is_one_of, is_separation, last_line, no_break_hash, not, or_true, refl, refused, same_break, skip_yaml_whitespace, slice_index, sym, true, weakened, went, white, ℕ, ◌++◌, ◌==◌, ◌||◌, ◌∙◌, ◌∷◌, ◌≡◌, ◌⊎◌, white_space_is_passed}
 use Rattle.model_scanner.specs.Space.{at_break}
-use Rattle.proof_scanner.proofs.Cut.Passes.{white_passed}
+use Rattle.proof_scanner.proofs.Cut.Passes.{read_holds}
 use Rattle.proof_scanner.proofs.Sound.LastLines.{last_first}
 
 -- whether a character outside comments belongs to it
@@ -74,7 +73,7 @@ past_white_space t = after_separation t.held (t.held.leading || has_break (white
 -- They are a separation, and all of them are read.
 pub white_exactly : (t : ScannerState) → Holds (λ u. (u ≡ past_white_space t) × (is_separation false (white_of false t.rest) (past_white false t.rest) ≡ true)) (skip_yaml_whitespace t)
 unfolding skip_yaml_whitespace
-white_exactly t = weakened exactly (both_hold (white_passed t) (white_read false false t.rest t.held))
+white_exactly t = weakened exactly (both_hold (read_holds (white_space_is_passed t.held t.rest)) (white_read false false t.rest t.held))
   where
     exactly : (u : ScannerState) → HasPassed begins_white_space t.held t.rest u × IsPastWhite false t.held.leading t.rest u → (u ≡ past_white_space t) × (is_separation false (white_of false t.rest) (past_white false t.rest) ≡ true)
     exactly u q =
@@ -103,8 +102,4 @@ white_or_missed b s gap = grind (arith, same_break, or_true)
 
 -- what stands after a `?`, where it is at a gap, is a space or a break
 pub white_first : (more : List ℕ) (s : Held) → is_at_gap more ≡ true → Holds (λ u. begins_with_space_or_break more ≡ true) (white false false more s)
-white_first more s gap = by (white_or_missed more s gap)
-  where
-    by : (begins_with_space_or_break more ≡ true) ⊎ IsMissed more s → Holds (λ u. begins_with_space_or_break more ≡ true) (white false false more s)
-    by (inl h) = always _ (λ u. h)
-    by (inr m) = rw m.is_refused refused
+white_first more s gap = grind (arith, white_or_missed, always, refused)

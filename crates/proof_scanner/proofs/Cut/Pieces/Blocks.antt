@@ -7,7 +7,6 @@ use Rattle.proof_lexers.specs.BlockScan.{read}
 use Rattle.proof_lexers.proofs.Blocks.Ends.{scans_end}
 use Rattle.proof_lexers.proofs.Separation.EachSeparation.{no_nul_after}
 use Rattle.proof_scanner.proofs.Cut.Pieces.Quoted.{some_chars}
-use Rattle.proof_scanner.proofs.Cut.Positions.{line_ended}
 
 -- ---- the spaces after a piece
 
@@ -34,7 +33,7 @@ spaces_position p (c ∷ r) = grind (arith, space, spaces_cut, spaces_position (
 -- a text with a whole line ends on a later one
 lines_up : (p : Position) (t next : List ℕ) → is_empty (split t).complete ≡ false → begins_with 10 next ≡ false → p.line < (position_after p t next).line
 lines_up p [] next h f = cc
-lines_up p (c ∷ t) next h f = grind (arith, line_ended, line_grows, and_false, lines_up (position_past p c (t ++ next)) t next)
+lines_up p (c ∷ t) next h f = grind (arith, line_grows, and_false, lines_up (position_past p c (t ++ next)) t next)
 
 -- ---- what a piece shows
 
@@ -59,33 +58,27 @@ pub end_no_text : (t : List ℕ) → has_no_nul t ≡ true → is_at_end t ≡ t
 end_no_text a h e = grind arith
 
 module _ (a : Account) (indent : ℕ) (outside : is_in_flow a ≡ false) (column : collection_column a ≡ collection_of indent) where
-  pub below : (c : ℕ) (piece next : List ℕ) (b : BlockRead) → has_no_nul next ≡ true → block_read (collection_of indent) (c ∷ piece) next ≡ Some b → IsBelow a.position (further_position a.position (c ∷ piece) next) (without_spaces next)
-  below c piece next b nul is = elim (cases_Bool (is_at_end next)) [
+  pub below : (piece next : List ℕ) (b : BlockRead) → has_no_nul next ≡ true → block_read (collection_of indent) piece next ≡ Some b → IsBelow a.position (further_position a.position piece next) (without_spaces next)
+  below piece next b nul is = elim (cases_Bool (is_at_end next)) [
     | inl e ↦ inl (ap without_spaces (end_no_text next nul e))
     | inr e ↦
-        let q = piece_has_line (collection_of indent) (c ∷ piece) next b e is in
-        let up = lines_up a.position (c ∷ piece) next q.0 q.1 in
-        let stays = line_grows (position_after a.position (c ∷ piece) next) (spaces_of next) (without_spaces next) in
-        let here = ap (λ (z : Position). z.line) (spaces_position (position_after a.position (c ∷ piece) next) next) in
+        let q = piece_has_line (collection_of indent) piece next b e is in
+        let up = lines_up a.position piece next q.0 q.1 in
+        let stays = line_grows (position_after a.position piece next) (spaces_of next) (without_spaces next) in
+        let here = ap (λ (z : Position). z.line) (spaces_position (position_after a.position piece next) next) in
         inr (grind (arith, nat_tests, up, stays, here))
   ]
 
   found : (style : BlockStyle) (text piece next : List ℕ) (b : BlockRead) → has_no_nul next ≡ true → text ≡ piece ++ next → block_read (collection_of indent) piece next ≡ Some b → b.style ≡ style
       → ReadAs a text (token_of style b.text) (block_position b.column a.position piece next) (without_spaces next) (further_position a.position piece next) × IsBelow a.position (further_position a.position piece next) (without_spaces next)
   found style text [] next b nul cut is looks = absurd (cc (some_piece (collection_of indent) [] next b is))
-  found style text (c ∷ piece) next b nul cut is looks = (
-    record {
-      first = c;
-      more = piece;
-      separation = spaces_of next;
-      is_text = cut ∙ ap (λ l. (c ∷ piece) ++ l) (spaces_cut next);
-      is_filled = spaces_fill next (without_spaces next);
-      is_piece = λ following. subst (λ l. IsPiece a (c ∷ piece) l following (block_position b.column a.position (c ∷ piece) next) (token_of style b.text)) (spaces_cut next)
-          (grind arith);
-      is_end = spaces_position (position_after a.position (c ∷ piece) next) next ∙ ap (λ l. position_after (position_after a.position (c ∷ piece) l) (spaces_of next) (without_spaces next)) (spaces_cut next);
-    },
-    below c piece next b nul is,
-  )
+  found style text (c ∷ piece) next b nul cut is looks =
+      let position : Position = block_position b.column a.position (c ∷ piece) next in
+      let whole : text ≡ (c ∷ piece) ++ (spaces_of next ++ without_spaces next) = cut ∙ ap (λ l. (c ∷ piece) ++ l) (spaces_cut next) in
+      let is_piece : (following : Option Tok) → IsPiece a (c ∷ piece) (spaces_of next ++ without_spaces next) following position (token_of style b.text) =
+      λ following. subst (λ l. IsPiece a (c ∷ piece) l following position (token_of style b.text)) (spaces_cut next) (grind arith) in
+      let end = spaces_position (position_after a.position (c ∷ piece) next) next ∙ ap (λ l. position_after (position_after a.position (c ∷ piece) l) (spaces_of next) (without_spaces next)) (spaces_cut next) in
+      (search (whole, spaces_fill next (without_spaces next), is_piece, end), below (c ∷ piece) next b nul is)
 
   by_style : (style : BlockStyle) (more : List ℕ) (r : Read Block) → has_no_nul (indicator_of style ∷ more) ≡ true → has_no_nul more ≡ true → block (is_literal_style style) indent (indicator_of style ∷ more) a.position ≡ Ok r
       → ReadAs a (indicator_of style ∷ more) (token_of style r.value.text) r.value.position r.rest r.position × IsBelow a.position r.position r.rest

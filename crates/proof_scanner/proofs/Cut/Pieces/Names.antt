@@ -1,5 +1,5 @@
 -- What the scan of an anchor's or an alias's name reads is its piece.
-use Rattle.proof_scanner.proofs.Common.{[], all_of, anchor_name, anchor_token, and_parts, ap, arith, Bool, false, further, has_no_break, is_anchor_name, is_blank_or_end, is_break, is_name, IsNameRead, IsPiece, List, mark_of, named, NameIsRead, NameKind, names_end, Ok, Option, Position, position_after, position_in_line, Read, read_as, ReadAs, refl, sym, Tok, true, ℕ, ◌++◌, ◌∙◌, ◌∷◌, ◌≡◌}
+use Rattle.proof_scanner.proofs.Common.{[], all_of, anchor_name, anchor_token, and_parts, ap, arith, Bool, false, has_no_break, is_anchor_name, is_blank_or_end, is_break, IsPiece, List, mark_of, NameIsRead, NameKind, names_end, Ok, Option, Position, position_after, position_in_line, Read, read_as, ReadAs, refl, sym, Tok, true, ℕ, ◌++◌, ◌∙◌, ◌∷◌, ◌≡◌}
 use Rattle.defs_token.specs.Account.{Account, is_in_flow}
 
 -- ---- no break stands among the characters of a class that has none
@@ -8,15 +8,7 @@ pub all_in_line : (class : ℕ → Bool) → ((c : ℕ) → class c ≡ true →
 all_in_line class none [] h = refl
 all_in_line class none (c ∷ l) h = let q = and_parts (class c) (all_of class l) h in rw (none c q.0) (all_in_line class none l q.1)
 
-pub name_in_line : (name : List ℕ) → is_name name ≡ true → has_no_break name ≡ true
-unfolding is_anchor_name is_blank_or_end
-name_in_line a h = grind (arith, all_in_line)
-
 -- ---- the piece
-
-pub mark_in_line : (kind : NameKind) → is_break (mark_of kind) ≡ false
-unfolding is_break
-mark_in_line a = grind arith
 
 -- A property or an alias that was read: its piece, which has no break, and nothing after it.
 pub record IsProperty (fl : Bool) (tok : Tok) (p : Position) (text rest : List ℕ) (end : Position) : Type 0 where
@@ -32,19 +24,9 @@ pub property_read_as : (a : Account) (fl : Bool) (tok : Tok) (text rest : List �
 property_read_as a fl tok text rest end flow r = record { first = r.first; more = r.more; separation = []; is_text = r.cut; is_filled = refl; is_piece = λ following. r.is_piece a following refl flow; is_end = r.end_is }
 
 pub name_property : (fl : Bool) (kind : NameKind) (p : Position) (text more : List ℕ) → text ≡ mark_of kind ∷ more → (x : Read (List ℕ)) → anchor_name text p ≡ Ok x → IsProperty fl (anchor_token kind x.value) p text x.rest x.position
-name_property fl kind p text more e x k = by x (read_as (ap (λ r. anchor_name r p) (sym e) ∙ k) (names_end (mark_of kind) more p))
-  where
-    by : (y : Read (List ℕ)) → IsNameRead p more y → IsProperty fl (anchor_token kind y.value) p text y.rest y.position
-    by y (named name rest cut is ends) =
-        let line : has_no_break (mark_of kind ∷ name) ≡ true = rw (mark_in_line kind) (name_in_line name is) in
-        record {
-          first = mark_of kind;
-          more = name;
-          cut = e ∙ ap (λ l. mark_of kind ∷ l) cut;
-          in_line = line;
-          end_is = ap (λ n. further n p) (omega arith) ∙ position_in_line p (mark_of kind ∷ name) rest line;
-          is_piece = λ a following q flow. (grind arith);
-        }
+unfolding is_break is_anchor_name is_blank_or_end
+name_property fl kind p text more e x k =
+    let r = read_as (ap (λ r. anchor_name r p) (sym e) ∙ k) (names_end (mark_of kind) more p) in grind (arith, r, all_in_line, position_in_line)
 
 -- a name that was read is, with its indicator, the piece of its token
 pub name_is_read : NameIsRead

@@ -6,8 +6,6 @@ use Rattle.model_scanner.specs.Plain as models
 use Rattle.proof_lexers.proofs.Bridges.{same_flow}
 use Rattle.proof_scanner.proofs.Cut.Pieces.Separations.{gap_is_separation}
 
--- ---- a plain scalar begins with content
-
 -- ---- in flow a dash before a flow indicator is refused
 
 pub same_flow_start : (r : List ℕ) → model_classes.is_flow (slice_index r 0) ≡ begins_flow r

@@ -1,5 +1,5 @@
 -- What the scan of a tag reads is its piece.
-use Rattle.proof_scanner.proofs.Common.{inr, inl, cases_Bool, [], after, all_leading, ap, begins_with_mark, Bool, codes, eqb-true, false, has_no_break, is_alpha, is_break, is_decimal_digit, is_letter, is_same, is_tag, is_uri, IsTagRead, leading, List, Ok, Position, position_in_line, Read, read_as, refl, shorthand, Some, span_cut, sym, Tag, tag_of_class, TagIsRead, tags_end, Tok, true, verbatim, whole_tag, written_tag, ℕ, ◌++◌, ◌==◌, ◌∙◌, ◌∷◌, ◌≡◌, arith, nat_tests}
+use Rattle.proof_scanner.proofs.Common.{[], after, all_leading, ap, begins_with_mark, Bool, codes, eqb-true, false, has_no_break, is_alpha, is_break, is_decimal_digit, is_letter, is_same, is_tag, is_uri, IsTagRead, leading, List, Ok, Position, position_in_line, Read, read_as, refl, shorthand, Some, span_cut, sym, Tag, tag_of_class, TagIsRead, tags_end, Tok, true, verbatim, whole_tag, written_tag, ℕ, ◌++◌, ◌∙◌, ◌∷◌, ◌≡◌, arith, nat_tests}
 use Rattle.defs_text.specs.Tags.{named}
 use Rattle.model_scanner.specs.Tag as models
 use Rattle.proof_scanner.proofs.Cut.Pieces.Separations.{no_break_append}
@@ -11,14 +11,6 @@ use Rattle.proof_scanner.proofs.Cut.Pieces.Names.{all_in_line, IsProperty, prope
 pub without_breaks : (class : ℕ → Bool) → class 10 ≡ false → class 13 ≡ false → (c : ℕ) → class c ≡ true → is_break c ≡ false
 unfolding is_break
 without_breaks class lf cr c h = grind (arith, nat_tests)
-
-pub tag_has_none : (c : ℕ) → is_tag c ≡ true → is_break c ≡ false
-unfolding is_tag is_uri is_decimal_digit is_letter
-tag_has_none c h = without_breaks is_tag refl refl c h
-
-pub alpha_has_none : (c : ℕ) → is_alpha c ≡ true → is_break c ≡ false
-unfolding is_alpha is_decimal_digit is_letter
-alpha_has_none c h = without_breaks is_alpha refl refl c h
 
 -- what stands before in the line, and what stands after it
 spanned : (class : ℕ → Bool) → ((c : ℕ) → class c ≡ true → is_break c ≡ false) → (t : List ℕ) → has_no_break (after class t) ≡ true → has_no_break t ≡ true
@@ -35,32 +27,23 @@ closed_in_line (c ∷ d ∷ t) h = grind arith
 
 verbatim_in_line : (t : List ℕ) (g : Tag) → verbatim t ≡ Some g → has_no_break t ≡ true
 unfolding is_uri is_decimal_digit is_letter
-verbatim_in_line t g h =
-    let uri_has_none : (c : ℕ) → is_uri c ≡ true → is_break c ≡ false = λ c h. without_breaks is_uri refl refl c h in
-    elim (cases_Bool (is_same (after is_uri t) (codes ">"))) [ inl e ↦ spanned is_uri uri_has_none t (closed_in_line (after is_uri t) e) | inr e ↦ absurd (grind arith) ]
+verbatim_in_line t g h = grind (arith, spanned is_uri (λ c e. without_breaks is_uri refl refl c e) t, closed_in_line (after is_uri t))
 
 named_in_line : (name from : List ℕ) (g : Tag) → begins_with_mark from ≡ true → named name from ≡ Some g → has_no_break from ≡ true
-unfolding is_break
-named_in_line name [] g m h = cc
-named_in_line name (c ∷ []) g m h = cc
-named_in_line name (c ∷ d ∷ suffix) g m h =
-    let same : c ≡ 33 = eqb-true c 33 m in
-    rw same (of_class is_tag tag_has_none (codes "!" ++ name ++ codes "!") (d ∷ suffix) g h)
+unfolding is_break is_tag is_uri is_decimal_digit is_letter
+named_in_line name (c ∷ d ∷ suffix) g m h = grind (arith, eqb-true, of_class is_tag (λ e f. without_breaks is_tag refl refl e f) (codes "!" ++ name ++ codes "!") (d ∷ suffix) g)
+named_in_line name from g m h = grind arith
 
 shorthand_in_line : (t : List ℕ) (g : Tag) → shorthand t ≡ Some g → has_no_break t ≡ true
+unfolding is_alpha is_tag is_uri is_decimal_digit is_letter
 shorthand_in_line [] g h = refl
-shorthand_in_line (c ∷ t) g h = elim (cases_Bool (begins_with_mark (after is_alpha (c ∷ t)))) [
-  | inl e ↦ let k = rw e at h in spanned is_alpha alpha_has_none (c ∷ t) (named_in_line (leading is_alpha (c ∷ t)) (after is_alpha (c ∷ t)) g e k)
-  | inr e ↦ let k = rw e at h in of_class is_tag tag_has_none (codes "!") (c ∷ t) g k
-]
+shorthand_in_line (c ∷ t) g h =
+    grind (arith, spanned is_alpha (λ d e. without_breaks is_alpha refl refl d e) (c ∷ t), named_in_line (leading is_alpha (c ∷ t)) (after is_alpha (c ∷ t)) g, of_class is_tag (λ e f. without_breaks is_tag refl refl e f) (codes "!") (c ∷ t) g)
 
 pub written_in_line : (t : List ℕ) (g : Tag) → written_tag (33 ∷ t) ≡ Some g → has_no_break (33 ∷ t) ≡ true
 unfolding is_break
 written_in_line [] g h = refl
-written_in_line (c ∷ t) g h = elim (cases_Bool (c == 60)) [
-  | inl e ↦ let k = rw e at h in let same : c ≡ 60 = eqb-true c 60 e in rw same (verbatim_in_line t g k)
-  | inr e ↦ let k = rw e at h in shorthand_in_line (c ∷ t) g k
-]
+written_in_line (c ∷ t) g h = grind (arith, eqb-true, verbatim_in_line t g, shorthand_in_line (c ∷ t) g)
 
 -- ---- the piece
 
@@ -69,15 +52,7 @@ tag_property fl p text more e x k = by x (read_as (ap (λ r. models.tag fl r p) 
   where
     by : (y : Read models.Tag) → IsTagRead fl p more y → IsProperty fl (Tok.tag y.value.handle y.value.suffix) p text y.rest y.position
     by y (whole_tag piece rest handle suffix cut is follows) =
-        let line : has_no_break (33 ∷ piece) ≡ true = written_in_line piece (record { handle = handle; suffix = suffix }) is in
-        record {
-          first = 33;
-          more = piece;
-          cut = e ∙ ap (λ l. 33 ∷ l) cut;
-          in_line = line;
-          end_is = position_in_line p (33 ∷ piece) rest line;
-          is_piece = λ a following q flow. ((is, rw flow follows), sym q);
-        }
+        let line : has_no_break (33 ∷ piece) ≡ true = written_in_line piece (record { handle = handle; suffix = suffix }) is in grind (arith, line, position_in_line)
 
 -- a tag that was read is the piece of its token
 pub tag_is_read : TagIsRead
