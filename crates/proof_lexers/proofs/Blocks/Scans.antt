@@ -1,5 +1,6 @@
 -- The whole scan of a block scalar whose lines are known.
 use Rattle.proof_lexers.proofs.Common.{[], after_header, along, and_then, ap, append-nil, arith, At, begins_with, Block, block, block_position, BlockRead, Bool, breaks, cases_Bool, chomping_of, collection_of, Column, column_by, content_row, digit_by, digit_or_zero, drop, empty_row, empty_text, Err, false, Fault, first_content, further_position, has_content, Header, header, header_of, indent_from, indicator_of, indicators_of, inl, inr, is_at_end, is_in_line, is_literal_style, is_open, is_spaces, is_tabbed, IsRead, le-ltb, length, Lines, lines_from, List, max, nat_le, nat_lt, nat_tests, None, Ok, past, past_spaces, Position, position_after, position_or, Read, read_header, reads, refl, refuses, Result, Row, rows_of, Some, suc, sym, tab, tail, true, value_before_end, value_before_text, without_spaces, ℕ, ◌&&◌, ◌++◌, ◌+◌, ◌∙◌, ◌∷◌, ◌≡◌, ◌≤◌, Option, BlockScalarTab, and_false, both}
+use Rattle.std.proofs.Math.Bool.{and_comm}
 use Rattle.defs_text.specs.Classes as classes
 use Rattle.defs_text.specs.BlockScalar as defs
 use Rattle.model_scanner.specs.BlockScalar.{content}
@@ -70,6 +71,13 @@ module _ (h : defs.Header) (line : List ℕ) (k : Break) (indent : ℕ) (p : Pos
   piece_first : (column : ℕ) (a : List ℕ) (r : Read Column) → Fits k a → indent_from column a (at start []) ≡ r → first_content column true p (with_header a) ≡ stopped_at r
   piece_first column a r fits e = first_header column (indicator_of h.style ∷ line) k a p (style_inner h.style line inner) fits ∙ first_is column a start [] ∙ ap stopped_at e
 
+  -- the position after a header, lines, and a last line without a break
+  piece_position : (ls : List Line) (last next : List ℕ) → AreLines ls (last ++ next) → Fits k (spell ls (last ++ next)) → is_in_line last ≡ true → along last (after_lines ls start) ≡ position_after p (with_header (spell ls last)) next
+  piece_position ls last next are fits last_inner = sym (
+    after_chars (indicator_of h.style ∷ line) (put k (spell ls last)) next p (style_inner h.style line inner) ∙ after_put k (spell ls last) next (along line (past p)) (rw (spell_more ls last next) fits) ∙ after_spell ls last next start are
+    ∙ ap (λ x. position_after (after_lines ls start) x next) (sym (append-nil last)) ∙ after_chars last [] next (after_lines ls start) last_inner
+  )
+
   -- ---- before further text
 
   module _ (column : ℕ) (ls : List Line) (next : List ℕ) (rs : List Row) (are : AreLines ls next) (fits : Fits k (spell ls next)) (are_alone : AreLines ls []) (fits_alone : Fits k (spell ls []))
@@ -91,37 +99,23 @@ module _ (h : defs.Header) (line : List ℕ) (k : Break) (indent : ℕ) (p : Pos
     closed z n = rw (z.is) refl
 
     position_is : past_spaces (after_lines ls start) next ≡ further_position p piece next
-    position_is = let piece_position : position_after p (with_header (spell ls [])) next ≡ after_lines ls start = let more : Fits k (spell ls [] ++ next) = rw (spell_more ls [] next) fits in
-        after_chars (indicator_of h.style ∷ line) (put k (spell ls [])) next p (style_inner h.style line inner) ∙ after_put k (spell ls []) next (along line (past p)) more ∙ after_spell ls [] next start are in ap (λ q. past_spaces q next) (sym piece_position)
+    position_is = ap (λ q. past_spaces q next) (piece_position ls [] next are fits refl)
 
     -- where the piece's content begins, if the search in it ends so
     where_is : {o : Option Position} → first_content column true p piece ≡ o → block_position column p piece next ≡ position_or o (further_position p piece next)
     where_is e = rw (e, text) refl
 
-    without_rows : has_content rs ≡ false → (z : Outside column next (after_lines ls start)) → (l i : Bool) → nat_lt z.position.col column ≡ l → nat_le indent z.position.col ≡ i → IsRead indent p before_text piece next (scanned (spell ls next))
-    without_rows none z = by
-      where
-        here : z.position ≡ further_position p piece next
-        here = sym z.at_position ∙ position_is
-
-        first : first_content column true p piece ≡ None
-        first = piece_first column (spell ls []) _ fits_alone (all_empty column ls [] start [] rs refl are_alone rows none)
-
-        found : indent_from column (spell ls next) (at start []) ≡ record { rest = z.char ∷ z.rest; position = z.position; value = record { column = column; breaks = breaks (length rs) } }
-        found = all_empty column ls next start [] rs refl are rows none ∙ z.found (breaks (length rs))
-
-        is_here : is_shallow indent p before_text piece next ≡ (nat_le indent z.position.col && nat_lt z.position.col column)
-        is_here = rw (text, first, ← here) refl
-
-        go : (nat_lt z.position.col column && nat_le indent z.position.col) ≡ false → is_shallow indent p before_text piece next ≡ false → IsRead indent p before_text piece next (scanned (spell ls next))
-        go deep outside =
-            reads_it column before_text (spell ls next) piece next z.rest z.char z.position _ (breaks (length rs)) lines_read free outside found_by found deep (read_to z) position_is (where_is first ∙ sym here)
-            (ap (λ b. lines_read.text ++ tail (chomping_of h.chomping) b lines_read) (closed z _) ∙ empty_value h rs none ∙ rw none refl)
-
-        by : (l i : Bool) → nat_lt z.position.col column ≡ l → nat_le indent z.position.col ≡ i → IsRead indent p before_text piece next (scanned (spell ls next))
-        by true true e g = refuses _ (shallow free (is_here ∙ rw (g, e) refl)) (found_by ∙ ap after found ∙ rw (e, g, here) refl)
-        by true false e g = go (rw (e, g) refl) (is_here ∙ rw g refl)
-        by false i e g = go (rw e refl) (is_here ∙ rw e (and_false (nat_le indent z.position.col)))
+    without_rows : has_content rs ≡ false → Outside column next (after_lines ls start) → IsRead indent p before_text piece next (scanned (spell ls next))
+    without_rows none z =
+        let here : z.position ≡ further_position p piece next = sym z.at_position ∙ position_is in
+        let first : first_content column true p piece ≡ None = piece_first column (spell ls []) _ fits_alone (all_empty column ls [] start [] rs refl are_alone rows none) in
+        let found : indent_from column (spell ls next) (at start []) ≡ record { rest = z.char ∷ z.rest; position = z.position; value = record { column = column; breaks = breaks (length rs) } } = all_empty column ls next start [] rs refl are rows none ∙ z.found (breaks (length rs)) in
+        let is_here : is_shallow indent p before_text piece next ≡ (nat_lt z.position.col column && nat_le indent z.position.col) = rw (text, first, ← here) (and_comm (nat_le indent z.position.col) (nat_lt z.position.col column)) in
+        elim (cases_Bool (nat_lt z.position.col column && nat_le indent z.position.col)) [
+          | inl e ↦ refuses _ (shallow free (is_here ∙ e)) (found_by ∙ ap after found ∙ rw (e, here) refl)
+          | inr e ↦ reads_it column before_text (spell ls next) piece next z.rest z.char z.position _ (breaks (length rs)) lines_read free (is_here ∙ e) found_by found e (read_to z) position_is (where_is first ∙ sym here)
+              (ap (λ b. lines_read.text ++ tail (chomping_of h.chomping) b lines_read) (closed z _) ∙ empty_value h rs none ∙ rw none refl)
+        ]
 
     pub before_further : Outside column next (after_lines ls start) → IsRead indent p before_text piece next (scanned (spell ls next))
     before_further z = elim (cases_Bool (has_content rs)) [
@@ -129,7 +123,7 @@ module _ (h : defs.Header) (line : List ℕ) (k : Break) (indent : ℕ) (p : Pos
           reads_it column before_text (spell ls next) piece next (f.rest next) f.char f.position _ f.breaks_before lines_read free (rw first (grind arith))
           found_by (f.found next are) (in_position column f.position.col f.in_column) (read_to z) position_is (where_is first)
           (ap (λ b. lines_read.text ++ tail (chomping_of h.chomping) b lines_read) (closed z _) ∙ content_value h false rs (are_full column (texts ls) rs rows) e ∙ rw e refl)
-      | inr e ↦ without_rows e z _ _ refl refl
+      | inr e ↦ without_rows e z
     ]
 
   -- ---- at the end of the text
@@ -150,10 +144,7 @@ module _ (h : defs.Header) (line : List ℕ) (k : Break) (indent : ℕ) (p : Pos
     last_position = after_lines ls start
 
     whole_position : along last last_position ≡ further_position p whole []
-    whole_position = let end_position : position_after p (with_header (spell ls last)) [] ≡ along last (after_lines ls start) = let more : Fits k (spell ls last ++ []) = rw append-nil fits in
-        let are' : AreLines ls (last ++ []) = rw append-nil are in
-        after_chars (indicator_of h.style ∷ line) (put k (spell ls last)) [] p (style_inner h.style line inner) ∙ after_put k (spell ls last) [] (along line (past p)) more ∙ after_spell ls last [] start are'
-        ∙ ap (λ x. position_after (after_lines ls start) x []) (sym (append-nil last)) ∙ after_chars last [] [] (after_lines ls start) last_inner in sym end_position
+    whole_position = piece_position ls last [] (rw append-nil are) (rw append-nil fits) last_inner
 
     at_front : last_position.col ≡ 0
     at_front = lines_front ls start refl
