@@ -4,18 +4,18 @@ use Rattle.proof_row.proofs.Common.{[], after, after_mark, all_of, append_assoc,
 -- ---- the characters of a shorthand
 
 -- neither a gap's character nor a flow indicator
-abbrev goes_on : ℕ → Bool
+abbrev pub goes_on : ℕ → Bool
 goes_on c = not (is_blank_or_end c) && not (is_flow c)
 
 going : (class : ℕ → Bool) (c : ℕ) → (is_blank_or_end c ≡ true → class c ≡ false) → (is_flow c ≡ true → class c ≡ false) → class c ≡ true → goes_on c ≡ true
 going class c f g h = grind arith
 
-alpha_goes_on : (c : ℕ) → is_alpha c ≡ true → goes_on c ≡ true
+pub alpha_goes_on : (c : ℕ) → is_alpha c ≡ true → goes_on c ≡ true
 unfolding is_alpha is_decimal_digit is_letter
 alpha_goes_on c h =
     going is_alpha c (λ f. gaps (λ z. is_alpha z ≡ false) c f refl refl refl refl refl) (λ f. flows (λ z. is_alpha z ≡ false) c f refl refl refl refl refl) h
 
-tag_goes_on : (c : ℕ) → is_tag c ≡ true → goes_on c ≡ true
+pub tag_goes_on : (c : ℕ) → is_tag c ≡ true → goes_on c ≡ true
 unfolding is_tag is_uri is_flow is_decimal_digit is_letter
 tag_goes_on c h =
     going is_tag c (λ f. gaps (λ z. is_tag z ≡ false) c f refl refl refl refl refl) (λ f. flows (λ z. is_tag z ≡ false) c f refl refl refl refl refl) h
