@@ -25,10 +25,6 @@ tab_whole (l ∷ ls) e = tab_line l.text (spell ls e) l.by (texts ls ++ e ∷ []
 
 -- ---- further text begins with no line feed, and is not the end
 
--- whether a CR is a break read_alone goes by the character after it
-pub fits_alone : (k : Break) → Fits k []
-fits_alone a = grind arith
-
 fits_next : (k : Break) (next : List ℕ) → (slice_index next 0 == 10) ≡ false → Fits k next
 fits_next k next h = grind arith
 
@@ -230,9 +226,9 @@ module _ (style : BlockStyle) (indent : ℕ) (p : Position) where
         let parts = are_parts own ns last (rw (← split_at) are) in
         let column_is : column ≡ column_by h.digit (collection_of indent) (texts (own ++ ns) ++ last ∷ []) = ap (λ x. column_by h.digit (collection_of indent) (texts x ++ last ∷ [])) split_at in
         let same : column ≡ column_by h.digit (collection_of indent) (texts own) = column_is ∙ part_column h.digit indent own ns last parts.1 last_inner (rw (← column_is) further) in
-        let fits_own : Fits k (spell own []) = fits_before k own (spell ns last) [] (fits_alone k) (rw (← joined) fits) in
+        let fits_own : Fits k (spell own []) = fits_before k own (spell ns last) [] (fits_next k [] refl) (rw (← joined) fits) in
         let tab_free = tab_of own (spell ns last) (rw (← joined) tabless) in
-        let lines = split_spell (record { text = indicator_of style ∷ line; by = k } ∷ own) [] (style_inner style line inner, fits_own, are_before own (spell ns last) [] fits_alone parts.0) refl in
+        let lines = split_spell (record { text = indicator_of style ∷ line; by = k } ∷ own) [] (style_inner style line inner, fits_own, are_before own (spell ns last) [] (λ k. fits_next k [] refl) parts.0) refl in
         found (line ++ put k (spell ls last)) (indicator_of style ∷ (line ++ put k (spell own []))) (spell ns last) line (value_before_text h rs) h (column_by h.digit (collection_of indent) (texts own)) is
         (ap (λ a. indicator_of style ∷ (line ++ put k a)) joined ∙ sym (spell_more (record { text = indicator_of style ∷ line; by = k } ∷ own) [] (spell ns last))) some_next_text
         (ap (λ s. read_split (collection_of indent) s (spell ns last)) lines ∙ ap (λ t. read_lines (collection_of indent) ((indicator_of style ∷ line) ∷ texts own) [] (spell ns last) t) not_end

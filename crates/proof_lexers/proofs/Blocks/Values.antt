@@ -43,12 +43,8 @@ module _ (s : BlockStyle) where
   text_goes (empty_row ∷ rs) t l n b full e = grind (arith, more_breaks, text_goes rs t l (suc n) b full e)
   text_goes (content_row [] ∷ rs) t l n b full e = absurd full
   text_goes (content_row (c ∷ m) ∷ rs) t l n b full e =
-      let gap = between_lines s n (starts_blank l || starts_blank (c ∷ m)) in
-      let same : between (is_literal_style s) (after_content t n b) (is_blank c) ≡ gap = (grind arith) ∙ ap (λ k. between_lines s n (k || is_blank c)) e ∙ ap (λ k. between_lines s n (starts_blank l || k)) (sym (same_blank c)) in
-      let here = λ (g : List ℕ). rows_after rs (after_content ((t ++ g) ++ c ∷ m) 0 (is_blank c)) in
-      subst (λ g. Holds (here g) (t ++ text_after s l n (content_row (c ∷ m) ∷ rs)) (empty_after 0 rs)) (sym same)
-      (subst (λ u. Holds (here gap) u (empty_after 0 rs)) (ap (λ y. y ++ text_after s (c ∷ m) 0 rs) (append_assoc t gap (c ∷ m)) ∙ append_assoc t (gap ++ c ∷ m) _)
-      (text_goes rs ((t ++ gap) ++ c ∷ m) (c ∷ m) 0 (is_blank c) full (sym (same_blank c))))
+      let more = text_goes rs ((t ++ between_lines s n (starts_blank l || is_blank c)) ++ c ∷ m) (c ∷ m) 0 (is_blank c) full (sym (same_blank c)) in
+      grind (arith, same_blank, append_assoc, more)
 
   first_goes : (rs : List Row) (n k : ℕ) → AreFull rs → has_content rs ≡ true → Holds (rows_after rs (after_empty n)) (breaks n ++ text_of s rs) (empty_after k rs)
   unfolding between
@@ -111,13 +107,9 @@ pub last_value : (h : defs.Header) (rs : List Row) (c : ℕ) (m : List ℕ) → 
     ≡ with_content h 0 (rs ++ content_row (c ∷ m) ∷ [])
 unfolding tail
 last_value h rs c m full =
-    let all = rs ++ content_row (c ∷ m) ∷ [] in
-    let x = after_row (is_literal_style h.style) (content_row (c ∷ m)) (after_rows (is_literal_style h.style) rs (after_empty 0)) in
-    let z = first_goes h.style all 0 0 (more_rows rs c m full).0 (more_rows rs c m full).1 in
+    let z = first_goes h.style (rs ++ content_row (c ∷ m) ∷ []) 0 0 (more_rows rs c m full).0 (more_rows rs c m full).1 in
     let more = rows_more (is_literal_style h.style) rs (content_row (c ∷ m)) (after_empty 0) in
-    let text : x.text ≡ text_of h.style all = ap (λ (l : Lines). l.text) (sym more) ∙ z.text_is in
-    let none : breaks (empty_after 0 all) ≡ [] = sym z.breaks_are ∙ ap (λ (l : Lines). l.breaks) more in
-    ap (λ t. t ++ tail (chomping_of h.chomping) true (record x { broken = false })) text ∙ ap (λ t. text_of h.style all ++ t) (grind arith)
+    grind (arith, z, more)
 
 -- ---- content is never empty
 

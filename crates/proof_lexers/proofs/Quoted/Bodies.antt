@@ -45,15 +45,14 @@ module _ (single : Bool) (ctx : Context) (start : Position) where
   by_step c b r s es m p t h k ready others (is_marked e f) = met_marker (rw e refl) (from_gap c b (b ++ r) s m p t h ready ∙ f)
   by_step c b r s es m p t h k ready others (is_shallow low e) = rw (from_gap c b (b ++ r) s m p t h ready) (was_shallow e)
 
-  by_elements : (c : ℕ) (b r : List ℕ) (s : Spelled) (o : Option (List Element)) (es : List Element) (m : Mode) (p : Position) (t : Folded) → element_of single c b ≡ Some s → elements (element_of single) s.further b ≡ o → put_before s.element o ≡ Some es
-      → Ready single t m → Passes s.further b r → Step single ctx start c b r p t s → Passed single ctx start (scan single ctx start (c ∷ (b ++ r)) m p t) (c ∷ b) r p.col (after_elements es t)
-  by_elements c b r s None es m p t h k e ready others z = cc
-  by_elements c b r s (Some fs) es m p t h k e ready others z = let same : s.element ∷ fs ≡ es = cc in rw (← same) (by_step c b r s fs m p t h k ready others z)
-
   by_element : (c : ℕ) (b r : List ℕ) (o : Option Spelled) (es : List Element) (m : Mode) (p : Position) (t : Folded) → element_of single c b ≡ o → followed o (λ n. elements (element_of single) n b) ≡ Some es
       → Ready single t m → ((n : ℕ) → Passes n b r) → StepOf single ctx start c b r p t o → Passed single ctx start (scan single ctx start (c ∷ (b ++ r)) m p t) (c ∷ b) r p.col (after_elements es t)
   by_element c b r None es m p t h e ready others z = cc
-  by_element c b r (Some s) es m p t h e ready others z = by_elements c b r s (elements (element_of single) s.further b) es m p t h refl e ready (others s.further) z
+  by_element c b r (Some s) es m p t h e ready others z = by (elements (element_of single) s.further b) refl e
+    where
+      by : (o : Option (List Element)) → elements (element_of single) s.further b ≡ o → put_before s.element o ≡ Some es → Passed single ctx start (scan single ctx start (c ∷ (b ++ r)) m p t) (c ∷ b) r p.col (after_elements es t)
+      by None k e = cc
+      by (Some fs) k e = let same : s.element ∷ fs ≡ es = cc in rw (← same) (by_step c b r s fs m p t h k ready (others s.further) z)
 
   no_elements : (r : List ℕ) (es : List Element) (m : Mode) (p : Position) (t : Folded) → is_document_marker r ≡ false → Some [] ≡ Some es → Ready single t m
       → Passed single ctx start (scan single ctx start r m p t) [] r p.col (after_elements es t)
