@@ -99,26 +99,16 @@ module _ (start : Position) (style : BlockStyle) (line r : List ℕ) (inner : is
   -- after the indicators, before the rest of the line
   finish : (h : defs.Header) → has_zero line ≡ false → after_style style (front line) ≡ Some h → Ends (header start (line ++ r) (past start))
   unfolding header header_end header_break
-  finish h free own = rw (indicators_read start style line r h ends free own) (told (rest_of_line w r q (in_line_is w ∙ rest_inner) ends))
-    where
-      q : Position
-      q = along (front line) (past start)
-
-      is : header_of (indicator_of style ∷ line) ≡ (if is_rest_of_line w then Some h else None)
-      is = header_is start style line h free own
-
-      rest_inner : is_in_line w ≡ true
-      rest_inner = (and_parts (is_in_line (front line)) (is_in_line w) (sym (list_all-append _ (front line) w) ∙ ap is_in_line (sym (front_cut line)) ∙ inner)).1
-
-      position : further (length w) q ≡ along line (past start)
-      position = sym (ap (λ x. along x (past start)) (front_cut line) ∙ along_append (front line) w (past start) ∙ along_further w q)
-
-      told : Rest w r q (space Yes (w ++ r) q)
-          → Ends (and_then (header_end start (w ++ r) q) (λ b. Ok (with_indicators (indicators_of h) b)))
-      told (rest_of_lines.ends v rest e) = rw (e, position) (at_line_end start style line r h ends (is ∙ rw rest refl))
-      told (glued text so unlike e) =
-          refuses _ (comment h (front line) text (is ∙ rw unlike refl) ((grind arith) ∙ own) (front_cut line ∙ ap (λ x. front line ++ x) so)) (rw e refl)
-      told (goes_on c more p v unlike begins solid e) = refuses _ (no_header (is ∙ rw unlike refl) free unlike begins) (rw (e, solid) refl)
+  finish h free own =
+      let q : Position = along (front line) (past start) in
+      let is = header_is start style line h free own in
+      let rest_inner = (and_parts (is_in_line (front line)) (is_in_line w) (sym (list_all-append _ (front line) w) ∙ ap is_in_line (sym (front_cut line)) ∙ inner)).1 in
+      let position : further (length w) q ≡ along line (past start) = sym (ap (λ x. along x (past start)) (front_cut line) ∙ along_append (front line) w (past start) ∙ along_further w q) in
+      rw (indicators_read start style line r h ends free own) (elim (rest_of_line w r q (in_line_is w ∙ rest_inner) ends) [
+        | rest_of_lines.ends v rest e ↦ rw (e, position) (at_line_end start style line r h ends (is ∙ rw rest refl))
+        | glued text so unlike e ↦ refuses _ (comment h (front line) text (is ∙ rw unlike refl) ((grind arith) ∙ own) (front_cut line ∙ ap (λ x. front line ++ x) so)) (rw e refl)
+        | goes_on c more p v unlike begins solid e ↦ refuses _ (no_header (is ∙ rw unlike refl) free unlike begins) (rw (e, solid) refl)
+      ])
 
   ended : Ends (header start (line ++ r) (past start))
   unfolding header

@@ -88,23 +88,15 @@ module _ (start : Position) (l n : List ℕ) (line : has_no_break l ≡ true) (e
     version_end : (s : List ℕ) (v w : ℕ) → after is_decimal_digit said ≡ 46 ∷ s → number_of major ≡ Some v → number_of (leading is_decimal_digit s) ≡ Some w
         → Told start l n (after_value start (record { rest = after is_decimal_digit s ++ n; position = further (length (leading is_decimal_digit s)) (past (further (length major) said_position)); value = Tok.version_directive v w }))
     version_end s v w point is is_w =
-        finish before rest (defs.version v w) _ cut position (says_version ∙ rw (point, is, is_w) refl)
+        let rest = after is_decimal_digit s in
+        let before = leading classes.is_alpha l ++ (leading classes.is_blank after_word ++ (major ++ 46 ∷ leading is_decimal_digit s)) in
+        let tail : said ≡ major ++ (46 ∷ s) = span_cut is_decimal_digit said ∙ ap (λ r. major ++ r) point in
+        let last = span_cut is_decimal_digit s in
+        let cut : l ≡ before ++ rest = grind (arith, from_word, tail, last, append_assoc) in
+        let is_before : (r : List ℕ) → rest ≡ r → IsVersionBefore l r =
+        λ r e. record { major = v; minor = w; point = s; is_version = record { is_name = word; is_whole = gap }; has_point = point; is_major = is; is_minor = is_w; is_before = e } in
+        finish before rest (defs.version v w) _ cut (grind (arith, length-append, same_place)) (says_version ∙ rw (point, is, is_w) refl)
         (λ k e. by_comment before k (cut ∙ ap (λ r. before ++ r) e) (is_before (35 ∷ k) e)) (λ none begins. after_version rest (is_before rest refl) none begins)
-      where
-        rest : List ℕ
-        rest = after is_decimal_digit s
-
-        before : List ℕ
-        before = leading classes.is_alpha l ++ (leading classes.is_blank after_word ++ (major ++ 46 ∷ leading is_decimal_digit s))
-
-        is_before : (r : List ℕ) → rest ≡ r → IsVersionBefore l r
-        is_before r e = record { major = v; minor = w; point = s; is_version = record { is_name = word; is_whole = gap }; has_point = point; is_major = is; is_minor = is_w; is_before = e }
-
-        cut : l ≡ before ++ rest
-        cut = let tail : said ≡ major ++ (46 ∷ s) = span_cut is_decimal_digit said ∙ ap (λ r. major ++ r) point in let last = span_cut is_decimal_digit s in grind (arith, from_word, tail, last, append_assoc)
-
-        position : further (length (leading is_decimal_digit s)) (past (further (length major) said_position)) ≡ further (suc (length before)) start
-        position = grind (arith, length-append, same_place)
 
     minor_read : (s : List ℕ) (v : ℕ) → after is_decimal_digit said ≡ 46 ∷ s → number_of major ≡ Some v
         → Told start l n (and_then (and_then (number start (s ++ n) (past (further (length major) said_position))) (λ k. Ok (with_minor v k))) (λ t. after_value start t))
@@ -177,21 +169,12 @@ module _ (start : Position) (l n : List ℕ) (line : has_no_break l ≡ true) (e
           → Told start l n (after_value start (record { rest = after_prefix ++ n; position = further (length prefix_text) prefix_position; value = Tok.tag_directive handle_is cs }))
       unfolding directive_of is_blank_or_end classes.is_blank classes.is_break is_nul
       declaration_end cs begins means apart =
-          finish before after_prefix (tag_declaration handle_is cs) _ cut position ((rw (word, gap) refl) ∙ declares cs begins means)
+          let before = leading classes.is_alpha l ++ (leading classes.is_blank after_word ++ (handle_is ++ (leading classes.is_blank after_handle ++ prefix_text))) in
+          let tail : after_handle ≡ leading classes.is_blank after_handle ++ (prefix_text ++ after_prefix) =
+          span_cut classes.is_blank after_handle ∙ ap (λ r. leading classes.is_blank after_handle ++ r) (span_cut classes.is_uri from_prefix) in
+          finish before after_prefix (tag_declaration handle_is cs) _ (grind (arith, from_word, spelled, tail, append_assoc, handle_is)) (grind (arith, length-append, same_place)) ((rw (word, gap) refl) ∙ declares cs begins means)
           (λ k e. absurd (cc (sym (ap is_at_gap e) ∙ apart)))
           (λ none begins_no. after_declaration after_prefix (record { prefix = cs; is_declaration = record { is_name = word; is_whole = gap }; has_handle = is; has_prefix = begins; is_prefix = means; is_before = refl; is_apart = apart }) none)
-        where
-          before : List ℕ
-          before = leading classes.is_alpha l ++ (leading classes.is_blank after_word ++ (handle_is ++ (leading classes.is_blank after_handle ++ prefix_text)))
-
-          tail : said ≡ handle_is ++ (leading classes.is_blank after_handle ++ (prefix_text ++ after_prefix))
-          tail = spelled ∙ ap (λ r. handle_is ++ r) (span_cut classes.is_blank after_handle ∙ ap (λ r. leading classes.is_blank after_handle ++ r) (span_cut classes.is_uri from_prefix))
-
-          cut : l ≡ before ++ after_prefix
-          cut = grind (arith, from_word, tail, append_assoc, handle_is)
-
-          position : further (length prefix_text) prefix_position ≡ further (suc (length before)) start
-          position = grind (arith, length-append, same_place)
 
       -- what the scan of the prefix leaves, by what its characters mean
       abbrev prefix_result : Result (List ℕ) UriFault → Result (Read (List ℕ)) Fault

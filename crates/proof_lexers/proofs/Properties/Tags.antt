@@ -171,13 +171,10 @@ module _ (flow : Bool) (start : Position) (text name : List ℕ) (all : all_of c
 shorthand_from : (flow : Bool) (start : Position) (a m : List ℕ) → begins_with 60 a ≡ false → after classes.is_alpha a ≡ m
     → Ends flow start a (and_then (after_name start (leading classes.is_alpha a) m (further (length (leading classes.is_alpha a)) (past start))) (λ t. tag_end flow start t))
 shorthand_from flow start a [] not_verbatim e = from_word flow start a (leading classes.is_alpha a) (all_leading classes.is_alpha a) [] (span_cut classes.is_alpha a ∙ ap (λ r. leading classes.is_alpha a ++ r) e) e not_verbatim refl refl
-shorthand_from flow start a (c ∷ s) not_verbatim e = elim (cases_Bool (c == 33)) [
+shorthand_from flow start a (c ∷ s) not_verbatim e = let cut = span_cut classes.is_alpha a ∙ ap (λ r. leading classes.is_alpha a ++ r) e in elim (cases_Bool (c == 33)) [
   | inl f ↦ let same : c ≡ 33 = eqb-true c 33 f in rw same (from_mark flow start a (leading classes.is_alpha a) (all_leading classes.is_alpha a) s (cut ∙ ap (λ d. leading classes.is_alpha a ++ d ∷ s) same))
   | inr f ↦ from_word flow start a (leading classes.is_alpha a) (all_leading classes.is_alpha a) (c ∷ s) cut e not_verbatim (ap (begins_in classes.is_alpha) (sym e) ∙ ends_after classes.is_alpha a) f
 ]
-  where
-    cut : a ≡ leading classes.is_alpha a ++ c ∷ s
-    cut = span_cut classes.is_alpha a ∙ ap (λ r. leading classes.is_alpha a ++ r) e
 
 shorthands : (flow : Bool) (start : Position) (a : List ℕ) → (slice_index a 0 == 60) ≡ false → Ends flow start a (tag flow (33 ∷ a) start)
 unfolding tag shorthand

@@ -89,21 +89,16 @@ module _ (single : Bool) (ctx : Context) (start : Position) where
   pub through : (P : Result (Read (List ℕ)) Fault → Type 0) (body rest : List ℕ) (es : List Element) → elements (element_of single) 0 body ≡ Some es → (slice_index rest 0 == 10) ≡ false → is_document_marker rest ≡ false
       → ((x : Result (Read (List ℕ)) Fault) → IsShallow ctx start x → P x) → (has_marker body rest ≡ true → P (Err (At QuotedDocumentMarker start)))
       → ((m : Mode) (q : Position) → Ready single (after_elements es nothing) m → has_marker body rest ≡ false → P (scan single ctx start rest m q (after_elements es nothing))) → P (scan single ctx start (body ++ rest) first (past start) nothing)
-  through P body rest es are no_feed still is_low by_mark goes = elim (opens (body ++ rest) (past start) off) [
+  through P body rest es are no_feed still is_low by_mark goes = let off = off_margin start.col 0 in elim (opens (body ++ rest) (past start) off) [
     | not_opened s ↦ is_low _ s
     | opened e ↦ rw e (elim (passes 0 body rest no_feed still es gap (past start) nothing are in_gap) [
-      | passed m q ready none f ↦ rw f (goes m q ready (marks false none))
-      | met_marker meets f ↦ rw f (by_mark (marks true meets))
+      | passed m q ready none f ↦ rw f (goes m q ready (rw off at none))
+      | met_marker meets f ↦ rw f (by_mark (rw off at meets))
       | was_shallow s ↦ is_low _ s
     ])
   ]
-    where
-      off : (start.col + 1 == 0) ≡ false
-      off = off_margin start.col 0
 
-      marks : (b : Bool) → marked_from (start.col + 1) body rest ≡ b → has_marker body rest ≡ b
-      marks b h = rw off at h
-      -- ---- the closing quote
+-- ---- the closing quote
 
 closes : (single : Bool) (ctx : Context) (start : Position) (r : List ℕ) (p : Position) (u : Folded) → ends_before single r ≡ true → scan single ctx start (quote_of single ∷ r) inside p u ≡ Ok (record { rest = r; position = past p; value = u.text })
 unfolding is_break is_blank
