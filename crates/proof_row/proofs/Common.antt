@@ -1,6 +1,6 @@
 -- The words of other crates and of specs/ that the proofs here use, passed on from one place. Declares nothing.
 pub use Rattle.std.proofs.Common.{[], ap, append-nil, append_assoc, arith, Bool, codes, drop, false, if◌then◌else◌, inl, inr, length, List, map, max, nat_lt, None, not, Option, refl, replicate, Some, subst, suc, sym, true, zero, ℕ, ◌&&◌, ◌++◌, ◌+◌, ◌-◌, ◌<◌, ◌==◌, ◌||◌, ◌∙◌, ◌∷◌, ◌≡◌, ◌≢◌, ◌≤◌, ◌⊎◌}
-pub use Rattle.std.proofs.lemmas.Bool.{eqb-true, lt-leb}
+pub use Rattle.std.proofs.lemmas.Bool.{cases_Bool, eqb-true, lt-leb}
 pub use Rattle.std.proofs.lemmas.Bool.Decides.{nat_tests}
 pub use Rattle.std.proofs.lemmas.List.{append_cancel_right, length-take, take-append-le}
 pub use Rattle.defs_text.specs.BlockScalar.{BlockStyle, body, column_by, content_column, deepest_start, Ending, further_text, Header, header_of, is_further_text, is_outside, is_spaces, leading_spaces, rows_of, value_at_text, value_by}
