@@ -25,16 +25,14 @@ pub record Context : Type 0 where
 abbrev pub context_of : Account → Context
 context_of a = record { in_flow = is_in_flow a; adjacent = is_adjacent a.before; column = a.position.col; collection = collection_column a }
 
-abbrev IsPlainIn : Context → (piece next text : List ℕ) → Type 0
-IsPlainIn a p x text = Holds (begins_plain a.in_flow a.adjacent a.column (p ++ x)) × Holds (is_whole_plain a.in_flow a.collection p x) × (plain_value p ≡ Some text)
-
 abbrev IsMarkerIn : Context → (piece next marker : List ℕ) → Type 0
 IsMarkerIn a p x marker = (p ≡ marker) × (a.column ≡ 0) × Holds (is_at_gap x)
 
 -- a piece of a kind, and its token
 abbrev pub Whole : Kind → Context → (piece next : List ℕ) → Tok → Type 0
 Whole nothing a p x t = ⊥
-Whole plain_scalar a p x t = (text : List ℕ) × IsPlainIn a p x text × (t ≡ scalar plain text)
+Whole plain_scalar a p x t = 
+    (text : List ℕ) × (Holds (begins_plain a.in_flow a.adjacent a.column (p ++ x)) × Holds (is_whole_plain a.in_flow a.collection p x) × (plain_value p ≡ Some text)) × (t ≡ scalar plain text)
 Whole sequence_opening a p x t = (p ≡ codes "[") × (t ≡ flow_sequence_start)
 Whole sequence_closing a p x t = (p ≡ codes "]") × (t ≡ flow_sequence_end)
 Whole mapping_opening a p x t = (p ≡ codes "{") × (t ≡ flow_mapping_start)

@@ -129,19 +129,14 @@ module _ (s : Site) (line : Line) (f : List ℕ) (c : ℕ) (r : List ℕ) (t : T
       more : Option Line → List Token
       more o = begun_outside (is_deeper site_here.position.col site_here.blocks) site_here.position (colon site_here).here (act_of t) key o
 
-      us : List Token
-      us = ends_at site_here.position s.blocks site_here.blocks ++ more (Some l)
-
-      begin : PieceAccount
-      begin = account_by site_here.position before_here (somes (with_key site_here.blocks l)) []
-
-      by : (o : Option Outside) → past_outside site_here (c ∷ r) t further o ≡ Some x → BegunBy begin (more (Some l)) ((c ∷ r) ++ further) t (act_of t) c r site_here.blocks o → WaitsThen (act_of t) site_here.position.col o → IsCut []
+      by : (o : Option Outside) → past_outside site_here (c ∷ r) t further o ≡ Some x → BegunBy (account_by site_here.position before_here (somes (with_key site_here.blocks l)) []) (more (Some l)) ((c ∷ r) ++ further) t (act_of t) c r site_here.blocks o → WaitsThen (act_of t) site_here.position.col o → IsCut []
       by None e g k = absurd (cc e)
       by (Some o) e g k =
           let z : Account = record { site = site_past false site_here (c ∷ r) t further o.blocks; line = o.line; entries = begun_by t } in
           let to : z ≡ x = cc e in
           let line_is : o.line ≡ x.line = ap (λ y. y.line) to in
           let one_line : is_waiting o.line ≡ true → has_no_break (c ∷ r) ≡ true = λ h. (grind arith) in
+          let us : List Token = ends_at site_here.position s.blocks site_here.blocks ++ more (Some l) in
           let lead = leads (more (Some l)) ((c ∷ r) ++ further) t g.are_empty in
           let opened : PieceAccount = account_by site_here.position before_here (somes (with_key o.blocks o.line)) [] in
           let there : account_at_piece (past_all (account_past_separation (in_cut (place [])) f ((c ∷ r) ++ further)) us) (c ∷ r) ≡ opened = ap (λ d. account_at_piece d (c ∷ r)) lead.1 ∙ g.blocks_are in

@@ -20,14 +20,11 @@ module _ (h : defs.Header) (line : List ℕ) (k : Break) (indent : ℕ) (p : Pos
   abbrev pub start : Position
   start = after_break k (along line (past p))
 
-  abbrev pub head : Header
-  head = record { indicators = indicators_of h; broken = true }
-
   abbrev pub scanned : List ℕ → Result (Read Block) Fault
   scanned a = block (is_literal_style h.style) indent (indicator_of h.style ∷ (line ++ put k a)) p
 
   abbrev pub after : Read Column → Result (Read Block) Fault
-  after r = after_header (is_literal_style h.style) indent p head r
+  after r = after_header (is_literal_style h.style) indent p (record { indicators = indicators_of h; broken = true }) r
 
   pub block_is : (ms : List Line) (e : List ℕ) (column : ℕ) → column_by h.digit (collection_of indent) (texts ms ++ e ∷ []) ≡ column → AreLines ms e → is_in_line e ≡ true → Fits k (spell ms e) → begins_with tab (spell ms e) ≡ false
       → scanned (spell ms e) ≡ after (indent_from column (spell ms e) (at start []))

@@ -136,9 +136,6 @@ module _ (ctx : Context) (start : Position) (c : ℕ) (a : List ℕ) (white : is
   break : classes.is_break c ≡ false
   break = (or_parts (classes.is_blank c) (classes.is_break c) white).1
 
-  abbrev read_first : Folded
-  read_first = with_char c (joined nothing)
-
   no_marker : (more next : List ℕ) → goes_on ctx.flow (collection_of ctx.indent) defs.inside more next ≡ true → has_document_marker (c ∷ more) ≡ false
   no_marker more next h = rw (break, no_markers ctx.flow (collection_of ctx.indent) defs.inside more next h) refl
 
@@ -165,7 +162,7 @@ module _ (ctx : Context) (start : Position) (c : ℕ) (a : List ℕ) (white : is
       by_tab deep (record { before = c ∷ before; blanks = blanks; rest = rest; column = column; is_text = ap (λ r. c ∷ r) cut; is_over = goes; is_at = stand_is before ∙ line; is_left = less; are_blanks = are; is_token = solid })
   refusal deep f (tabbed (after_tab blanks rest no_tab cut are solid)) = cc
 
-  ended : begins_left ctx start ≡ false → (x : Result (Read Plain) Fault) → Found ctx start false defs.inside (machine.past start) read_first a x → EndsAs (IsPlainRead ctx start (c ∷ a)) (IsPlainRefusal ctx start (c ∷ a)) x
+  ended : begins_left ctx start ≡ false → (x : Result (Read Plain) Fault) → Found ctx start false defs.inside (machine.past start) (with_char c (joined nothing)) a x → EndsAs (IsPlainRead ctx start (c ∷ a)) (IsPlainRefusal ctx start (c ∷ a)) x
   ended deep x (found more gap rest cut goes solid stop gaps ends is) =
       let content = solid_first ctx start c more white solid in
       let stopping : stops ctx.flow (collection_of ctx.indent) defs.inside (gap ++ rest) ≡ true = inside_too more stop in
@@ -177,7 +174,7 @@ module _ (ctx : Context) (start : Position) (c : ℕ) (a : List ℕ) (white : is
   ended deep x (fails f why is) = refuses f (refusal deep f why) is
 
   begun : begins_left ctx start ≡ false → has_no_nul a ≡ true → is_indented ctx start ≡ true → EndsAs (IsPlainRead ctx start (c ∷ a)) (IsPlainRefusal ctx start (c ∷ a)) (plain_from ctx start (c ∷ a) (record { mode = first; position = start; folded = nothing }))
-  begun left full indented = ended left _ (scans ctx start a full inside defs.inside (machine.past start) read_first (in_line (c ∷ []) refl (off_margin start.col) (deep ctx start indented)))
+  begun left full indented = ended left _ (scans ctx start a full inside defs.inside (machine.past start) (with_char c (joined nothing)) (in_line (c ∷ []) refl (off_margin start.col) (deep ctx start indented)))
 
   started : (column at : Bool) → (ctx.flow && nat_lt start.col ctx.indent) ≡ column → at_dash ctx.flow (c ∷ a) ≡ at → has_no_nul a ≡ true → is_indented ctx start ≡ true → EndsAs (IsPlainRead ctx start (c ∷ a)) (IsPlainRefusal ctx start (c ∷ a)) (plain ctx (c ∷ a) start)
   unfolding plain starts

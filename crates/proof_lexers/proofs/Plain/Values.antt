@@ -13,10 +13,7 @@ record Elements (n : ℕ) (a : List ℕ) : Type 0 where
   are : elements plain_element n a ≡ Some all
   same : (t : Folded) → after_elements all t ≡ after_text (drop n a) t
 
-abbrev spelled : Element → ℕ → Spelled
-spelled e k = record { element = e; further = k }
-
-one_more : (c : ℕ) (a : List ℕ) (e : Element) (k : ℕ) → plain_element c a ≡ Some (spelled e k) → ((t : Folded) → after_text (drop k a) (after_element e t) ≡ after_text (c ∷ a) t) → Elements k a → Elements 0 (c ∷ a)
+one_more : (c : ℕ) (a : List ℕ) (e : Element) (k : ℕ) → plain_element c a ≡ Some (record { element = e; further = k }) → ((t : Folded) → after_text (drop k a) (after_element e t) ≡ after_text (c ∷ a) t) → Elements k a → Elements 0 (c ∷ a)
 one_more c a e k is same z = record { all = e ∷ z.all; are = rw (is, z.are) refl; same = λ t. z.same (after_element e t) ∙ same t }
 
 feed_text : (b : List ℕ) (t : Folded) → after_text b (with_break t) ≡ after_text (10 ∷ b) t
