@@ -94,9 +94,6 @@ here a c r h = there a.in_flow a.adjacent a.column c r h
 known : (a : Context) (p r x : List ℕ) (k : Kind) → p ≡ r → IsThere a (r ++ x) k → IsThere a (p ++ x) k
 known a p r x k e h = subst (λ z. IsThere a (z ++ x) k) (sym e) h
 
-block_there : (a : Context) (p x : List ℕ) → a.in_flow ≡ false → begins_block p ≡ true → IsThere a (p ++ x) block_scalar
-block_there a b x o h = grind (arith, there, unplain, eqb-true)
-
 -- the text at a piece says the piece's kind
 pub kind_there : (k : Kind) (a : Context) (p x : List ℕ) (t : Tok) → Whole k a p x t → IsThere a (p ++ x) k
 unfolding is_blank_or_end is_blank is_break is_nul is_flow
@@ -108,7 +105,7 @@ kind_there directive_line a p x t h =
     let r : (r : List ℕ) × (p ≡ 37 ∷ r) = directive_begins p h.0 h.1 in
     known a p (37 ∷ r.0) x _ r.1 (here a 37 (r.0 ++ x) refl)
 kind_there tag_text a p x t h = grind (arith, nat_tests, eqb-true, mark_is_first, known, here)
-kind_there block_scalar a p x t h = block_there a p x h.2 (block_begins a.collection p x h.0 h.1)
+kind_there block_scalar a p x t h = let begins = block_begins a.collection p x h.0 h.1 in grind (arith, there, unplain, eqb-true, begins)
 kind_there k a p x t h = grind (arith, known, here, unplain, space_is_gap)
 
 -- and no separation goes on over it

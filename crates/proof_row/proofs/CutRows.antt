@@ -1,5 +1,6 @@
 -- Each step of a row is a row of a cut: tokens without a piece, and the one that it shows.
 use Rattle.proof_row.proofs.Common.{[], account_at_piece, account_past, account_past_separation, account_past_token, Act, act_of, ap, arith, Before, before_past, begins_free_line, begun_by, begun_inside, begun_outside, Bool, Colon, ends_at, entries_past, Entry, false, free, gives_node, has_break, has_no_break, if◌then◌else◌, inl, inr, is_deeper, is_in_column, is_in_line, is_marker, is_renewed, is_separation, is_waiting, IsPiece, IsWritten, key_end, length, level_of, Line, line_past, line_past_separation, List, map, may_stand, None, not_ended, on_one_line, Option, Outside, pair_position, past_inside, past_outside, past_piece, piece_with_blocks, Position, position_after, previous_by, put, refl, seen, shown_position, Site, site_at, site_past, Some, Step, subst, suc, sym, taken, takes_pair, Tok, Token, tokens_of_step, true, waits, ℕ, ◌&&◌, ◌++◌, ◌<◌, ◌∙◌, ◌∷◌, ◌≡◌, ◌≤◌}
+use Rattle.std.proofs.Math.Bool.{and-false}
 use Rattle.defs_token.specs.Account.{Account as PieceAccount}
 use Rattle.defs_token.specs.Step as step
 use Rattle.defs_token.specs.RowAccount.{Account, before_by as before_by_previous}
@@ -234,16 +235,13 @@ cut_no_key must a w ws after x none idle idle_then h same = by a.entries w.piece
     next : List ℕ
     next = step.spelled ws after
 
-    not_both : (m n : Bool) → n ≡ false → (m && n) ≡ false
-    not_both a n e = grind arith
-
     by : (es : List Entry) (p : List ℕ) → es ≡ [] →
         (let b : Account = record { site = a.site; line = a.line; entries = es } in let v : Step = record { separation = w.separation; piece = p; shown = w.shown; key = w.key } in let at : Site = site_at false a.site w.separation p w.shown next in
         IsWritten b v next → past_by must at p w.shown next w.key (line_past_separation false (begins_free_line a.site.before w.separation) a.line) ≡ Some x → IsCutStep b v ws after x)
     by (e ∷ es) p i h same = absurd (cc i)
     by [] [] i h same = absurd (cc h.1.0)
     by [] (c ∷ r) i h same =
-        outside_step a.site a.line w.separation c r w.shown w.key ws after x must h same (not_both (has_break (c ∷ r)) (is_waiting x.line) idle_then)
+        outside_step a.site a.line w.separation c r w.shown w.key ws after x must h same (rw idle_then (and-false (has_break (c ∷ r))))
         (λ k j. absurd (cc (j, idle_then))) (idle_kept a.line a.site idle)
 
 -- A step of a row is a row of a cut, if where a key waits the text after it goes on in the line.

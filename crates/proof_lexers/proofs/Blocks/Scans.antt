@@ -176,9 +176,6 @@ module _ (h : defs.Header) (line : List ℕ) (k : Break) (indent : ℕ) (p : Pos
     abbrev last_read : Lines
     last_read = written (is_literal_style h.style) column last_row rows_read
 
-    opens : (n : ℕ) → suc column ≤ n → (nat_le column n && nat_lt 0 n) ≡ true
-    opens n h = grind (arith, nat_tests)
-
     pub before_the_end : (r : Row) → IsRow column last r → read_end r
     before_the_end empty_row (no_content spaces le) = elim (cases_Bool (has_content rs)) [
       | inl e ↦ content_by empty_row rows_read (sees_before e)
@@ -190,7 +187,7 @@ module _ (h : defs.Header) (line : List ℕ) (k : Break) (indent : ℕ) (p : Pos
     before_the_end (content_row m) (is_content lead long free) =
         let col : last_position.col + column ≡ column = (let e = at_front in omega (arith, e)) in
         let z = starts column column last last_position col lead long last_inner in
-        let content_text : last_read.text ++ tail (chomping_of h.chomping) (is_open column [] (along last last_position).col) last_read ≡ value_before_end h column rs last last_row = let open_is : is_open column [] (along last last_position).col ≡ true = ap (λ n. nat_le column n && nat_lt 0 n) far ∙ opens (length last) long in
+        let content_text : last_read.text ++ tail (chomping_of h.chomping) (is_open column [] (along last last_position).col) last_read ≡ value_before_end h column rs last last_row = let open_is : is_open column [] (along last last_position).col ≡ true = ap (λ n. nat_le column n && nat_lt 0 n) far ∙ (grind (arith, nat_tests)) in
         rw (open_is, z.is) (last_value h rs z.char z.rest (are_full column (texts ls) rs rows)) in
         content_by last_row last_read (elim (cases_Bool (has_content rs)) [
           | inl e ↦ sees_before e
@@ -207,25 +204,15 @@ module _ (h : defs.Header) (line : List ℕ) (k : Break) (indent : ℕ) (p : Pos
 
 -- ---- a header at the end of the text
 
-no_lines : (indent increment : ℕ) (q : Position)
-    → ((content indent increment [] q).rest ≡ []) × ((content indent increment [] q).position ≡ q)
-unfolding content
-no_lines indent a q = (grind (arith, nat_tests), grind (arith, nat_tests))
-
-nothing_there : (ch : defs.Chomping) (b : List ℕ) → empty_text (chomping_of ch) false b ≡ []
-unfolding empty_text
-nothing_there ch b = grind arith
-
 pub header_alone_is_read : (h : defs.Header) (line : List ℕ) (indent : ℕ) (p : Position) → header_of (indicator_of h.style ∷ line) ≡ Some h → is_in_line line ≡ true
     → IsRead indent p (record { style = h.style; column = 0; text = [] }) (indicator_of h.style ∷ line) [] (block (is_literal_style h.style) indent (indicator_of h.style ∷ line) p)
-unfolding block
+unfolding block content empty_text
 header_alone_is_read h line indent p is inner =
     let q = along line (past p) in
     let i = digit_or_zero h.digit in
     let header_reads_it : header p line (past p) ≡ Ok (read_header h [] q) = ap (λ a. header p a (past p)) (sym (append-nil line)) ∙ header_reads h line [] p is inner refl refl in
     let ends : after_header (is_literal_style h.style) indent p (record { indicators = indicators_of h; broken = false }) (content indent i [] q) ≡ Ok (record { rest = []; position = q; value = record { position = p; text = [] } }) =
-    let none = no_lines indent i q in
-    rw (none.0, none.1, nothing_there h.chomping (content indent i [] q).value.breaks) refl in
+    grind (arith, nat_tests) in
     let position : q ≡ further_position p (indicator_of h.style ∷ line) [] =
     sym (ap (λ x. position_after p x []) (sym (append-nil (indicator_of h.style ∷ line))) ∙ after_chars (indicator_of h.style ∷ line) [] [] p (style_inner h.style line inner)) in
     let where_is : block_position 0 p (indicator_of h.style ∷ line) [] ≡ p = ap (λ o. position_or o p) (header_alone 0 (indicator_of h.style ∷ line) p (style_inner h.style line inner)) in

@@ -218,12 +218,9 @@ outside (suc n) column (c ∷ r) p col h = elim (cases_Bool (c == 32)) [
       here_outside column c r p e (sym (same_break c) ∙ not-true _ q.0) (omega (arith, col)) (grind (arith, ne_eqb))
 ]
 
-marked : (r : List ℕ) (p : Position) → p.col ≡ 0 → is_document_marker r ≡ true → Outside 0 r p
-unfolding begins are_marks is_break
-marked a p col h = grind (arith, same_marker, begins, here_outside)
-
 pub further_outside : (column : ℕ) (r : List ℕ) (p : Position) → p.col ≡ 0 → is_further_text column r ≡ true → Outside column r p
-further_outside zero r p col h = marked r p col h
+unfolding begins are_marks is_break
+further_outside zero r p col h = grind (arith, same_marker, begins, here_outside)
 further_outside (suc n) r p col h = outside (suc n) (suc n) r p (omega (arith, col)) h
 
 pub further_stops : (literal : Bool) (column : ℕ) (r : List ℕ) (p : Position) (x : Lines) → Outside column r p → scan literal column r (front p x) ≡ Ok (record { rest = without_spaces r; position = past_spaces p r; value = x })

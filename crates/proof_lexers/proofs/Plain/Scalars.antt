@@ -136,9 +136,6 @@ module _ (ctx : Context) (start : Position) (c : ℕ) (a : List ℕ) (white : is
   break : classes.is_break c ≡ false
   break = (or_parts (classes.is_blank c) (classes.is_break c) white).1
 
-  no_marker : (more next : List ℕ) → goes_on ctx.flow (collection_of ctx.indent) defs.inside more next ≡ true → has_document_marker (c ∷ more) ≡ false
-  no_marker more next h = rw (break, no_markers ctx.flow (collection_of ctx.indent) defs.inside more next h) refl
-
   after_first : (more rest : List ℕ) → position_after (machine.past start) more rest ≡ position_after start (c ∷ more) rest
   after_first more rest = ap (λ q. position_after q more rest) (sym (in_line_position c (more ++ rest) start (rw break refl)))
 
@@ -166,15 +163,12 @@ module _ (ctx : Context) (start : Position) (c : ℕ) (a : List ℕ) (white : is
   ended deep x (found more gap rest cut goes solid stop gaps ends is) =
       let content = solid_first ctx start c more white solid in
       let stopping : stops ctx.flow (collection_of ctx.indent) defs.inside (gap ++ rest) ≡ true = inside_too more stop in
-      reads _ (whole_plain (c ∷ more) gap rest _ (ap (λ r. c ∷ r) cut) (rw (goes, content, stopping) refl) gaps ends (value_is c more (no_marker more (gap ++ rest) goes) content))
+      reads _ (whole_plain (c ∷ more) gap rest _ (ap (λ r. c ∷ r) cut) (rw (goes, content, stopping) refl) gaps ends (value_is c more (rw (break, no_markers ctx.flow (collection_of ctx.indent) defs.inside more (gap ++ rest) goes) refl) content))
       (is ∙ same_left ctx start rest _ _ _ _ _ _ (after_first (more ++ gap) rest) (ap (λ u. (after_text more u).text) (content_char ctx start c more nothing break blank)) (no_lead ctx start c more gap nothing))
     where
       inside_too : (more : List ℕ) → stops ctx.flow (collection_of ctx.indent) (after_more defs.inside more) (gap ++ rest) ≡ true → stops ctx.flow (collection_of ctx.indent) defs.inside (gap ++ rest) ≡ true
       inside_too a h = grind arith
   ended deep x (fails f why is) = refuses f (refusal deep f why) is
-
-  begun : begins_left ctx start ≡ false → has_no_nul a ≡ true → is_indented ctx start ≡ true → EndsAs (IsPlainRead ctx start (c ∷ a)) (IsPlainRefusal ctx start (c ∷ a)) (plain_from ctx start (c ∷ a) (record { mode = first; position = start; folded = nothing }))
-  begun left full indented = ended left _ (scans ctx start a full inside defs.inside (machine.past start) (with_char c (joined nothing)) (in_line (c ∷ []) refl (off_margin start.col) (deep ctx start indented)))
 
   started : (column at : Bool) → (ctx.flow && nat_lt start.col ctx.indent) ≡ column → at_dash ctx.flow (c ∷ a) ≡ at → has_no_nul a ≡ true → is_indented ctx start ≡ true → EndsAs (IsPlainRead ctx start (c ∷ a)) (IsPlainRefusal ctx start (c ∷ a)) (plain ctx (c ∷ a) start)
   unfolding plain starts
@@ -182,7 +176,8 @@ module _ (ctx : Context) (start : Position) (c : ℕ) (a : List ℕ) (white : is
   started false true e f full indented =
       let q = dash_parts ctx start ctx.flow c a f in
       refuses (At PlainDashInFlow start) (by_dash [] a e (λ t. flow_untabbed ctx start a defs.inside q.0 q.2 (tab_later t)) q.0 (ap (λ d. d ∷ a) q.1) q.2 refl refl) (rw (e, f) refl)
-  started false false e f full indented = rw (e, f) (begun e full indented)
+  started false false e f full indented = 
+      rw (e, f) (ended e _ (scans ctx start a full inside defs.inside (machine.past start) (with_char c (joined nothing)) (in_line (c ∷ []) refl (off_margin start.col) (deep ctx start indented))))
 
 pub scans_end : PlainScansEndAsTheirTextSays
 scans_end ctx [] p full solid indented = cc

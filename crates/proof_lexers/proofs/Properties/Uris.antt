@@ -92,10 +92,6 @@ module _ (test class : ℕ → Bool) (start : Position) (same : (c : ℕ) → cl
   Trails left = (code least : ℕ) (a : List ℕ) (p : Position) (t : List ℕ) → ((n : ℕ) → Plain (drop n a))
       → trails_from test start left code least a p t ≡ answer a p t (completed least (trails left code (leading class a)) (decoded_after 0 (drop (3 * left) (leading class a))))
 
-  -- a code that is completed
-  whole_code : (code least : ℕ) (a : List ℕ) (p : Position) (t : List ℕ) → Plain a → trails_from test start 0 code least a p t ≡ answer a p t (completed least (Ok code) (decoded (leading class a)))
-  whole_code code least a p t here = grind (arith, same_code, with_code, class)
-
   -- an octet more of a code
   next_octet : (left code least x y n : ℕ) (b : List ℕ) (p : Position) (t : List ℕ) → Trails left → ((k : ℕ) → Plain (drop k b)) → class x ≡ true → class y ≡ true → octet_at (37 ∷ x ∷ y ∷ leading class b) ≡ Some n
       → octet_from test start (trail left code least) n b (past (past (past p))) t
@@ -120,7 +116,7 @@ module _ (test class : ℕ → Bool) (start : Position) (same : (c : ℕ) → cl
 
   trailing : (left : ℕ) → Trails left
   unfolding octet_at
-  trailing zero code least a p t plains = whole_code code least a p t (plains 0)
+  trailing zero code least a p t plains = grind (arith, same_code, with_code, class, plains 0)
   trailing (suc left) code least [] p t plains = refl
   trailing (suc left) code least (c ∷ a) p t plains = elim (cases_Bool (c == 37)) [
     | inl e ↦

@@ -39,14 +39,13 @@ pub no_element : (single : Bool) (c : ℕ) (b : List ℕ) → (c == 0) ≡ false
 unfolding single_quoted_element double_quoted_element is_nul plain_element
 no_element single c b nul h = grind (arith, closing, slash, eqb-true)
 
-none_shape : (single : Bool) (c : ℕ) (b : List ℕ) → NoElement single c b → Shape single (c ∷ b)
-none_shape single c b (closing q ends) = closed [] b (ap (λ x. x ∷ b) q) ([], refl) ends
-none_shape single c b (slash double q bad) = badly_escaped [] b double (ap (λ x. x ∷ b) q) ([], refl) bad
-
 -- ---- every text
 
 shape_by : (single : Bool) (c : ℕ) (b : List ℕ) (o : Option Spelled) → (c == 0) ≡ false → element_of single c b ≡ o → LocalOf (element_of single c) b o → ((n : ℕ) → Shape single (drop n b)) → Shape single (c ∷ b)
-shape_by single c b None nul e z others = none_shape single c b (no_element single c b nul e)
+shape_by single c b None nul e z others = elim (no_element single c b nul e) [
+  | closing q ends ↦ closed [] b (ap (λ x. x ∷ b) q) ([], refl) ends
+  | slash double q bad ↦ badly_escaped [] b double (ap (λ x. x ∷ b) q) ([], refl) bad
+]
 shape_by single c b (Some s) nul e z others = grown single c b s e z (others s.further)
 
 shape_from : (single : Bool) (n : ℕ) (a : List ℕ) → list_all is_some a ≡ true → Shape single (drop n a)
