@@ -76,20 +76,11 @@ spells_name [] (c ∷ l) n h k = grind (arith, same_alpha)
 spells_name (d ∷ w) [] n h k = grind (arith, distinct, first_at_end)
 spells_name (d ∷ w) (c ∷ l) n h k = grind (arith, same_alpha, distinct, spells_name w l n)
 
-version_spelled : (a : List ℕ) → ((slice_index a 0 == 89) && (slice_index a 1 == 65) && (slice_index a 2 == 77) && (slice_index a 3 == 76) && not (is_alpha (slice_index a 4))) ≡ spells (codes "YAML") a
-version_spelled b = grind (arith, and_assoc)
-
-declaration_spelled : (a : List ℕ) → ((slice_index a 0 == 84) && (slice_index a 1 == 65) && (slice_index a 2 == 71) && not (is_alpha (slice_index a 3))) ≡ spells (codes "TAG") a
-declaration_spelled b = grind (arith, and_assoc)
-
 -- the kind of a directive by its name
 pub kind_is : (l n : List ℕ) → ends_line n ≡ true
     → kind (l ++ n) ≡ (if is_same (leading classes.is_alpha l) (codes "YAML") then version else (if is_same (leading classes.is_alpha l) (codes "TAG") then tag else unknown))
 unfolding kind classes.is_alpha is_decimal_digit is_letter
-kind_is l n h =
-    let first = version_spelled (l ++ n) ∙ spells_name (codes "YAML") l n refl h in
-    let second = declaration_spelled (l ++ n) ∙ spells_name (codes "TAG") l n refl h in
-    rw (first, second) refl
+kind_is l n h = let first = spells_name (codes "YAML") l n refl h in let second = spells_name (codes "TAG") l n refl h in grind (arith, and_assoc, first, second)
 
 -- whether a blank, a break or the end stands after part of a line
 pub gap_is : (m n : List ℕ) → ends_line n ≡ true → is_blank_or_breakz (slice_index (m ++ n) 0) ≡ is_at_gap m

@@ -36,9 +36,6 @@ pub close_is_no_uri : classes.is_uri 62 ≡ false
 unfolding classes.is_uri is_decimal_digit is_letter
 close_is_no_uri = refl
 
-pub closed_position : (p : Position) (n m : ℕ) → m ≡ n + 1 → past (further n (past (past p))) ≡ further (suc (suc m)) p
-closed_position p n m e = same_place p (suc (suc m)) (omega (arith, e)) (omega (arith, e))
-
 module _ (flow : Bool) (start : Position) (b : List ℕ) where
   abbrev written : List ℕ
   written = leading classes.is_uri b
@@ -50,7 +47,7 @@ module _ (flow : Bool) (start : Position) (b : List ℕ) where
     | inl f ↦
         let same : c ≡ 62 = eqb-true c 62 f in
         let cut : b ≡ (written ++ 62 ∷ []) ++ r = span_cut classes.is_uri b ∙ ap (λ k. written ++ k) (e ∙ ap (λ d. d ∷ r) same) ∙ sym (append_assoc written (62 ∷ []) r) in
-        rw f (ended flow start (60 ∷ b) (60 ∷ (written ++ 62 ∷ [])) r [] cs _ (ap (λ k. 60 ∷ k) cut) verbatim_written (closed_position start (length written) _ (length-append written (62 ∷ [])))
+        rw f (ended flow start (60 ∷ b) (60 ∷ (written ++ 62 ∷ [])) r [] cs _ (ap (λ k. 60 ∷ k) cut) verbatim_written (let long = length-append written (62 ∷ []) in same_place start (length (33 ∷ 60 ∷ (written ++ 62 ∷ []))) (omega (arith, long)) (omega (arith, long)))
         (verbatim_goes_on b cs r refl is (e ∙ ap (λ d. d ∷ r) same)))
     | inr f ↦ refuses _ (at_start _ (unclosed b cs refl is (ap (begins_with 62) e ∙ f))) (rw f refl)
   ]
@@ -59,10 +56,6 @@ module _ (flow : Bool) (start : Position) (b : List ℕ) where
       → Ends flow start (60 ∷ b) (and_then (and_then (after_class classes.is_uri start (past (past start)) b [] d) (λ (r : Read (List ℕ)). verbatim_end start r.value r.rest r.position)) (λ t. tag_end flow start t))
   verbatim_by (Err f) e = refuses _ (at_start _ (verbatim_octets b f refl e)) refl
   verbatim_by (Ok cs) e = closing cs (after classes.is_uri b) e refl
-
-  verbatims : Ends flow start (60 ∷ b) (tag flow (33 ∷ 60 ∷ b) start)
-  unfolding tag verbatim
-  verbatims = rw ((uris_are_read start b (past (past start)) []).0) (verbatim_by (decoded written) refl)
 
 -- ---- a shorthand
 
@@ -115,12 +108,6 @@ same_empty [] [] cs e = let none : [] ≡ cs = cc in rw (← none) refl
 same_empty [] (c ∷ l) cs e = decoded_some c l cs e
 same_empty (d ∷ name) l cs e = refl
 
-pub local_position : (p : Position) (n m k : ℕ) → k ≡ n + m → further m (further n (past p)) ≡ further (suc k) p
-local_position p n m k e = same_place p (suc k) (omega (arith, e)) (omega (arith, e))
-
-pub named_position : (p : Position) (n m k : ℕ) → k ≡ n + suc m → further m (past (further n (past p))) ≡ further (suc k) p
-named_position p n m k e = same_place p (suc k) (omega (arith, e)) (omega (arith, e))
-
 module _ (flow : Bool) (start : Position) (text name : List ℕ) (all : all_of classes.is_alpha name ≡ true) where
   -- after a name and a second mark
   suffix_by : (s : List ℕ) (d : Result (List ℕ) UriFault) → text ≡ name ++ 33 ∷ s → decoded (leading classes.is_tag s) ≡ d
@@ -135,7 +122,7 @@ module _ (flow : Bool) (start : Position) (text name : List ℕ) (all : all_of c
         | inl f ↦ rw f (refuses _ (at_start _ (no_suffix name s cut all (empty_is l (sym same ∙ f)))) refl)
         | inr f ↦ rw f (ended flow start text (name ++ 33 ∷ l) (after classes.is_tag s) ((33 ∷ name) ++ 33 ∷ []) cs _
             (cut ∙ ap (λ r. name ++ 33 ∷ r) (span_cut classes.is_tag s) ∙ sym (append_assoc name (33 ∷ l) (after classes.is_tag s))) (grind (arith, leading_all, refl, is_shorthand, shorthand_by, some_text))
-            (named_position start (length name) (length l) (length (name ++ 33 ∷ l)) (length-append name (33 ∷ l))) (λ g. suffix_goes_on name s cs cut all (sym same ∙ f) e g))
+            (let long = length-append name (33 ∷ l) in same_place start (suc (length (name ++ 33 ∷ l))) (omega (arith, long)) (omega (arith, long))) (λ g. suffix_goes_on name s cs cut all (sym same ∙ f) e g))
       ]
 
   -- after a word and no mark
@@ -148,7 +135,8 @@ module _ (flow : Bool) (start : Position) (text name : List ℕ) (all : all_of c
       let same : is_empty (name ++ cs) ≡ is_empty (name ++ l) = same_empty name l cs e in
       let tags = all_leading classes.is_tag m in
       let here : text ≡ (name ++ l) ++ rest = cut ∙ ap (λ r. name ++ r) (span_cut classes.is_tag m) ∙ sym (append_assoc name l rest) in
-      let place = local_position start (length name) (length l) (length (name ++ l)) (length-append name l) in
+      let long = length-append name l in
+      let place : further (length l) (further (length name) (past start)) ≡ further (suc (length (name ++ l))) start = same_place start (suc (length (name ++ l))) (omega (arith, long)) (omega (arith, long)) in
       let goes = λ (g : may_follow flow rest ≡ false).
       local_goes_on cs not_verbatim (ap defs.begins_with_mark ends ∙ unmarked) (ap (λ r. decoded (leading classes.is_tag r)) ends ∙ e) (ap (λ r. may_follow flow (after classes.is_tag r)) ends ∙ g) in
       elim (cases_Bool (is_empty (name ++ cs))) [
@@ -184,8 +172,9 @@ shorthands flow start a e = rw (e, word a (past start) []) (shorthand_from flow 
     no_angle a h = grind arith
 
 pub tags_end : TagsEndAsTheirTextSays
+unfolding tag verbatim
 tags_end flow [] p = shorthands flow p [] refl
 tags_end flow (c ∷ b) p = elim (cases_Bool (c == 60)) [
-  | inl e ↦ let same : c ≡ 60 = eqb-true c 60 e in rw same (verbatims flow p b)
+  | inl e ↦ rw (eqb-true c 60 e, (uris_are_read p b (past (past p)) []).0) (verbatim_by flow p b (decoded (leading classes.is_uri b)) refl)
   | inr e ↦ shorthands flow p (c ∷ b) e
 ]

@@ -166,15 +166,8 @@ module _ (test class : ℕ → Bool) (start : Position) (same : (c : ℕ) → cl
   all_read (suc n) (c ∷ a) p t = all_read n a p t
   all_read zero (c ∷ a) p t = first_by c a (λ n. all_read n a) (class c) (c == 37) refl refl p t
 
-hex_is_uri : (c : ℕ) → is_digit c 16 ≡ true → is_uri c ≡ true
-unfolding is_uri is_alphanumeric is_uri_mark
-hex_is_uri c h = grind (arith, nat_tests)
-
-hex_is_tag : (c : ℕ) → is_digit c 16 ≡ true → is_tag c ≡ true
-unfolding is_tag is_uri is_alphanumeric is_uri_mark is_flow
-hex_is_tag c h = grind (arith, nat_tests)
-
 pub uris_are_read : UrisAreRead
 unfolding is_uri is_alphanumeric is_uri_mark is_flow is_tag
 uris_are_read start text p before =
-    (all_read is_uri classes.is_uri start same_uri refl hex_is_uri 0 text p before, all_read is_tag classes.is_tag start same_tag refl hex_is_tag 0 text p before)
+    (all_read is_uri classes.is_uri start same_uri refl (λ c h. grind (arith, nat_tests)) 0 text p before,
+    all_read is_tag classes.is_tag start same_tag refl (λ c h. grind (arith, nat_tests)) 0 text p before)

@@ -20,12 +20,9 @@ module _ (single : Bool) (c : ℕ) (b : List ℕ) (s : Spelled) (is : element_of
   more : (body rest : List ℕ) → drop s.further b ≡ body ++ rest → HasElements single body → HasElements single (before body)
   more body rest e (es, h) = (s.element ∷ es, rw (own.same body rest e, (ap (λ n. elements (element_of single) n (take s.further b ++ body)) (sym own.fits) ∙ after_own (element_of single) (take s.further b) body), h) refl)
 
-  more_unclosed : HasElements single (drop s.further b) → HasElements single (c ∷ b)
-  more_unclosed (es, h) = (s.element ∷ es, rw (is, after_some (element_of single) s.further b, h) refl)
-
   grown : Shape single (drop s.further b) → Shape single (c ∷ b)
   grown (closed body rest e has ends) = closed (before body) rest (cut body (quote_of single ∷ rest) e) (more body (quote_of single ∷ rest) e has) ends
-  grown (unclosed has) = unclosed (more_unclosed has)
+  grown (unclosed (es, h)) = unclosed (s.element ∷ es, rw (is, after_some (element_of single) s.further b, h) refl)
   grown (badly_escaped body rest double e has bad) = badly_escaped (before body) rest double (cut body (92 ∷ rest) e) (more body (92 ∷ rest) e has) bad
 
 -- ---- no element
