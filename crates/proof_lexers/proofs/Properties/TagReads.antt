@@ -1,8 +1,9 @@
 -- Each tag is read as it is written: a text begins with one tag at most, and is refused only where it begins with none.
-use Rattle.proof_lexers.proofs.Common.{[], after, all_of, and_parts, ap, append_assoc, at_start, Bool, cases_Bool, codes, decoded, eqb-true, Err, false, inl, inr, is_empty, is_nul, is_same, IsTagRefusal, leading, leading_none, List, local_goes_on, local_octets, may_follow, nat_tests, no_suffix, None, Ok, Option, Problem, reads, refl, refuses, Result, Some, sym, suffix_goes_on, suffix_octets, tag_of_class, TagsAreRead, true, uri_character, UriFault, verbatim_goes_on, verbatim_octets, whole_tag, written_tag, ℕ, ◌++◌, ◌==◌, ◌∙◌, ◌∷◌, ◌≡◌, arith, is_blank_or_end, is_decimal_digit, is_letter, all_leading, before_end, begins_in, leading_all, span_cut}
+use Rattle.proof_lexers.proofs.Common.{[], after, after_tag, Fault, Position, Read, all_of, and_parts, ap, append_assoc, at_start, Bool, cases_Bool, codes, decoded, eqb-true, Err, false, inl, inr, is_empty, is_nul, is_same, IsTagRefusal, leading, leading_none, List, local_goes_on, local_octets, may_follow, nat_tests, no_suffix, None, Ok, Option, Problem, reads, refl, refuses, Result, Some, sym, suffix_goes_on, suffix_octets, tag_of_class, TagsAreRead, true, uri_character, UriFault, verbatim_goes_on, verbatim_octets, whole_tag, written_tag, ℕ, ◌++◌, ◌==◌, ◌∙◌, ◌∷◌, ◌≡◌, arith, is_blank_or_end, is_decimal_digit, is_letter, all_leading, before_end, begins_in, leading_all, span_cut}
 use Rattle.proof_lexers.specs.TagEnds.{unclosed}
 use Rattle.defs_text.specs.Classes as classes
 use Rattle.defs_text.specs.Tags as defs
+use Rattle.model_scanner.specs.Tag.{Tag}
 use Rattle.proof_lexers.proofs.Directives.Lines.{same_text}
 use Rattle.proof_row.proofs.TagEnds.{alpha_goes_on, goes_on, tag_goes_on, tags}
 use Rattle.proof_lexers.proofs.Properties.Tags.{alpha_starts, close_is_no_uri, tags_end}
@@ -91,11 +92,16 @@ module _ (flow : Bool) (rest : List ℕ) (follows : may_follow flow rest ≡ tru
   unrefused a _ (local_octets f b m e) z = grind arith
   unrefused a _ (local_goes_on s b m e g) z = grind (arith, follows)
 
+same_read : (p : Position) (piece rest q y : List ℕ) (g k : defs.Tag) → (33 ∷ piece ≡ 33 ∷ q) × (rest ≡ y) → Some g ≡ Some k
+    → ◌≡◌ {A = Result (Read Tag) Fault} (Ok (after_tag p (33 ∷ q) y k.handle k.suffix)) (Ok (after_tag p (33 ∷ piece) rest g.handle g.suffix))
+same_read p piece rest q y g k e h = let tag_is : g ≡ k = cc in let piece_is : piece ≡ q = cc in rw (piece_is, e.1, tag_is) refl
+
 pub tags_are_read : TagsAreRead
 tags_are_read flow piece rest handle suffix p h follows = elim (tags_end flow (piece ++ rest) p) [
   | reads r (whole_tag q y i s cut is k) e ↦
-      let same : (33 ∷ piece ≡ 33 ∷ q) × (rest ≡ y) = tags flow (33 ∷ piece) (33 ∷ q) rest y (record { handle = handle; suffix = suffix }, h, follows) (record { handle = i; suffix = s }, is, k) (ap (λ x. 33 ∷ x) cut) in
-      let one : ◌≡◌ {A = Option defs.Tag} (Some (record { handle = i; suffix = s })) (Some (record { handle = handle; suffix = suffix })) = sym is ∙ ap written_tag (sym same.0) ∙ h in
-      grind (arith, e, same, one)
+      let g : defs.Tag = record { handle = handle; suffix = suffix } in
+      let other : defs.Tag = record { handle = i; suffix = s } in
+      let same = tags flow (33 ∷ piece) (33 ∷ q) rest y (g, h, follows) (other, is, k) (ap (λ x. 33 ∷ x) cut) in
+      e ∙ same_read p piece rest q y g other same (sym h ∙ ap written_tag same.0 ∙ is)
   | refuses f (at_start why reason) e ↦ absurd (unrefused flow rest follows (piece ++ rest) why reason (tag_begins flow rest follows piece _ h))
 ]
