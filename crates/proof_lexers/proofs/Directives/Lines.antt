@@ -42,12 +42,9 @@ module _ (start : Position) (l n : List ℕ) (line : has_no_break l ≡ true) (e
   unfolding classes.is_break
   finish before m d p cut position says by_hash by_other = elim (line_ends start p m n (no_break_after before m (ap has_no_break (sym cut) ∙ line)) ends) [
     | ended is e ↦ rw e (is_directive d (says ∙ rw is refl) (ap (λ q. Ok (record { rest = next_line n; position = q; value = token_of d })) (grind (arith, nat_tests, length-append, further, first_break, same_place, position_in_line, position_append))))
-    | comment begins none e ↦ rw (e, position) (fails _ (says ∙ rw none refl) (glued m refl begins) refl)
+    | comment begins none e ↦ rw (e, position) (fails (At CommentNotSeparated (further (suc (length before)) start)) (says ∙ rw none refl) (grind (arith, by_hash, begins)) refl)
     | text none begins e ↦ rw e (fails (At DirectiveEnd start) (says ∙ rw none refl) (by_other none begins) refl)
   ]
-    where
-      glued : (k : List ℕ) → m ≡ k → begins_with 35 k ≡ true → IsDirectiveRefusal start l (At CommentNotSeparated (further (suc (length before)) start))
-      glued a e b = grind arith
 
   -- ---- words
 

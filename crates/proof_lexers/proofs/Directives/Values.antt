@@ -20,13 +20,9 @@ pub data LineEnds (start p : Position) (m n : List ℕ) (x : Result (Read (Unit 
 -- how the end of a directive's line is read
 pub line_ends : (start p : Position) (m n : List ℕ) → has_no_break m ≡ true → ends_line n ≡ true → LineEnds start p m n (line_end start (m ++ n) p)
 unfolding line_end directive_break
-line_ends start p m n h k = told (space Yes (m ++ n) p) (rest_of_line m n p h k)
-  where
-    go : Result (Read Whitespace) Fault → Result (Read (Unit {0})) Fault
-    go x = and_then x (λ (w : Read Whitespace). directive_break start w.rest w.position)
-
-    told : (x : Result (Read Whitespace) Fault) → Rest m n p x → LineEnds start p m n (go x)
-    told x a = grind (arith, ended, go, same_break, same_feed, line_position, past, eqb-true, feed_past, in_line_position, start, further, p, comment, begins_with, text)
+line_ends start p m n h k =
+    let rest = rest_of_line m n p h k in
+    grind (arith, rest, ended, same_break, same_feed, line_position, past, eqb-true, feed_past, in_line_position, start, further, p, comment, begins_with, text)
 
 -- ---- numbers
 
@@ -112,12 +108,9 @@ pub not_at_end : (k : ℕ) → (0 == k) ≡ false → (10 == k) ≡ false → (1
 not_at_end k nul lf cr [] h = nul
 not_at_end k nul lf cr (c ∷ n) h = none_at_end (λ d. d == k) lf cr (c ∷ n) h
 
-no_second_mark : (w s : List ℕ) → begins_with_mark s ≡ false → name_and_mark (33 ∷ []) w s ≡ (33 ∷ w, s)
-no_second_mark w a h = grind arith
-
 -- a name without a second mark is no handle
 pub no_handle : (c : ℕ) (w r : List ℕ) → leading classes.is_alpha r ≡ c ∷ w → begins_with_mark (after classes.is_alpha r) ≡ false → is_handle (handle_and_rest (33 ∷ r)).0 ≡ false
-no_handle c w r lead none = rw (lead, no_second_mark (c ∷ w) (after classes.is_alpha r) none) ((marked c w (ap (all_of classes.is_alpha) (sym lead) ∙ all_leading classes.is_alpha r)).0)
+no_handle c w r lead none = let alone = (marked c w (ap (all_of classes.is_alpha) (sym lead) ∙ all_leading classes.is_alpha r)).0 in grind (arith, alone)
 
 module _ (start p : Position) (r n : List ℕ) (ends : ends_line n ≡ true) where
   -- none stands there

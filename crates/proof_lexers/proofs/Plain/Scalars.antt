@@ -162,12 +162,9 @@ module _ (ctx : Context) (start : Position) (c : ℕ) (a : List ℕ) (white : is
   ended : begins_left ctx start ≡ false → (x : Result (Read Plain) Fault) → Found ctx start false defs.inside (machine.past start) (with_char c (joined nothing)) a x → EndsAs (IsPlainRead ctx start (c ∷ a)) (IsPlainRefusal ctx start (c ∷ a)) x
   ended deep x (found more gap rest cut goes solid stop gaps ends is) =
       let content = solid_first ctx start c more white solid in
-      let stopping : stops ctx.flow (collection_of ctx.indent) defs.inside (gap ++ rest) ≡ true = inside_too more stop in
+      let stopping : stops ctx.flow (collection_of ctx.indent) defs.inside (gap ++ rest) ≡ true = grind (arith, stop) in
       reads _ (whole_plain (c ∷ more) gap rest _ (ap (λ r. c ∷ r) cut) (rw (goes, content, stopping) refl) gaps ends (value_is c more (rw (break, no_markers ctx.flow (collection_of ctx.indent) defs.inside more (gap ++ rest) goes) refl) content))
       (is ∙ same_left ctx start rest _ _ _ _ _ _ (after_first (more ++ gap) rest) (ap (λ u. (after_text more u).text) (content_char ctx start c more nothing break blank)) (no_lead ctx start c more gap nothing))
-    where
-      inside_too : (more : List ℕ) → stops ctx.flow (collection_of ctx.indent) (after_more defs.inside more) (gap ++ rest) ≡ true → stops ctx.flow (collection_of ctx.indent) defs.inside (gap ++ rest) ≡ true
-      inside_too a h = grind arith
   ended deep x (fails f why is) = refuses f (refusal deep f why) is
 
   started : (column at : Bool) → (ctx.flow && nat_lt start.col ctx.indent) ≡ column → at_dash ctx.flow (c ∷ a) ≡ at → has_no_nul a ≡ true → is_indented ctx start ≡ true → EndsAs (IsPlainRead ctx start (c ∷ a)) (IsPlainRefusal ctx start (c ∷ a)) (plain ctx (c ∷ a) start)
@@ -187,7 +184,7 @@ scans_end ctx (c ∷ a) p full solid indented =
 -- ---- the whole of a plain scalar
 
 pub scalars_read : PlainScalarsAreRead
-scalars_read ctx piece next value p full solid indented whole is = ends_also by (λ f why. why) (scans_end ctx (piece ++ next) p full (begins piece solid) indented)
+scalars_read ctx piece next value p full solid indented whole is = ends_also by (λ f why. why) (scans_end ctx (piece ++ next) p full (grind arith) indented)
   where
     by : (r : Read Plain) → IsPlainRead ctx p (piece ++ next) r → IsScalarRead p piece next value r
     by r (whole_plain u gap rest text cut other gaps ends has) =
@@ -195,6 +192,3 @@ scalars_read ctx piece next value p full solid indented whole is = ends_also by 
         let same : Some text ≡ Some value = sym has ∙ ap plain_value (sym z.0) ∙ is in
         let value_is : text ≡ value = cc in
         rw (sym z.0, value_is) (just gap rest z.1 gaps ends)
-
-    begins : (piece : List ℕ) → begins_solid piece ≡ true → begins_solid (piece ++ next) ≡ true
-    begins a h = grind arith

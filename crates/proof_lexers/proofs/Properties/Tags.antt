@@ -151,10 +151,7 @@ module _ (flow : Bool) (start : Position) (text name : List ℕ) (all : all_of c
 
   from_word : (m : List ℕ) → text ≡ name ++ m → after classes.is_alpha text ≡ m → begins_with 60 text ≡ false → begins_in classes.is_alpha m ≡ false → (slice_index m 0 == 33) ≡ false → Ends flow start text (and_then (after_name start name m (further (length name) (past start))) (λ t. tag_end flow start t))
   from_word m cut ends not_verbatim begins unmarked =
-      rw (unmarked, (uris_are_read start m (further (length name) (past start)) name).1) (local_by m (decoded (leading classes.is_tag m)) cut ends not_verbatim (no_mark_at m unmarked) (grind arith) refl)
-    where
-      no_mark_at : (r : List ℕ) → (slice_index r 0 == 33) ≡ false → defs.begins_with_mark r ≡ false
-      no_mark_at a h = grind arith
+      rw (unmarked, (uris_are_read start m (further (length name) (past start)) name).1) (local_by m (decoded (leading classes.is_tag m)) cut ends not_verbatim (grind arith) (grind arith) refl)
 
 shorthand_from : (flow : Bool) (start : Position) (a m : List ℕ) → begins_with 60 a ≡ false → after classes.is_alpha a ≡ m
     → Ends flow start a (and_then (after_name start (leading classes.is_alpha a) m (further (length (leading classes.is_alpha a)) (past start))) (λ t. tag_end flow start t))
@@ -166,10 +163,7 @@ shorthand_from flow start a (c ∷ s) not_verbatim e = let cut = span_cut classe
 
 shorthands : (flow : Bool) (start : Position) (a : List ℕ) → (slice_index a 0 == 60) ≡ false → Ends flow start a (tag flow (33 ∷ a) start)
 unfolding tag shorthand
-shorthands flow start a e = rw (e, word a (past start) []) (shorthand_from flow start a (after classes.is_alpha a) (no_angle a e) refl)
-  where
-    no_angle : (r : List ℕ) → (slice_index r 0 == 60) ≡ false → begins_with 60 r ≡ false
-    no_angle a h = grind arith
+shorthands flow start a e = rw (e, word a (past start) []) (shorthand_from flow start a (after classes.is_alpha a) (grind arith) refl)
 
 pub tags_end : TagsEndAsTheirTextSays
 unfolding tag verbatim

@@ -110,10 +110,6 @@ module _ (test class : ℕ → Bool) (start : Position) (same : (c : ℕ) → cl
       rw (cut, e, f, three_off) (here ∙ next_octet left code least x y n b p t others (λ k. subst (λ (l : List ℕ). Plain (drop (suc (suc k)) l)) cut (plains (suc (suc (suc k))))) e f known)
   after_percent left code least a p t others plains (no_octets oc is) = is ∙ rw oc refl
 
-  no_percent : (c : ℕ) (l : List ℕ) (b : Bool) → (c == 37) ≡ false → octet_at (if b then c ∷ l else []) ≡ None
-  unfolding octet_at
-  no_percent c l a e = grind arith
-
   trailing : (left : ℕ) → Trails left
   unfolding octet_at
   trailing zero code least a p t plains = grind (arith, same_code, with_code, class, plains 0)
@@ -122,7 +118,7 @@ module _ (test class : ℕ → Bool) (start : Position) (same : (c : ℕ) → cl
     | inl e ↦
         let is_percent : c ≡ 37 = eqb-true c 37 e in
         rw (is_percent, leads) (after_percent left code least a p t (trailing left) (subst (λ (d : ℕ). (k : ℕ) → Plain (drop k (d ∷ a))) is_percent plains) (octets_at (trail left code least) a (past p) t))
-    | inr e ↦ rw (e, no_percent c (leading class a) (class c) e) refl
+    | inr e ↦ rw e (grind (arith, e))
   ]
 
   -- ---- the whole text
