@@ -54,9 +54,6 @@ not_at_end (d ∷ z) y n c = untrue _ (both _ _ c).0
 at_end : (y : List ℕ) → has_no_nul y ≡ true → is_at_end y ≡ true → y ≡ []
 at_end a c e = grind arith
 
-begins_not : (z y : List ℕ) → begins_with 10 (z ++ y) ≡ false → begins_with 10 z ≡ false
-begins_not z y h = grind arith
-
 -- The lines of a longer scalar, of which the first after the shorter one is further text.
 longer_lines : (collection : Option ℕ) (head : List ℕ) (ls : List (List ℕ)) (h : Header) (z y : List ℕ) (zs : List (List ℕ)) (last : List ℕ) (s : BlockRead) → header_of head ≡ Some h →
     split z ≡ of_lines zs last → is_further_text (column_by h.digit collection ls) (z ++ y) ≡ true → (z ≡ [] → ⊥) → has_no_nul y ≡ true →
@@ -82,7 +79,7 @@ over collection p z y r s e f n c =
     let part : BeforeText collection (of_lines ((split p).complete) ((split p).last)) (z ++ y) =
     (grind arith) in
     let whole : split (p ++ z) ≡ lines_after (part.head ∷ part.lines) (split z) =
-    split_append p z (part.head ∷ part.lines) part.is_split (begins_not z y (further_is_no_break (column_by part.header.digit collection part.lines) (z ++ y) part.is_further)) in
+    split_append p z (part.head ∷ part.lines) part.is_split (let none = further_is_no_break (column_by part.header.digit collection part.lines) (z ++ y) part.is_further in grind (arith, none)) in
     longer_lines collection part.head part.lines part.header z y ((split z).complete) ((split z).last) s part.is_header refl part.is_further n (no_nul_after z y c) (is_at_end y) refl
     (ap (λ x. read_split collection x y) (sym whole) ∙ f)
 

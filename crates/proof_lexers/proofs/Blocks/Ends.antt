@@ -110,10 +110,6 @@ module _ (indent : ℕ) (p : Position) where
     tabless : starts_with_tab (ls ++ last ∷ []) ≡ false
     value : record { style = h.style; column = column; text = value_before_end h column rows last row } ≡ b
 
-  at_the_end : (h : defs.Header) (column : ℕ) (ls : List (List ℕ)) (last : List ℕ) (b : BlockRead)
-      → with_value h column (if starts_with_tab (ls ++ last ∷ []) then None else value_at_end h column last (rows_of column ls) (row_of column last)) ≡ Some b → AtEnd h column ls last b
-  at_the_end h column ls last b e = grind arith
-
 -- ---- each piece
 
 pub some_next : (d : ℕ) (n : List ℕ) → list_all is_some (d ∷ n) ≡ true → is_at_end (d ∷ n) ≡ false
@@ -143,8 +139,9 @@ module _ (indent : ℕ) (p : Position) (b : BlockRead) where
   to_end : (w : List ℕ) (k : Break) (ls : List Line) (last : List ℕ) → Headed w → Fits k (spell ls last) → AreLines ls last → is_in_line last ≡ true
       → read_body (header_of w) (collection_of indent) (body (texts ls) (unbroken last)) [] ≡ Some b → Read_as (w ++ put k (spell ls last)) []
   to_end _ k ls last (heads h line is digit inner) fits are last_inner e =
-      let z = at_the_end indent p h _ (texts ls) last b (rw is at e) in
       let K = column_by h.digit (collection_of indent) (texts ls ++ last ∷ []) in
+      let told = rw is at e in
+      let z : AtEnd indent p h K (texts ls) last b = grind (arith, told) in
       let found = block_is h line k indent p is digit inner ls last K refl are last_inner fits (tab_whole ls last ∙ z.tabless) in
       rw (append-nil, ← z.value) (before_the_end h line k indent p is digit inner K ls last z.rows are last_inner fits z.are_rows found z.row (row_is K last z.row z.is_row))
 

@@ -18,9 +18,6 @@ pub line_marker : (w r : List ℕ) → ends_line r ≡ true → is_document_mark
 unfolding are_marks
 line_marker a r h = grind (arith, break_is_none, and_false, break_is_gap)
 
-pub marker_in_line : (col : ℕ) (w r : List ℕ) → ends_line r ≡ true → at_marker col (w ++ r) ≡ ((col == 0) && is_document_marker w)
-marker_in_line col w r h = same_marker col (w ++ r) ∙ rw (line_marker w r h) refl
-
 -- ---- what is known after rows
 
 -- after a row: an empty line's break waits, content takes what waits
@@ -94,7 +91,7 @@ module _ (literal : Bool) (column : ℕ) where
   begins_free : (k : ℕ) (w a rest : List ℕ) (char : ℕ) (p : Position) → k ≡ column → drop k w ≡ char ∷ rest → p.col ≡ column → ends_line a ≡ true → ((column == 0) && is_document_marker w) ≡ false → begins column p.col (char ∷ (rest ++ a)) ≡ true
   unfolding begins
   begins_free k w a rest char p same is col ends free =
-      let here : at_marker p.col (char ∷ (rest ++ a)) ≡ ((p.col == 0) && is_document_marker (char ∷ rest)) = marker_in_line p.col (char ∷ rest) a ends in
+      let here : at_marker p.col (char ∷ (rest ++ a)) ≡ ((p.col == 0) && is_document_marker (char ∷ rest)) = same_marker p.col (char ∷ (rest ++ a)) ∙ rw (line_marker (char ∷ rest) a ends) refl in
       let at_column = eq-eqb p.col column col in
       rw (here, none k same is, at_column) refl
     where
