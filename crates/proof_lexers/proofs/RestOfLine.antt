@@ -1,7 +1,6 @@
 -- How the rest of a line is read: blanks, and a comment after one.
-use Rattle.proof_lexers.proofs.Common.{[], and-false, cases_Bool, not-true, ◌+◌, along, and_parts, append-nil, arith, At, before_end, begins_in, begins_with, eqb-true, Err, false, Fault, further, has_no_break, inl, inr, is_blanks_and_comment, is_break, is_empty, is_in_line, is_line, is_rest_of_line, length, length-append, List, nat_tests, not, Ok, or_cases, past, Position, Read, refl, Result, same_place, skip_while, space, space_from, span_cut, sym, true, Whitespace, Yes, ℕ, ◌++◌, ◌==◌, ◌||◌, ◌∙◌, ◌∷◌, ◌≡◌, Bool, or-false, ◌&&◌, leading, has, after, CommentNotSeparated, same_break, none_further, one_further, ap}
+use Rattle.proof_lexers.proofs.Common.{[], and-false, cases_Bool, not-true, ◌+◌, along, and_parts, arith, At, before_end, begins_in, begins_with, eqb-true, Err, false, Fault, further, has_no_break, inl, inr, is_blanks_and_comment, is_break, is_empty, is_in_line, is_line, is_rest_of_line, length, length-append, List, nat_tests, not, Ok, or_cases, past, Position, Read, refl, Result, same_place, skip_while, space, space_from, span_cut, sym, true, Whitespace, Yes, ℕ, ◌++◌, ◌==◌, ◌||◌, ◌∙◌, ◌∷◌, ◌≡◌, Bool, or-false, ◌&&◌, leading, has, after, CommentNotSeparated, same_break, none_further, one_further, ap}
 use Rattle.defs_text.specs.Classes as classes
-use Rattle.defs_text.specs.Breaks.{touches_comment}
 use Rattle.proof_lexers.specs.DirectiveEnds.{ends_line}
 use Rattle.model_scanner.specs.Blanks.{after_spaces, are_skipped}
 use Rattle.model_scanner.specs.declared.context.SkipTabs.{SkipTabs}

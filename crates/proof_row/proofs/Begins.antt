@@ -2,7 +2,7 @@
 use Rattle.proof_row.proofs.Common.{[], Account, alias, alias_name, anchor, anchor_name, are_marks, begins_flow, begins_plain, begins_with_space_or_break, block_entry, block_read, block_scalar, BlockRead, BlockStyle, Bool, codes, collection_column, colon, comma, dash, dashes, Directive, directive_line, directive_of, document_end, document_start, dots, double_quoted, ends_separation, eqb-true, false, flow_entry, flow_mapping_end, flow_mapping_start, flow_sequence_end, flow_sequence_start, folded, has_no_break, Holds, in_double_quotes, in_single_quotes, is_adjacent, is_at_gap, is_at_line_end, is_blank, is_blank_or_end, is_break, is_flow, is_nul, is_value_indicator, is_whole_plain, IsDoubleQuoted, IsNamed, IsPiece, IsSingleQuoted, key, Kind, kind_at, kind_by, kind_of, List, literal, mapping_closing, mapping_opening, nothing, Option, plain, plain_scalar, plain_value, Position, question, refl, reserved, scalar, SeparationsEndBeforePieces, sequence_closing, sequence_opening, single_quoted, Some, subst, sym, Tag, tag, tag_declaration, tag_directive, tag_text, TextsBeginWithOneKind, Tok, true, value, version, version_directive, written_tag, ℕ, ◌&&◌, ◌++◌, ◌||◌, ◌∷◌, ◌≡◌, ◌≢◌, arith, nat_tests, gaps}
 use Rattle.defs_token.specs.Account.{is_in_flow}
 use Rattle.proof_row.proofs.TagEnds.{mark_is_first}
-use Rattle.proof_row.proofs.Blocks.{begins_block, block_begins}
+use Rattle.proof_row.proofs.Blocks.{block_begins}
 
 -- ---- a piece and its token
 
@@ -31,7 +31,7 @@ IsMarkerIn a p x marker = (p ≡ marker) × (a.column ≡ 0) × Holds (is_at_gap
 -- a piece of a kind, and its token
 abbrev pub Whole : Kind → Context → (piece next : List ℕ) → Tok → Type 0
 Whole nothing a p x t = ⊥
-Whole plain_scalar a p x t = 
+Whole plain_scalar a p x t =
     (text : List ℕ) × (Holds (begins_plain a.in_flow a.adjacent a.column (p ++ x)) × Holds (is_whole_plain a.in_flow a.collection p x) × (plain_value p ≡ Some text)) × (t ≡ scalar plain text)
 Whole sequence_opening a p x t = (p ≡ codes "[") × (t ≡ flow_sequence_start)
 Whole sequence_closing a p x t = (p ≡ codes "]") × (t ≡ flow_sequence_end)

@@ -1,7 +1,7 @@
 -- A block scalar has one end.
-use Rattle.proof_row.proofs.Common.{cases_Bool, [], ap, append-nil, append_assoc, begins_with, block_read, BlockRead, BlockScalarsHaveOneEnd, body, Bool, column_by, content_column, Ending, false, further_text, has_no_nul, Header, header_of, inl, inr, is_at_end, is_break, is_further_text, List, None, Option, read_body, read_lines, read_split, refl, Some, Split, split, subst, sym, true, value_by, ℕ, ◌++◌, ◌==◌, ◌||◌, ◌∙◌, ◌∷◌, ◌≡◌, ◌⊎◌, arith, both, untrue, no_nul_after}
+use Rattle.proof_row.proofs.Common.{cases_Bool, [], ap, append-nil, append_assoc, block_read, BlockRead, BlockScalarsHaveOneEnd, body, Bool, column_by, content_column, Ending, false, further_text, has_no_nul, Header, header_of, inl, inr, is_at_end, is_break, is_further_text, List, None, Option, read_body, read_lines, read_split, refl, Some, Split, split, subst, sym, true, value_by, ℕ, ◌++◌, ◌==◌, ◌||◌, ◌∙◌, ◌∷◌, ◌≡◌, arith, both, untrue, no_nul_after}
 use Rattle.defs_text.specs.BlockScalar.{unbroken}
-use Rattle.proof_row.proofs.Splits.{More, splits}
+use Rattle.proof_row.proofs.Splits.{splits}
 use Rattle.proof_row.proofs.Lines.{of_lines, lines_after, split_append, up_to_break, first_line, line_of, line_is, line_more, no_lines}
 use Rattle.proof_row.proofs.Columns.{column_same, IsBefore, further, further_is_no_break, no_rows}
 

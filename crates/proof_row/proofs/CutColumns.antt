@@ -1,6 +1,6 @@
 -- Columns over a step, as a cut has them: block collections that end, and a key that waits on its line.
 use Rattle.std.proofs.lemmas.Bool.Decides.{nat_tests}
-use Rattle.proof_row.proofs.Common.{[], Account, Act, act_of, ap, arith, Before, begins_free_line, block_end, blocks_at, Bool, drop, ends_at, ends_separation, false, gives_node, has_break, has_no_break, if◌then◌else◌, is_blank_or_end, is_in_line, is_marker, IsPiece, length, List, nat_lt, not_ended, Option, Position, position_after, position_past, previous_by, put, refl, replicate, subst, suc, Tok, Token, true, zero, ℕ, ◌++◌, ◌+◌, ◌-◌, ◌<◌, ◌∙◌, ◌∷◌, ◌≡◌, ◌≤◌, ◌⊎◌, both, untrue}
+use Rattle.proof_row.proofs.Common.{[], Account, Act, act_of, arith, Before, begins_free_line, block_end, blocks_at, Bool, drop, ends_at, ends_separation, false, gives_node, has_break, has_no_break, if◌then◌else◌, is_blank_or_end, is_in_line, is_marker, IsPiece, length, List, nat_lt, not_ended, Option, Position, position_after, position_past, previous_by, put, refl, replicate, subst, suc, Tok, Token, true, zero, ℕ, ◌++◌, ◌+◌, ◌-◌, ◌<◌, ◌∷◌, ◌≡◌, ◌≤◌, ◌⊎◌, both, untrue}
 use Rattle.proof_row.proofs.CutPieces.{account_by}
 use Rattle.proof_row.proofs.CutSteps.{somes}
 use Rattle.proof_row.proofs.Inserted.{past_all, AreEmpty}

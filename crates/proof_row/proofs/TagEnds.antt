@@ -1,5 +1,5 @@
 -- A tag has one end: a verbatim one its `>`, another one the first gap or flow indicator.
-use Rattle.proof_row.proofs.Common.{cases_Bool, [], after, after_mark, all_of, append_assoc, begins_with, begins_with_mark, Bool, eqb-true, false, if◌then◌else◌, inl, inr, is_alpha, is_blank, is_blank_or_end, is_break, is_decimal_digit, is_flow, is_letter, is_nul, is_same, is_tag, is_uri, leading, List, named, not, refl, shorthand, Some, subst, sym, Tag, tag_of_class, TagsHaveOneEnd, true, verbatim, written_tag, ℕ, ◌&&◌, ◌++◌, ◌==◌, ◌∷◌, ◌≡◌, ◌⊎◌, arith, both, joined, same_head, ends_run, runs, gaps, flows, leading_after, all_leading, all_weaker, all_append}
+use Rattle.proof_row.proofs.Common.{cases_Bool, [], after, after_mark, all_of, append_assoc, begins_with, begins_with_mark, Bool, eqb-true, false, inl, inr, is_alpha, is_blank, is_blank_or_end, is_break, is_decimal_digit, is_flow, is_letter, is_nul, is_same, is_tag, is_uri, leading, List, named, not, refl, shorthand, Some, subst, sym, Tag, TagsHaveOneEnd, true, verbatim, written_tag, ℕ, ◌&&◌, ◌++◌, ◌==◌, ◌∷◌, ◌≡◌, ◌⊎◌, arith, both, joined, same_head, ends_run, runs, gaps, flows, leading_after, all_leading, all_weaker, all_append}
 
 -- ---- the characters of a shorthand
 

@@ -1,5 +1,5 @@
 -- Block scalars' headers are read as what they say.
-use Rattle.proof_lexers.proofs.Common.{[], along, and_then, ap, arith, At, begins_with, BlockStyle, Bool, cases_Bool, chomping, comment, digit_of, ends_line, EndsAs, Err, false, further, has_zero, header, header_break, header_end, header_of, HeadersEndAsTheirLineSays, if◌then◌else◌, increment, indicator_of, indicators, indicators_of, inl, inr, is_break, is_in_line, is_rest_of_line, is_sign, IsHeaderRead, IsHeaderRefusal, length, linebreak, List, nat_tests, no_header, None, Ok, Option, past, past_indicators, Position, Read, reads, refl, refuses, sign_of, Some, space, sym, tab, tabbed, true, whole_header, with_indicators, Yes, zero_digit, ℕ, ◌++◌, ◌==◌, ◌∙◌, ◌∷◌, ◌≡◌, eqb-true, digit_by, digit_or_zero, Fault, Header, read_header, Result, and_parts, ◌||◌, after_style, slice_index, BlockScalarTab, BlockScalarZero, is_between, both, same_break}
+use Rattle.proof_lexers.proofs.Common.{[], along, and_then, ap, arith, At, begins_with, BlockStyle, Bool, cases_Bool, chomping, comment, digit_of, ends_line, EndsAs, Err, false, further, has_zero, header, header_break, header_end, header_of, HeadersEndAsTheirLineSays, if◌then◌else◌, increment, indicator_of, indicators, indicators_of, inl, inr, is_break, is_in_line, is_rest_of_line, is_sign, IsHeaderRead, IsHeaderRefusal, length, linebreak, List, nat_tests, no_header, None, Ok, Option, past, past_indicators, Position, Read, reads, refl, refuses, sign_of, Some, sym, tab, tabbed, true, whole_header, with_indicators, zero_digit, ℕ, ◌++◌, ◌==◌, ◌∙◌, ◌∷◌, ◌≡◌, eqb-true, digit_by, digit_or_zero, Fault, Header, read_header, Result, and_parts, ◌||◌, after_style, slice_index, BlockScalarTab, BlockScalarZero, is_between, both, same_break}
 use Rattle.yaml_chars.specs.Class.{is_digit}
 use Rattle.defs_text.specs.Classes as classes
 use Rattle.defs_text.specs.BlockScalar as defs

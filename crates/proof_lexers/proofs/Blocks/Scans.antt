@@ -1,5 +1,5 @@
 -- The whole scan of a block scalar whose lines are known.
-use Rattle.proof_lexers.proofs.Common.{[], after_header, along, and_then, ap, append-nil, arith, At, begins_with, Block, block, block_position, BlockRead, Bool, breaks, cases_Bool, chomping_of, collection_of, Column, column_by, content_row, digit_by, digit_or_zero, drop, empty_row, empty_text, Err, false, Fault, first_content, further_position, has_content, Header, header, header_of, indent_from, indicator_of, indicators_of, inl, inr, is_at_end, is_in_line, is_literal_style, is_open, is_spaces, is_tabbed, IsRead, le-ltb, length, Lines, lines_from, List, max, nat_le, nat_lt, nat_tests, None, Ok, past, past_spaces, Position, position_after, position_or, Read, read_header, reads, refl, refuses, Result, Row, rows_of, Some, suc, sym, tab, tail, true, value_before_end, value_before_text, without_spaces, ℕ, ◌&&◌, ◌++◌, ◌+◌, ◌∙◌, ◌∷◌, ◌≡◌, ◌≤◌, Option, BlockScalarTab, and_false, both}
+use Rattle.proof_lexers.proofs.Common.{[], after_header, along, and_then, ap, append-nil, arith, At, begins_with, Block, block, block_position, BlockRead, breaks, cases_Bool, chomping_of, collection_of, Column, column_by, content_row, digit_by, digit_or_zero, drop, empty_row, empty_text, Err, false, Fault, first_content, further_position, has_content, Header, header, header_of, indent_from, indicator_of, indicators_of, inl, inr, is_at_end, is_in_line, is_literal_style, is_open, is_spaces, is_tabbed, IsRead, le-ltb, length, Lines, lines_from, List, max, nat_le, nat_lt, nat_tests, None, Ok, past, past_spaces, Position, position_after, position_or, Read, read_header, reads, refl, refuses, Result, Row, rows_of, Some, sym, tab, tail, true, value_before_end, value_before_text, without_spaces, ℕ, ◌&&◌, ◌++◌, ◌+◌, ◌∙◌, ◌∷◌, ◌≡◌, ◌≤◌, Option, BlockScalarTab, and_false, both}
 use Rattle.std.proofs.Math.Bool.{and_comm}
 use Rattle.defs_text.specs.Classes as classes
 use Rattle.defs_text.specs.BlockScalar as defs
@@ -71,9 +71,9 @@ module _ (h : defs.Header) (line : List ℕ) (k : Break) (indent : ℕ) (p : Pos
   -- the position after a header, lines, and a last line without a break
   piece_position : (ls : List Line) (last next : List ℕ) → AreLines ls (last ++ next) → Fits k (spell ls (last ++ next)) → is_in_line last ≡ true → along last (after_lines ls start) ≡ position_after p (with_header (spell ls last)) next
   piece_position ls last next are fits last_inner = sym (
-    after_chars (indicator_of h.style ∷ line) (put k (spell ls last)) next p (style_inner h.style line inner) ∙ after_put k (spell ls last) next (along line (past p)) (rw (spell_more ls last next) fits) ∙ after_spell ls last next start are
-    ∙ ap (λ x. position_after (after_lines ls start) x next) (sym (append-nil last)) ∙ after_chars last [] next (after_lines ls start) last_inner
-  )
+      after_chars (indicator_of h.style ∷ line) (put k (spell ls last)) next p (style_inner h.style line inner) ∙ after_put k (spell ls last) next (along line (past p)) (rw (spell_more ls last next) fits) ∙ after_spell ls last next start are
+      ∙ ap (λ x. position_after (after_lines ls start) x next) (sym (append-nil last)) ∙ after_chars last [] next (after_lines ls start) last_inner
+      )
 
   -- ---- before further text
 

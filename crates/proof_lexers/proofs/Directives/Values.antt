@@ -1,11 +1,11 @@
 -- Parts of a directive's line, as the model reads them: words, numbers, a handle, and what may stand after its value.
-use Rattle.proof_lexers.proofs.Common.{[], after, all_of, and_parts, ap, append_assoc, arith, At, begins_with_mark, both_ways, cases_Bool, decimal_value, eqb-true, Err, false, Fault, further, handle, handle_and_rest, handle_end, if◌then◌else◌, inl, inr, is_empty, is_handle, is_marked_name, is_same, leading, length, length-append, List, name_and_mark, nat_le, ne_eqb, None, number, number_of, Ok, Option, past, Position, Read, refl, Result, slice_index, Some, sym, true, ℕ, ◌++◌, ◌==◌, ◌∙◌, ◌∷◌, ◌≡◌, nat_tests, and_assoc, and_then, begins_with, Bool, codes, Digits, directive_break, drop, first_break, has_no_break, is_alpha, is_alphanumeric, is_at_gap, is_blank, is_blank_or_breakz, is_break, is_rest_of_line, kind, line_end, next_line, not, or_cases, position_after, run, space, Stop, tag, unknown, version, Whitespace, Yes, ◌&&◌, ◌*◌, ◌+◌, ◌-◌, ◌≤◌, CommentNotSeparated, DirectiveEnd, TagDirectiveHandle, TagStart, VersionNumber, VersionTooLong, is_decimal_digit, is_letter, same_break, same_gap, same_alpha, same_place, all_leading, before_end, begins_in, span_cut, one_further}
+use Rattle.proof_lexers.proofs.Common.{[], after, all_of, and_parts, ap, append_assoc, arith, At, begins_with_mark, both_ways, cases_Bool, decimal_value, eqb-true, Err, false, Fault, further, handle, handle_and_rest, handle_end, if◌then◌else◌, inl, inr, is_empty, is_handle, is_marked_name, is_same, leading, length, length-append, List, nat_le, ne_eqb, None, number, number_of, Ok, Option, past, Position, Read, refl, Result, slice_index, Some, sym, true, ℕ, ◌++◌, ◌==◌, ◌∙◌, ◌∷◌, ◌≡◌, nat_tests, and_assoc, begins_with, Bool, codes, Digits, directive_break, drop, first_break, has_no_break, is_alpha, is_alphanumeric, is_at_gap, is_blank, is_blank_or_breakz, is_break, is_rest_of_line, kind, line_end, next_line, not, position_after, run, Stop, tag, unknown, version, ◌&&◌, ◌*◌, ◌+◌, ◌-◌, ◌≤◌, CommentNotSeparated, DirectiveEnd, TagDirectiveHandle, TagStart, VersionNumber, VersionTooLong, is_decimal_digit, is_letter, same_break, same_gap, same_alpha, same_place, all_leading, before_end, span_cut, one_further}
 use Rattle.defs_text.specs.Classes as classes
 use Rattle.proof_lexers.specs.DirectiveEnds.{ends_line}
 use Rattle.proof_lexers.proofs.Properties.Tags.{word}
 use Rattle.yaml_chars.specs.Class.{is_digit}
 use Rattle.model_scanner.specs.Directive.{digit_turn}
-use Rattle.proof_lexers.proofs.RestOfLine.{none_at_end, Rest, rest_of_line}
+use Rattle.proof_lexers.proofs.RestOfLine.{none_at_end, rest_of_line}
 use Rattle.proof_lexers.proofs.Plain.Turns.{same_feed, in_line_position, line_position}
 use Rattle.proof_lexers.proofs.Blocks.Positions.{feed_past}
 

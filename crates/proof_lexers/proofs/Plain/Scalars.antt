@@ -1,12 +1,12 @@
 -- Plain scalars are read as their values, and no other text is.
-use Rattle.proof_lexers.proofs.Common.{[], and_parts, ap, arith, At, at_dash, begins_left, begins_solid, Bool, by_column, by_dash, by_tab, cases_Bool, collection_of, Context, EndsAs, false, Fault, Folded, goes_on, goes_over, has_document_marker, has_no_nul, HasTab, inl, inr, is_indented, is_shallow, is_white, IsPlainRead, IsPlainRefusal, joined, List, nat_lt, nat_tests, not-true, nothing, or_parts, Plain, plain, plain_from, plain_value, PlainScalarsAreRead, PlainScansEndAsTheirTextSays, Position, position_after, Read, reads, refl, refuses, Result, Some, stand_after, stops, suc, sym, true, whole_plain, with_char, ℕ, ◌&&◌, ◌++◌, ◌+◌, ◌∙◌, ◌∷◌, ◌≡◌, after_blank, append-nil, at_marker, can_be_plain, ends_at_colon, ends_plain, eqb-true, is_apart, is_blank, is_break, not, Ok, on_line, slice_index, Stand, tabs, ◌==◌, ◌||◌, FlowIndentation, PlainDashInFlow, PlainTab, is_nul, same_break, same_blank}
+use Rattle.proof_lexers.proofs.Common.{[], and_parts, ap, arith, At, at_dash, begins_left, Bool, by_column, by_dash, by_tab, cases_Bool, collection_of, Context, EndsAs, false, Fault, Folded, goes_over, has_no_nul, HasTab, inl, inr, is_indented, is_shallow, is_white, IsPlainRead, IsPlainRefusal, joined, List, nat_lt, nat_tests, not-true, nothing, or_parts, Plain, plain, plain_value, PlainScalarsAreRead, PlainScansEndAsTheirTextSays, Position, position_after, Read, reads, refl, refuses, Result, Some, stand_after, stops, suc, sym, true, whole_plain, with_char, ℕ, ◌&&◌, ◌++◌, ◌+◌, ◌∙◌, ◌∷◌, ◌≡◌, after_blank, append-nil, at_marker, can_be_plain, ends_at_colon, ends_plain, eqb-true, is_apart, is_blank, is_break, not, Ok, on_line, slice_index, Stand, tabs, ◌==◌, ◌||◌, FlowIndentation, PlainDashInFlow, PlainTab, is_nul, same_break, same_blank}
 use Rattle.defs_token.specs.Plain as defs
 use Rattle.model_scanner.specs.Machine as machine
-use Rattle.model_scanner.specs.Plain.{inside, first, starts, between}
+use Rattle.model_scanner.specs.Plain.{inside, starts, between}
 use Rattle.proof_lexers.specs.PlainEnds.{IsScalarRead, just}
 use Rattle.proof_lexers.proofs.Ends.{ends_also}
 use Rattle.proof_row.proofs.Plains.{plains}
-use Rattle.proof_lexers.proofs.Plain.Turns.{after_blanks, after_more, after_tab, after_text, as_deep, at_feed, at_line, at_tabs, blank_step, break_step, can_be, content_char, content_step, dash, dash_parts, dash_untabbed, dashed, ends_comment, ends_over, Fails, fails, flow_untabbed, Found, found, found_here, in_line, in_line_position, in_text, line_is, no_lead, no_line, off_margin, Outcome, outcome, past_content, same_left, scan, Scans, solid_first, stopped, tab, Tabbed, tabbed, went}
+use Rattle.proof_lexers.proofs.Plain.Turns.{after_blanks, after_tab, after_text, as_deep, at_feed, at_line, at_tabs, blank_step, break_step, can_be, content_char, content_step, dash, dash_parts, dash_untabbed, dashed, ends_comment, ends_over, Fails, fails, flow_untabbed, Found, found, found_here, in_line, in_line_position, in_text, line_is, no_lead, no_line, off_margin, Outcome, outcome, past_content, same_left, scan, Scans, solid_first, stopped, tab, Tabbed, tabbed, went}
 use Rattle.proof_lexers.proofs.Plain.Values.{no_markers, value_is}
 use Rattle.defs_text.specs.Classes as classes
 use Rattle.proof_lexers.proofs.Separation.Separations.{no_hash}
@@ -173,7 +173,7 @@ module _ (ctx : Context) (start : Position) (c : ℕ) (a : List ℕ) (white : is
   started false true e f full indented =
       let q = dash_parts ctx start ctx.flow c a f in
       refuses (At PlainDashInFlow start) (by_dash [] a e (λ t. flow_untabbed ctx start a defs.inside q.0 q.2 (tab_later t)) q.0 (ap (λ d. d ∷ a) q.1) q.2 refl refl) (rw (e, f) refl)
-  started false false e f full indented = 
+  started false false e f full indented =
       rw (e, f) (ended e _ (scans ctx start a full inside defs.inside (machine.past start) (with_char c (joined nothing)) (in_line (c ∷ []) refl (off_margin start.col) (deep ctx start indented))))
 
 pub scans_end : PlainScansEndAsTheirTextSays

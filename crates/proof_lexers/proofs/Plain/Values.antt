@@ -1,5 +1,5 @@
 -- The buffers after a plain scalar have its value, and no line of it begins with a document marker.
-use Rattle.proof_lexers.proofs.Common.{[], after_element, after_elements, and_parts, ap, append-nil, are_marks, arith, begins_with_marker, blank, Bool, break_further, cases_Bool, content, drop, Element, elements, ends_with_content, eqb-true, false, Folded, goes_on, has_document_marker, if◌then◌else◌, inl, inr, is_before_line_feed, is_blank_or_end, joined, line_break, List, nat_tests, nothing, on_line, Option, or-true, plain_element, plain_value, refl, Some, Spelled, Stand, suc, sym, true, with_break, zero, ℕ, ◌∙◌, ◌∷◌, ◌≡◌}
+use Rattle.proof_lexers.proofs.Common.{[], after_element, after_elements, and_parts, ap, append-nil, are_marks, arith, begins_with_marker, blank, Bool, break_further, cases_Bool, content, drop, Element, elements, ends_with_content, eqb-true, false, Folded, goes_on, has_document_marker, if◌then◌else◌, inl, inr, is_before_line_feed, is_blank_or_end, joined, line_break, List, nat_tests, nothing, on_line, Option, or-true, plain_element, plain_value, refl, Some, Stand, suc, sym, true, with_break, zero, ℕ, ◌∙◌, ◌∷◌, ◌≡◌}
 use Rattle.defs_text.specs.Classes.{is_blank, is_break}
 use Rattle.defs_token.specs.Plain.{past}
 use Rattle.proof_lexers.proofs.Fold.{buffers_join}

@@ -1,5 +1,5 @@
 -- Each tag is read as it is written: a text begins with one tag at most, and is refused only where it begins with none.
-use Rattle.proof_lexers.proofs.Common.{[], after, after_tag, Fault, Position, Read, all_of, and_parts, ap, append_assoc, at_start, Bool, cases_Bool, codes, decoded, eqb-true, Err, false, inl, inr, is_empty, is_nul, is_same, IsTagRefusal, leading, leading_none, List, local_goes_on, local_octets, may_follow, nat_tests, no_suffix, None, Ok, Option, Problem, reads, refl, refuses, Result, Some, sym, suffix_goes_on, suffix_octets, tag_of_class, TagsAreRead, true, uri_character, UriFault, verbatim_goes_on, verbatim_octets, whole_tag, written_tag, ℕ, ◌++◌, ◌==◌, ◌∙◌, ◌∷◌, ◌≡◌, arith, is_blank_or_end, is_decimal_digit, is_letter, all_leading, before_end, begins_in, leading_all, span_cut}
+use Rattle.proof_lexers.proofs.Common.{[], after, after_tag, Fault, Position, Read, all_of, and_parts, ap, append_assoc, at_start, Bool, cases_Bool, codes, decoded, eqb-true, Err, false, inl, inr, is_empty, is_nul, is_same, IsTagRefusal, leading, leading_none, List, local_goes_on, local_octets, may_follow, no_suffix, None, Ok, Problem, reads, refl, refuses, Result, Some, sym, suffix_goes_on, suffix_octets, tag_of_class, TagsAreRead, true, uri_character, UriFault, verbatim_goes_on, verbatim_octets, whole_tag, written_tag, ℕ, ◌++◌, ◌==◌, ◌∙◌, ◌∷◌, ◌≡◌, arith, is_blank_or_end, is_decimal_digit, is_letter, all_leading, before_end, begins_in, leading_all, span_cut}
 use Rattle.proof_lexers.specs.TagEnds.{unclosed}
 use Rattle.defs_text.specs.Classes as classes
 use Rattle.defs_text.specs.Tags as defs
@@ -80,6 +80,7 @@ module _ (flow : Bool) (rest : List ℕ) (follows : may_follow flow rest ≡ tru
       | inr f ↦ local_begins (c ∷ a) (after classes.is_alpha (c ∷ a)) g e z.1 (span_cut classes.is_alpha (c ∷ a)) f (of_class classes.is_tag (codes "!") (c ∷ a) g (rw (e, f) at h))
     ]
   ]
+
   -- it has no reason to be refused
   unrefused : (a : List ℕ) (why : Problem) → IsTagRefusal flow a why → Begins a → ⊥
   unfolding classes.is_alpha is_decimal_digit is_letter

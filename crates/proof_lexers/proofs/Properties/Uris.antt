@@ -164,6 +164,7 @@ module _ (test class : ℕ → Bool) (start : Position) (same : (c : ℕ) → cl
 
 pub uris_are_read : UrisAreRead
 unfolding is_uri is_alphanumeric is_uri_mark is_flow is_tag
-uris_are_read start text p before =
-    (all_read is_uri classes.is_uri start same_uri refl (λ c h. grind (arith, nat_tests)) 0 text p before,
-    all_read is_tag classes.is_tag start same_tag refl (λ c h. grind (arith, nat_tests)) 0 text p before)
+uris_are_read start text p before = (
+  all_read is_uri classes.is_uri start same_uri refl (λ c h. grind (arith, nat_tests)) 0 text p before,
+  all_read is_tag classes.is_tag start same_tag refl (λ c h. grind (arith, nat_tests)) 0 text p before,
+)

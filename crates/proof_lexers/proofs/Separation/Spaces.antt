@@ -1,5 +1,5 @@
 -- The blanks and the comment that the model passes in a line are a separation.
-use Rattle.proof_lexers.proofs.Common.{[], after, ap, are_spaces, arith, begins_with, cases_Bool, ends_spaces, EndsAs, eqb-true, false, further, has_break, has_no_break, inl, inr, is_separation, leading, length, length-append, List, not, Ok, Position, reads, refl, refuses, space, spaces, SpacesArePassed, sym, true, Whitespace, ℕ, ◌++◌, ◌==◌, ◌||◌, ◌∙◌, ◌∷◌, ◌≡◌, nat_tests, has, skip_while, same_break, none_further, same_place, span_cut}
+use Rattle.proof_lexers.proofs.Common.{[], after, ap, are_spaces, arith, begins_with, cases_Bool, ends_spaces, EndsAs, eqb-true, false, further, has_break, has_no_break, inl, inr, is_separation, leading, length, length-append, List, not, Ok, Position, reads, refl, refuses, space, spaces, SpacesArePassed, sym, true, Whitespace, ℕ, ◌++◌, ◌==◌, ◌||◌, ◌∙◌, ◌∷◌, ◌≡◌, nat_tests, has, skip_while, none_further, same_place, span_cut}
 use Rattle.defs_text.specs.Classes as classes
 use Rattle.model_scanner.specs.Blanks.{after_spaces, is_line}
 use Rattle.model_scanner.specs.declared.context.SkipTabs.{SkipTabs}
