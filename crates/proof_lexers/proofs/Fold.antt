@@ -24,9 +24,8 @@ all_trailing (b ∷ g) = rw (all_trailing g) refl
 
 -- and stay before content
 none_trailing : (g : List ℕ) (c : ℕ) (l : List Element) → without_trailing_blanks (blanks g (content c ∷ l)) ≡ blanks g (content c ∷ without_trailing_blanks l)
-none_trailing [] c l = refl
-none_trailing (b ∷ []) c l = refl
 none_trailing (b ∷ d ∷ g) c l = rw (none_trailing (d ∷ g) c l) refl
+none_trailing g c l = refl
 
 -- ---- the text of the lines left
 

@@ -16,10 +16,9 @@ one_more n cs bs a h = grind arith
 
 -- the collections that go on are the outer ones, or none
 ended : (none : Bool) (col : ℕ) (bs : List ℕ) → AreOuter (if none then [] else not_ended col bs) bs
-ended true col [] = (refl, omega arith)
-ended false col [] = (refl, omega arith)
 ended true col (n ∷ bs) = one_more n [] bs true (ended true col bs)
 ended false col (n ∷ bs) = one_more n (not_ended col bs) bs (nat_lt col n) (ended false col bs)
+ended none col bs = (refl, omega arith)
 
 -- Tokens without a piece lead from an account to another.
 abbrev pub LeadTo : Account → List Token → Account → Type 0

@@ -30,10 +30,9 @@ IsShorthand r = (all_of goes_on r ≡ true) × (begins_with 60 r ≡ false)
 
 of_named : (name r : List ℕ) (t : Tag) → begins_with_mark r ≡ true → named name r ≡ Some t → all_of goes_on r ≡ true
 unfolding is_blank_or_end is_blank is_break is_nul is_flow
-of_named name [] t m e = absurd (cc e)
-of_named name (c ∷ []) t m e = absurd (cc e)
 of_named name (c ∷ d ∷ r) t m e =
     joined _ _ (subst (λ z. goes_on z ≡ true) (sym (eqb-true c 33 m)) refl) (all_weaker is_tag goes_on tag_goes_on (d ∷ r) (grind arith))
+of_named name r t m e = absurd (cc e)
 
 of_shorthand : (c : ℕ) (r : List ℕ) (t : Tag) → shorthand (c ∷ r) ≡ Some t → all_of goes_on (c ∷ r) ≡ true
 of_shorthand c r t e = elim (cases_Bool (begins_with_mark (after is_alpha (c ∷ r)))) [

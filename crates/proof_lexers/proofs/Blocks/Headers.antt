@@ -43,17 +43,15 @@ module _ (start : Position) (style : BlockStyle) where
   -- indicators are a header, if no `0` stands among them
   some_header : (l : List ℕ) → has_zero l ≡ false → after_style style (front l) ≡ None → ⊥
   unfolding sign_of digit_of
-  some_header [] z e = grind arith
-  some_header (c ∷ []) z e = grind arith
   some_header (c ∷ d ∷ l) z e = grind arith
+  some_header l z e = grind arith
 
   -- a line is the header that its indicators are, if the rest of it is blanks and a comment
   header_is : (l : List ℕ) (h : defs.Header) → has_zero l ≡ false → after_style style (front l) ≡ Some h
       → header_of (indicator_of style ∷ l) ≡ (if is_rest_of_line (past_indicators l) then Some h else None)
   unfolding sign_of digit_of
-  header_is [] h z e = grind arith
-  header_is (c ∷ []) h z e = grind arith
   header_is (c ∷ d ∷ l) h z e = grind arith
+  header_is l h z e = grind arith
 
   -- the model reads just these
   indicators_read : (l r : List ℕ) (h : defs.Header) → ends_line r ≡ true → has_zero l ≡ false → after_style style (front l) ≡ Some h
@@ -63,18 +61,15 @@ module _ (start : Position) (style : BlockStyle) where
     | inl f ↦ grind (arith, digit_is)
     | inr f ↦ elim (cases_Bool (c == 45)) [ inl g ↦ grind (arith, digit_is) | inr g ↦ grind (arith, digit_is) ]
   ]
-  indicators_read [] [] h ends z e = grind (arith, digit_is)
-  indicators_read (c ∷ []) [] h ends z e = grind (arith, digit_is)
-  indicators_read [] (b ∷ r) h ends z e = let quiet = still b (sym (same_break b) ∙ ends) in grind (arith, quiet)
-  indicators_read (c ∷ []) (b ∷ r) h ends z e = let quiet = still b (sym (same_break b) ∙ ends) in grind (arith, digit_is, quiet)
+  indicators_read l [] h ends z e = grind (arith, digit_is)
+  indicators_read l (b ∷ r) h ends z e = let quiet = still b (sym (same_break b) ∙ ends) in grind (arith, digit_is, quiet)
 
   -- a `0` is refused, and no header has one
   zero_fails : (l r : List ℕ) → has_zero l ≡ true
       → (header_of (indicator_of style ∷ l) ≡ None) × (indicators start (l ++ r) (past start) ≡ Err (At BlockScalarZero start))
   unfolding sign_of digit_of indicators chomping increment is_digit classes.is_blank
-  zero_fails [] r z = cc
-  zero_fails (c ∷ []) r z = grind (arith, nat_tests, eqb-true)
   zero_fails (c ∷ d ∷ l) r z = grind (arith, nat_tests, eqb-true)
+  zero_fails l r z = grind (arith, nat_tests, eqb-true)
 
   -- after a header's line
   at_line_end : (line r : List ℕ) (h : defs.Header) → ends_line r ≡ true → header_of (indicator_of style ∷ line) ≡ Some h

@@ -136,9 +136,8 @@ pub first_of : (column : ℕ) (w : List ℕ) (ws : List (List ℕ)) (rs : List R
 first_of column w ws rs h = by (row_of column w) (rows_of column ws) refl refl h
   where
     by : (o : Option Row) (os : Option (List Row)) → row_of column w ≡ o → rows_of column ws ≡ os → put_row o os ≡ Some rs → First column w ws rs
-    by None os e f g = cc
-    by (Some r) None e f g = cc
     by (Some r) (Some more) e f g = let same : r ∷ more ≡ rs = cc in first_row r more (sym same) (row_is column w r e) f
+    by o os e f g = cc
 
 module _ (literal : Bool) (column : ℕ) where
   row_goes : (l : Line) (a : List ℕ) (p : Position) (x : Lines) (r : Row) → p.col ≡ 0 → is_in_line l.text ≡ true → Fits l.by a → IsRow column l.text r

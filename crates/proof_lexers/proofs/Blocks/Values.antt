@@ -209,14 +209,13 @@ here_outside column c r p e b le none = grind arith
 
 pub outside : (n column : ℕ) (r : List ℕ) (p : Position) → p.col + n ≡ column → is_outside n r ≡ true → Outside column r p
 unfolding begins
-outside zero column r p col h = cc
-outside (suc n) column [] p col h = cc
 outside (suc n) column (c ∷ r) p col h = elim (cases_Bool (c == 32)) [
   | inl e ↦ space_outside column c r p e (lt-ltb p.col column (omega (arith, col))) (outside n column r (past p) (omega (arith, col)) (rw e at h))
   | inr e ↦
       let q = and_parts (not (classes.is_break c)) (not (is_nul c)) (rw e at h) in
       here_outside column c r p e (sym (same_break c) ∙ not-true _ q.0) (omega (arith, col)) (grind (arith, ne_eqb))
 ]
+outside n column r p col h = cc
 
 pub further_outside : (column : ℕ) (r : List ℕ) (p : Position) → p.col ≡ 0 → is_further_text column r ≡ true → Outside column r p
 unfolding begins are_marks is_break

@@ -31,10 +31,9 @@ first_element c a others = elim (cases_Bool (is_break c)) [
 ]
 
 elements_of : (n : ℕ) (a : List ℕ) → Elements n a
-elements_of zero [] = record { all = []; are = refl; same = λ t. refl }
-elements_of (suc n) [] = record { all = []; are = refl; same = λ t. refl }
 elements_of (suc n) (c ∷ a) = let z = elements_of n a in record { all = z.all; are = z.are; same = z.same }
 elements_of zero (c ∷ a) = first_element c a (λ k. elements_of k a)
+elements_of n a = record { all = []; are = refl; same = λ t. refl }
 
 -- after content
 joined_solid : (c : ℕ) (r : List ℕ) (t : Folded) → ends_with_content c r ≡ true → (joined (after_text (c ∷ r) t)).text ≡ (after_text (c ∷ r) t).text

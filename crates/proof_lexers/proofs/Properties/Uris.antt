@@ -26,9 +26,8 @@ same_lead start p n t = grind (arith, both, nat_tests, same_between)
 -- ---- what an escape means
 
 after_some : (n : ℕ) (r : List ℕ) → decoded_after n r ≡ decoded_after 0 (drop n r)
-after_some zero r = refl
-after_some (suc n) [] = refl
 after_some (suc n) (c ∷ r) = after_some n r
+after_some n r = refl
 
 -- a code that is completed, and what the text after it means
 abbrev completed : (least : ℕ) → Result ℕ UriFault → Result (List ℕ) UriFault → Result (List ℕ) UriFault
@@ -157,10 +156,9 @@ module _ (test class : ℕ → Bool) (start : Position) (same : (c : ℕ) → cl
       rw (tested, e, e) (nothing_read (c ∷ a) p t)
 
   all_read : (n : ℕ) (a : List ℕ) (p : Position) (t : List ℕ) → scan (drop n a) p t ≡ answer (drop n a) p t (decoded (leading class (drop n a)))
-  all_read zero [] p t = nothing_read [] p t
-  all_read (suc n) [] p t = nothing_read [] p t
   all_read (suc n) (c ∷ a) p t = all_read n a p t
   all_read zero (c ∷ a) p t = first_by c a (λ n. all_read n a) (class c) (c == 37) refl refl p t
+  all_read n a p t = nothing_read [] p t
 
 pub uris_are_read : UrisAreRead
 unfolding is_uri is_alphanumeric is_uri_mark is_flow is_tag

@@ -60,11 +60,10 @@ module _ (single : Bool) (ctx : Context) (start : Position) where
 
   -- what the scan does up to the text after a body's elements
   pub passes : (n : ℕ) (a r : List ℕ) → (slice_index r 0 == 10) ≡ false → is_document_marker r ≡ false → Passes n a r
-  passes zero [] r no_feed still es m p t h ready = no_elements r es m p t still h ready
-  passes (suc n) [] r no_feed still es m p t h ready = no_elements r es m p t still h ready
   passes (suc n) (c ∷ b) r no_feed still es m p t h ready = passes n b r no_feed still es m p t h ready
   passes zero (c ∷ b) r no_feed still es m p t h ready =
       by_element c b r (element_of single c b) es m p t refl h ready (λ n. passes n b r no_feed still) (step single ctx start c b r p t no_feed)
+  passes n a r no_feed still es m p t h ready = no_elements r es m p t still h ready
 
   -- ---- the opening quote
 

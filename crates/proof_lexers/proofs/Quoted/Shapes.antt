@@ -46,12 +46,11 @@ shape_by single c b None nul e z others = elim (no_element single c b nul e) [
 shape_by single c b (Some s) nul e z others = grown single c b s e z (others s.further)
 
 shape_from : (single : Bool) (n : ℕ) (a : List ℕ) → list_all is_some a ≡ true → Shape single (drop n a)
-shape_from single zero [] h = unclosed ([], refl)
-shape_from single (suc n) [] h = unclosed ([], refl)
 shape_from single (suc n) (c ∷ b) h = shape_from single n b ((and_parts (is_some c) (list_all is_some b) h).1)
 shape_from single zero (c ∷ b) h =
     let q = and_parts (is_some c) (list_all is_some b) h in
     shape_by single c b (element_of single c b) (not-true (c == 0) q.0) refl (local single c b) (λ n. shape_from single n b q.1)
+shape_from single n a h = unclosed ([], refl)
 
 pub shape_of : (single : Bool) (a : List ℕ) → list_all is_some a ≡ true → Shape single a
 shape_of single a h = shape_from single 0 a h
