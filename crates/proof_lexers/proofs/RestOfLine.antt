@@ -69,7 +69,8 @@ blanks_left [] = refl
 blanks_left (c ∷ m) = grind (arith, nat_tests, blanks_left m)
 
 -- a line by its blanks and what is left after them
-parts : (m : List ℕ) → (is_rest_of_line m ≡ (is_empty (after (is_space Yes) m) || (begins_with 35 (after (is_space Yes) m) && not (is_empty (leading (is_space Yes) m)))))
+parts : (m : List ℕ)
+    → (is_rest_of_line m ≡ (is_empty (after (is_space Yes) m) || (begins_with 35 (after (is_space Yes) m) && not (is_empty (leading (is_space Yes) m)))))
     × (begins_with 35 m ≡ (is_empty (leading (is_space Yes) m) && begins_with 35 (after (is_space Yes) m)))
     × ((has 9 (leading (is_space Yes) m) || has 32 (leading (is_space Yes) m)) ≡ not (is_empty (leading (is_space Yes) m)))
 unfolding classes.is_blank
@@ -106,7 +107,8 @@ rest_of_line m n p h k =
 
     by : (r : List ℕ) → after (is_space Yes) m ≡ r → Rest m n p (after_spaces (r ++ n) (record { position = here; found = found }))
     by [] e =
-        let ended : after_spaces n (record { position = here; found = found }) ≡ Ok (record { rest = n; position = here; value = found }) = (let no = none_at_end (λ d. d == 35) refl refl n k in grind arith) in
+        let ended : after_spaces n (record { position = here; found = found }) ≡ Ok (record { rest = n; position = here; value = found }) =
+        (let no = none_at_end (λ d. d == 35) refl refl n k in grind arith) in
         ends found ((parts m).0 ∙ rw e refl) (ended ∙ ap (λ q. Ok (record { rest = n; position = q; value = found })) (sym (none_further here) ∙ place [] e))
     by (c ∷ t) e = let z = parts m in let line = no_break_after before (c ∷ t) (rw (← e, ← span_cut (is_space Yes) m) h) in elim (cases_Bool (c == 35)) [
       | inr f ↦ goes_on c (t ++ n) here found (z.0 ∙ rw (e, f) refl) (z.1 ∙ rw (e, f) (and-false (is_empty before))) (sym (same_break c) ∙ not-true (classes.is_break c) (and_parts (not (classes.is_break c)) (has_no_break t) line).0) (rw f refl)

@@ -69,7 +69,8 @@ module _ (h : defs.Header) (line : List ℕ) (k : Break) (indent : ℕ) (p : Pos
   piece_first column a r fits e = first_header column (indicator_of h.style ∷ line) k a p (style_inner h.style line inner) fits ∙ first_is column a start [] ∙ ap stopped_at e
 
   -- the position after a header, lines, and a last line without a break
-  piece_position : (ls : List Line) (last next : List ℕ) → AreLines ls (last ++ next) → Fits k (spell ls (last ++ next)) → is_in_line last ≡ true → along last (after_lines ls start) ≡ position_after p (with_header (spell ls last)) next
+  piece_position : (ls : List Line) (last next : List ℕ) → AreLines ls (last ++ next) → Fits k (spell ls (last ++ next))
+      → is_in_line last ≡ true → along last (after_lines ls start) ≡ position_after p (with_header (spell ls last)) next
   piece_position ls last next are fits last_inner = sym (
       after_chars (indicator_of h.style ∷ line) (put k (spell ls last)) next p (style_inner h.style line inner) ∙ after_put k (spell ls last) next (along line (past p)) (rw (spell_more ls last next) fits) ∙ after_spell ls last next start are
       ∙ ap (λ x. position_after (after_lines ls start) x next) (sym (append-nil last)) ∙ after_chars last [] next (after_lines ls start) last_inner
@@ -102,12 +103,15 @@ module _ (h : defs.Header) (line : List ℕ) (k : Break) (indent : ℕ) (p : Pos
     where_is : {o : Option Position} → first_content column true p piece ≡ o → block_position column p piece next ≡ position_or o (further_position p piece next)
     where_is e = rw (e, text) refl
 
-    without_rows : has_content rs ≡ false → Outside column next (after_lines ls start) → IsRead indent p before_text piece next (scanned (spell ls next))
+    without_rows : has_content rs ≡ false → Outside column next (after_lines ls start)
+        → IsRead indent p before_text piece next (scanned (spell ls next))
     without_rows none z =
         let here : z.position ≡ further_position p piece next = sym z.at_position ∙ position_is in
-        let first : first_content column true p piece ≡ None = piece_first column (spell ls []) _ fits_alone (all_empty column ls [] start [] rs refl are_alone rows none) in
+        let first : first_content column true p piece ≡ None =
+        piece_first column (spell ls []) _ fits_alone (all_empty column ls [] start [] rs refl are_alone rows none) in
         let found : indent_from column (spell ls next) (at start []) ≡ record { rest = z.char ∷ z.rest; position = z.position; value = record { column = column; breaks = breaks (length rs) } } = all_empty column ls next start [] rs refl are rows none ∙ z.found (breaks (length rs)) in
-        let is_here : is_shallow indent p before_text piece next ≡ (nat_lt z.position.col column && nat_le indent z.position.col) = rw (text, first, ← here) (and_comm (nat_le indent z.position.col) (nat_lt z.position.col column)) in
+        let is_here : is_shallow indent p before_text piece next ≡ (nat_lt z.position.col column && nat_le indent z.position.col) =
+        rw (text, first, ← here) (and_comm (nat_le indent z.position.col) (nat_lt z.position.col column)) in
         elim (cases_Bool (nat_lt z.position.col column && nat_le indent z.position.col)) [
           | inl e ↦ refuses _ (shallow free (is_here ∙ e)) (found_by ∙ ap after found ∙ rw (e, here) refl)
           | inr e ↦ reads_it column before_text (spell ls next) piece next z.rest z.char z.position _ (breaks (length rs)) lines_read free (is_here ∙ e) found_by found e (read_to z) position_is (where_is first ∙ sym here)

@@ -9,7 +9,8 @@ use Rattle.proof_row.proofs.TagEnds.{alpha_goes_on, goes_on, tag_goes_on, tags}
 use Rattle.proof_lexers.proofs.Properties.Tags.{alpha_starts, close_is_no_uri, tags_end}
 
 -- what may follow a tag is of no class of characters that a tag goes on with
-follower : (class : ℕ → Bool) → ((c : ℕ) → class c ≡ true → goes_on c ≡ true) → (flow : Bool) (rest : List ℕ) → may_follow flow rest ≡ true → begins_in class rest ≡ false
+follower : (class : ℕ → Bool) → ((c : ℕ) → class c ≡ true → goes_on c ≡ true) → (flow : Bool) (rest : List ℕ) → may_follow flow rest ≡ true
+    → begins_in class rest ≡ false
 follower class f flow [] h = refl
 follower class f flow (c ∷ r) h = grind (arith, f c)
 
@@ -39,20 +40,26 @@ module _ (flow : Bool) (rest : List ℕ) (follows : may_follow flow rest ≡ tru
   -- A text that begins with a verbatim tag; or with one that has a name or none, and a suffix after a second mark or no other mark.
   data Begins (a : List ℕ) : Type 0 where
     verbatim_tag : (b cs : List ℕ) → a ≡ 60 ∷ b → decoded (leading classes.is_uri b) ≡ Ok cs → after classes.is_uri b ≡ 62 ∷ rest → Begins a
-    named_tag : (b cs : List ℕ) → begins_in (λ c. c == 60) a ≡ false → after classes.is_alpha a ≡ 33 ∷ b → is_empty (leading classes.is_tag b) ≡ false → decoded (leading classes.is_tag b) ≡ Ok cs → after classes.is_tag b ≡ rest → Begins a
-    local_tag : (b cs : List ℕ) → begins_in (λ c. c == 60) a ≡ false → after classes.is_alpha a ≡ b → begins_in (λ c. c == 33) b ≡ false → decoded (leading classes.is_tag b) ≡ Ok cs → after classes.is_tag b ≡ rest → Begins a
+    named_tag : (b cs : List ℕ) → begins_in (λ c. c == 60) a ≡ false → after classes.is_alpha a ≡ 33 ∷ b
+        → is_empty (leading classes.is_tag b) ≡ false → decoded (leading classes.is_tag b) ≡ Ok cs → after classes.is_tag b ≡ rest
+        → Begins a
+    local_tag : (b cs : List ℕ) → begins_in (λ c. c == 60) a ≡ false → after classes.is_alpha a ≡ b → begins_in (λ c. c == 33) b ≡ false
+        → decoded (leading classes.is_tag b) ≡ Ok cs → after classes.is_tag b ≡ rest → Begins a
 
   verbatim_begins : (b : List ℕ) (g : defs.Tag) → defs.verbatim b ≡ Some g → Begins (60 ∷ (b ++ rest))
   verbatim_begins b g h = elim (cases_Bool (is_same (after classes.is_uri b) (codes ">"))) [
     | inl e ↦
         let k = of_class classes.is_uri [] (leading classes.is_uri b) g (rw e at h) in
         let z = leading_all classes.is_uri (leading classes.is_uri b) (62 ∷ rest) k.0 close_is_no_uri in
-        let cut : b ++ rest ≡ leading classes.is_uri b ++ 62 ∷ rest = ap (λ x. x ++ rest) (span_cut classes.is_uri b ∙ ap (λ x. leading classes.is_uri b ++ x) (same_text (after classes.is_uri b) (codes ">") e)) ∙ append_assoc (leading classes.is_uri b) (62 ∷ []) rest in
+        let cut : b ++ rest ≡ leading classes.is_uri b ++ 62 ∷ rest =
+        ap (λ x. x ++ rest) (span_cut classes.is_uri b ∙ ap (λ x. leading classes.is_uri b ++ x) (same_text (after classes.is_uri b) (codes ">") e)) ∙ append_assoc (leading classes.is_uri b) (62 ∷ []) rest in
         verbatim_tag (b ++ rest) g.suffix refl (rw (cut, z.0) k.1) (rw cut z.1)
     | inr e ↦ let no : None ≡ Some g = rw e at h in cc
   ]
 
-  named_begins : (a m : List ℕ) (g : defs.Tag) → begins_in (λ c. c == 60) (a ++ rest) ≡ false → after classes.is_alpha (a ++ rest) ≡ m ++ rest → defs.begins_with_mark m ≡ true → defs.named (leading classes.is_alpha a) m ≡ Some g → Begins (a ++ rest)
+  named_begins : (a m : List ℕ) (g : defs.Tag) → begins_in (λ c. c == 60) (a ++ rest) ≡ false
+      → after classes.is_alpha (a ++ rest) ≡ m ++ rest → defs.begins_with_mark m ≡ true
+      → defs.named (leading classes.is_alpha a) m ≡ Some g → Begins (a ++ rest)
   named_begins a (x ∷ d ∷ s) g e f mark h =
       let k = of_class classes.is_tag (codes "!" ++ leading classes.is_alpha a ++ codes "!") (d ∷ s) g h in
       let z = leading_all classes.is_tag (d ∷ s) rest k.0 ends_tag in
@@ -60,13 +67,15 @@ module _ (flow : Bool) (rest : List ℕ) (follows : may_follow flow rest ≡ tru
       named_tag (d ∷ (s ++ rest)) g.suffix e (rw second at f) (rw z.0 refl) (rw z.0 k.1) z.1
   named_begins a _ g e f mark h = cc
 
-  local_begins : (a m : List ℕ) (g : defs.Tag) → begins_in (λ c. c == 60) (a ++ rest) ≡ false → after classes.is_alpha (a ++ rest) ≡ m ++ rest → a ≡ leading classes.is_alpha a ++ m → defs.begins_with_mark m ≡ false
+  local_begins : (a m : List ℕ) (g : defs.Tag) → begins_in (λ c. c == 60) (a ++ rest) ≡ false
+      → after classes.is_alpha (a ++ rest) ≡ m ++ rest → a ≡ leading classes.is_alpha a ++ m → defs.begins_with_mark m ≡ false
       → (all_of classes.is_tag a ≡ true) × (decoded a ≡ Ok g.suffix) × (g.handle ≡ codes "!") → Begins (a ++ rest)
   unfolding is_blank_or_end classes.is_blank classes.is_break is_nul classes.is_flow
   local_begins a m g e f cut mark k =
       by (decoded m) refl (leading_all classes.is_tag m rest (tags_after (leading classes.is_alpha a) m (rw (← cut) k.0)) ends_tag)
     where
-      by : (d : Result (List ℕ) UriFault) → decoded m ≡ d → (leading classes.is_tag (m ++ rest) ≡ m) × (after classes.is_tag (m ++ rest) ≡ rest) → Begins (a ++ rest)
+      by : (d : Result (List ℕ) UriFault) → decoded m ≡ d
+          → (leading classes.is_tag (m ++ rest) ≡ m) × (after classes.is_tag (m ++ rest) ≡ rest) → Begins (a ++ rest)
       by (Ok cs) i z = local_tag (m ++ rest) cs e f (let no = ends_at 33 refl in grind (arith, no)) (rw z.0 i) z.1
       by (Err j) i z = absurd (cc (k.1, cut, word_fails (leading classes.is_alpha a) m j (all_leading classes.is_alpha a) i))
 
