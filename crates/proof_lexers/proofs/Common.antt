@@ -11,7 +11,7 @@ unfoldable pub use Rattle.defs_text.specs.BlockScalar.{digit_of, is_content_line
 pub use Rattle.defs_text.specs.Breaks.{has_no_break, is_before_line_feed, is_blanks_and_comment, is_rest_of_line, Split, split, with_empty_line}
 pub use Rattle.defs_text.specs.Classes.{is_at_end, is_at_gap, is_between, is_document_marker, line_feed, tab}
 unfoldable pub use Rattle.defs_text.specs.Classes.{are_marks, is_anchor_name, is_blank_or_end, is_decimal_digit, is_letter, is_nul}
-pub use Rattle.defs_text.specs.Directives.{begins_prefix, decimal_value, declaration_by, Directive, handle_and_rest, name_and_mark, number_of, reserved, tag_declaration, version_of}
+pub use Rattle.defs_text.specs.Directives.{begins_prefix, decimal_value, declaration_by, Directive, handle_and_rest, number_of, reserved, tag_declaration, version_of}
 unfoldable pub use Rattle.defs_text.specs.Directives.{directive_of}
 pub use Rattle.defs_text.specs.FlowScalar.{before_break, begins_with, begun_with, blank, break_further, content, Element, elements, escape_by, escaped_break, escapes, folded_after, folded_break, followed, has_document_marker, hexadecimal, last_line, line, line_break, lines_of, lookup, numbered, numeric_escapes, put_before, Spelled, trimmed, trimmed_after, without_trailing_blanks}
 unfoldable pub use Rattle.defs_text.specs.FlowScalar.{begins_with_marker, double_quoted_element, double_quoted_value, escape, is_character_code, numeric_escape, plain_element, plain_value, single_quoted_element, single_quoted_value}
@@ -23,7 +23,7 @@ pub use Rattle.defs_token.specs.BlockPiece.{block_position, block_read, BlockRea
 pub use Rattle.defs_token.specs.Plain.{after_blank, begins_flow, ends_at_colon, ends_at_comment, ends_at_line, ends_plain, ends_with_content, goes_on, is_deeper, on_line, Stand, stops}
 pub use Rattle.defs_token.specs.Separation.{is_blanks, is_separation}
 pub use Rattle.model_scanner.proofs.QuotedLemmas.{after_gap, after_quote, closed_end, coded, coded_fails, digit_fails, digit_turn, named_char, named_code, named_unknown}
-pub use Rattle.model_scanner.specs.Blanks.{blanks, is_line, linebreak, space_from, Spaces, with_found}
+pub use Rattle.model_scanner.specs.Blanks.{blanks, is_line, linebreak, space_from}
 unfoldable pub use Rattle.model_scanner.specs.Blanks.{space}
 pub use Rattle.model_scanner.specs.BlockScalar.{after_header, Block, BlockState, Column, First, first_indent, Header, indent_from, is_open, Lines, lines_from, Margin, margin, with_indicators}
 unfoldable pub use Rattle.model_scanner.specs.BlockScalar.{between, block, chomping, empty_text, header, header_break, header_end, increment, indicators, tail}
@@ -41,7 +41,7 @@ unfoldable pub use Rattle.model_scanner.specs.Space.{is_before_indent, skip, whi
 pub use Rattle.model_scanner.specs.State.{Held, in_flow, moved, ScannerState}
 pub use Rattle.model_scanner.specs.Tag.{after_name, handle_end, local, read_tag, some_suffix, tag_end, verbatim_end}
 unfoldable pub use Rattle.model_scanner.specs.Tag.{ends_tag, handle, named, prefix, shorthand, verbatim}
-pub use Rattle.model_scanner.specs.Uri.{at_octet, at_trail, high, lead, Octet, octet_from, trail, trails_from, uri, uri_from, UriState}
+pub use Rattle.model_scanner.specs.Uri.{at_octet, at_trail, high, lead, Octet, octet_from, trail, trails_from, uri_from, UriState}
 pub use Rattle.model_scanner.specs.declared.context.Context.{Context}
 pub use Rattle.model_scanner.specs.declared.context.SkipTabs.TheVariants.{Yes}
 pub use Rattle.model_scanner.specs.declared.context.Whitespace.{Whitespace}
@@ -54,7 +54,7 @@ pub use Rattle.proof_lexers.specs.DirectiveEnds.{after_declaration, after_versio
 pub use Rattle.proof_lexers.specs.Ends.{EndsAs, reads, refuses}
 pub use Rattle.proof_lexers.specs.HeaderEnds.{along, chomping_of, comment, digit_or_zero, ends_line, has_zero, indicator_of, indicators_of, is_in_line, is_sign, IsHeaderRead, IsHeaderRefusal, no_header, past_indicators, read_header, tabbed, whole_header, zero_digit}
 pub use Rattle.proof_lexers.specs.NameEnds.{further, IsNameRead, IsNameRefusal, nameless}
-pub use Rattle.proof_lexers.specs.PlainEnds.{begins_left, begins_solid, begins_token, begins_white, by_column, by_dash, by_tab, collection_of, goes_over, has_break, HasTab, is_apart, is_gap, is_indented, is_white, IsPlainRead, IsPlainRefusal, stand_after, whole_plain}
+pub use Rattle.proof_lexers.specs.PlainEnds.{begins_left, begins_token, begins_white, by_column, by_dash, by_tab, collection_of, goes_over, has_break, HasTab, is_apart, is_gap, is_indented, is_white, IsPlainRead, IsPlainRefusal, stand_after, whole_plain}
 pub use Rattle.proof_lexers.specs.QuotedEnds.{by_end, by_escape, by_marker, HasElements, IsBadEscape, IsQuotedRead, IsQuotedRefusal, no_digit, number_at}
 pub use Rattle.proof_lexers.specs.QuotedLaws.{QuotedBodiesAreRead, QuotedScansEndAsTheirTextSays}
 pub use Rattle.proof_lexers.specs.QuotedScan.{by_line, element_of, ends_before, has_marker, IsShallow, read, shallow, value_of}

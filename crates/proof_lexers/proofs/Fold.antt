@@ -24,9 +24,8 @@ all_trailing (b ∷ g) = rw (all_trailing g) refl
 
 -- and stay before content
 none_trailing : (g : List ℕ) (c : ℕ) (l : List Element) → without_trailing_blanks (blanks g (content c ∷ l)) ≡ blanks g (content c ∷ without_trailing_blanks l)
-none_trailing [] c l = refl
-none_trailing (b ∷ []) c l = refl
 none_trailing (b ∷ d ∷ g) c l = rw (none_trailing (d ∷ g) c l) refl
+none_trailing g c l = refl
 
 -- ---- the text of the lines left
 
@@ -51,9 +50,6 @@ content_line g c ls = grind (arith, text_after, none_trailing, append_assoc)
 broken : (escaped : Bool) (n : ℕ) → (if true && not escaped && is_empty (replicate n line_feed) then space ∷ [] else replicate n line_feed) ≡ folded_break escaped n
 broken escaped n = grind arith
 
-joined_break : (escaped : Bool) (n : ℕ) (text : List ℕ) → joined (after_break escaped n text) ≡ in_line (text ++ folded_break escaped n) []
-joined_break escaped n text = ap (λ g. in_line (text ++ g) []) (broken escaped n)
-
 pub more_breaks : (n : ℕ) → replicate n line_feed ++ line_feed ∷ [] ≡ replicate (suc n) line_feed
 more_breaks zero = refl
 more_breaks (suc n) = ap (λ r. line_feed ∷ r) (more_breaks n)
@@ -70,7 +66,7 @@ mutual
   line_joins (escaped_break ∷ es) text g = break_joins es true 0 (text ++ g) ∙ rw (text_after g [], append-nil, append_assoc) refl
 
   break_joins : (es : List Element) (escaped : Bool) (n : ℕ) (text : List ℕ) → joined_text es (after_break escaped n text) ≡ text ++ folded_after escaped n (trimmed_after (lines_of es))
-  break_joins [] escaped n text = ap (λ t. t.text) (joined_break escaped n text) ∙ rw append-nil refl
+  break_joins [] escaped n text = ap (λ g. text ++ g) (broken escaped n) ∙ rw append-nil refl
   break_joins (content c ∷ es) escaped n text =
       grind (arith, broken, append_assoc, line_joins es ((text ++ folded_break escaped n) ++ c ∷ []) [])
   break_joins (blank c ∷ es) escaped n text = break_joins es escaped n text ∙ ap (λ l. text ++ l) (sym (leading_blank escaped n c (lines_of es)))

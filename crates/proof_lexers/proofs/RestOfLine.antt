@@ -1,7 +1,6 @@
 -- How the rest of a line is read: blanks, and a comment after one.
-use Rattle.proof_lexers.proofs.Common.{[], along, and_parts, ap, arith, At, begins_with, cases_Bool, eqb-true, Err, false, Fault, further, has_no_break, inl, inr, is_blanks_and_comment, is_break, is_in_line, is_line, is_rest_of_line, length, List, nat_tests, not, not-true, Ok, or-true, or_cases, or_parts, past, Position, Read, refl, Result, skip_while, space, space_from, Spaces, sym, true, Whitespace, with_found, Yes, ℕ, ◌++◌, ◌==◌, ◌||◌, ◌∙◌, ◌∷◌, ◌≡◌, Bool, and-false, or-false, ◌&&◌, leading, has, after, CommentNotSeparated, same_break, none_further, one_further}
+use Rattle.proof_lexers.proofs.Common.{[], and-false, cases_Bool, not-true, ◌+◌, along, and_parts, arith, At, before_end, begins_in, begins_with, eqb-true, Err, false, Fault, further, has_no_break, inl, inr, is_blanks_and_comment, is_break, is_empty, is_in_line, is_line, is_rest_of_line, length, length-append, List, nat_tests, not, Ok, or_cases, past, Position, Read, refl, Result, same_place, skip_while, space, space_from, span_cut, sym, true, Whitespace, Yes, ℕ, ◌++◌, ◌==◌, ◌||◌, ◌∙◌, ◌∷◌, ◌≡◌, Bool, or-false, ◌&&◌, leading, has, after, CommentNotSeparated, same_break, none_further, one_further, ap}
 use Rattle.defs_text.specs.Classes as classes
-use Rattle.defs_text.specs.Breaks.{touches_comment}
 use Rattle.proof_lexers.specs.DirectiveEnds.{ends_line}
 use Rattle.model_scanner.specs.Blanks.{after_spaces, are_skipped}
 use Rattle.model_scanner.specs.declared.context.SkipTabs.{SkipTabs}
@@ -14,10 +13,15 @@ pub in_line_is : (w : List ℕ) → has_no_break w ≡ is_in_line w
 in_line_is [] = refl
 in_line_is (c ∷ w) = rw (in_line_is w) refl
 
--- a break is neither a blank nor begins a comment
-pub break_is_none : (c : ℕ) → is_break c ≡ true → ((c == 32) ≡ false) × ((c == 9) ≡ false) × ((c == 35) ≡ false)
-unfolding is_break
-break_is_none c h = (grind (arith, nat_tests), grind (arith, nat_tests), grind (arith, nat_tests))
+-- a class without breaks does not go on after a line
+pub none_at_end : (class : ℕ → Bool) → class 10 ≡ false → class 13 ≡ false → (n : List ℕ) → ends_line n ≡ true → begins_in class n ≡ false
+unfolding classes.is_break
+none_at_end class lf cr [] h = refl
+none_at_end class lf cr (c ∷ n) h = elim (or_cases (c == 10) (c == 13) h) [ inl e ↦ rw (eqb-true c 10 e) lf | inr e ↦ rw (eqb-true c 13 e) cr ]
+
+pub no_break_after : (a b : List ℕ) → has_no_break (a ++ b) ≡ true → has_no_break b ≡ true
+no_break_after [] b h = h
+no_break_after (c ∷ a) b h = no_break_after a b (and_parts (not (classes.is_break c)) (has_no_break (a ++ b)) h).1
 
 -- all of a line without a break is skipped
 pub line_skipped : (m n : List ℕ) (p : Position) → has_no_break m ≡ true → ends_line n ≡ true → skip_while is_line (m ++ n) p ≡ record { rest = n; position = further (length m) p; value = tt }
@@ -56,47 +60,22 @@ spaces_passed tabs (c ∷ a) p w = grind (
   spaces_passed tabs a (past p) (record w { found_tabs = true }),
 )
 
--- a blank
-record Blank (c : ℕ) (a : List ℕ) (s : Spaces) : Type 0 where
-  next : Spaces
-  position : next.position ≡ past s.position
-  some : (next.found.found_tabs || next.found.has_valid_yaml_ws) ≡ true
-  is : space_from Yes (c ∷ a) s ≡ space_from Yes a next
-
 -- ---- a line
 
--- After a blank or none: nothing of the line is left; a comment stands there without a blank; or other text.
-data Walked (some : Bool) (m n : List ℕ) (p : Position) (x : Result (Read Whitespace) Fault) : Type 0 where
-  ended : (w : Whitespace) → is_blanks_and_comment m ≡ true → (some || not (touches_comment m)) ≡ true → x ≡ Ok (record { rest = n; position = further (length m) p; value = w }) → Walked some m n p x
-  stuck : (text : List ℕ) → m ≡ 35 ∷ text → some ≡ false → x ≡ Err (At CommentNotSeparated p) → Walked some m n p x
-  other : (c : ℕ) (more : List ℕ) (q : Position) (w : Whitespace) → is_blanks_and_comment m ≡ false → begins_with 35 m ≡ false → is_break c ≡ false → x ≡ Ok (record { rest = c ∷ more; position = q; value = w }) → Walked some m n p x
-
-walked : (m n : List ℕ) (s : Spaces) → has_no_break m ≡ true → ends_line n ≡ true → Walked (s.found.found_tabs || s.found.has_valid_yaml_ws) m n s.position (space_from Yes (m ++ n) s)
+-- blanks and maybe a comment are what leaves nothing or a comment after its blanks
+blanks_left : (m : List ℕ) → is_blanks_and_comment m ≡ (is_empty (after (is_space Yes) m) || begins_with 35 (after (is_space Yes) m))
 unfolding classes.is_blank
-walked [] n s h k = ended s.found refl (or-true _) (grind (arith, none_further, break_is_none, same_break))
-walked (c ∷ m) n s h k = elim (cases_Bool (c == 35)) [
-  | inl e ↦ rw (eqb-true c 35 e) (hash (rw (eqb-true c 35 e) at h) _ refl)
-  | inr e ↦ elim (cases_Bool (classes.is_blank c)) [
-    | inl blank ↦ let z : Blank c (m ++ n) s = elim (or_cases (c == 32) (c == 9) blank) [
-      | inl e ↦ record { next = record { position = past s.position; found = record (s.found) { has_valid_yaml_ws = true } }; position = refl; some = or-true s.found.found_tabs; is = rw e refl }
-      | inr e ↦ let tab : c ≡ 9 = eqb-true c 9 e in record { next = record { position = past s.position; found = record (s.found) { found_tabs = true } }; position = refl; some = refl; is = rw tab refl }
-    ] in onward e blank z (rw (z.some) at (walked m n z.next no_break.1 k))
-    | inr solid ↦ let r = or_parts (c == 32) (c == 9) solid in other c (m ++ n) s.position s.found (rw (e, r.0, r.1) refl) e (sym (same_break c) ∙ not-true (classes.is_break c) no_break.0) (rw (r.0, r.1, e) refl)
-  ]
-]
-  where
-    no_break : (not (classes.is_break c) ≡ true) × (has_no_break m ≡ true)
-    no_break = and_parts (not (classes.is_break c)) (has_no_break m) h
+blanks_left [] = refl
+blanks_left (c ∷ m) = grind (arith, nat_tests, blanks_left m)
 
-    hash : has_no_break (35 ∷ m) ≡ true → (b : Bool) → (s.found.found_tabs || s.found.has_valid_yaml_ws) ≡ b → Walked (s.found.found_tabs || s.found.has_valid_yaml_ws) (35 ∷ m) n s.position (space_from Yes (35 ∷ (m ++ n)) s)
-    hash h true some = ended s.found refl (rw some refl) (rw some (ap (λ r. Ok (with_found s.found r)) (line_skipped (35 ∷ m) n s.position h k)))
-    hash h false some = stuck m refl some (rw some refl)
-
-    onward : (c == 35) ≡ false → classes.is_blank c ≡ true → (z : Blank c (m ++ n) s) → Walked true m n z.next.position (space_from Yes (m ++ n) z.next)
-        → Walked (s.found.found_tabs || s.found.has_valid_yaml_ws) (c ∷ m) n s.position (space_from Yes (c ∷ (m ++ n)) s)
-    onward e blank z (ended w is free x) = ended w (rw (e, blank) is) (rw e (or-true _)) (z.is ∙ x ∙ ap (λ q. Ok (record { rest = n; position = q; value = w })) (ap (further (length m)) z.position ∙ one_further s.position (length m)))
-    onward e blank z (stuck text so none x) = cc
-    onward e blank z (other d more q w unlike begins solid x) = other d more q w (rw (e, blank) unlike) e solid (z.is ∙ x)
+-- a line by its blanks and what is left after them
+parts : (m : List ℕ)
+    → (is_rest_of_line m ≡ (is_empty (after (is_space Yes) m) || (begins_with 35 (after (is_space Yes) m) && not (is_empty (leading (is_space Yes) m)))))
+    × (begins_with 35 m ≡ (is_empty (leading (is_space Yes) m) && begins_with 35 (after (is_space Yes) m)))
+    × ((has 9 (leading (is_space Yes) m) || has 32 (leading (is_space Yes) m)) ≡ not (is_empty (leading (is_space Yes) m)))
+unfolding classes.is_blank
+parts [] = (refl, refl, refl)
+parts (c ∷ m) = grind (arith, nat_tests, blanks_left m)
 
 -- Nothing of the line is left; a comment stands there without a blank; or other text.
 pub data Rest (m n : List ℕ) (p : Position) (x : Result (Read Whitespace) Fault) : Type 0 where
@@ -106,8 +85,35 @@ pub data Rest (m n : List ℕ) (p : Position) (x : Result (Read Whitespace) Faul
 
 pub rest_of_line : (m n : List ℕ) (p : Position) → has_no_break m ≡ true → ends_line n ≡ true → Rest m n p (space Yes (m ++ n) p)
 unfolding space
-rest_of_line m n p h k = elim (walked m n (record { position = p; found = record { found_tabs = false; has_valid_yaml_ws = false } }) h k) [
-  | ended w is free e ↦ ends w (rw (free, is) refl) e
-  | stuck text so none e ↦ glued text so (rw so refl) e
-  | other c more q w unlike begins solid e ↦ goes_on c more q w (rw (unlike, and-false) refl) begins solid e
-]
+rest_of_line m n p h k =
+    let q = before_end (is_space Yes) m n (none_at_end (is_space Yes) refl refl n k) in
+    rw (spaces_passed Yes (m ++ n) p none, q.0, q.1) (by (after (is_space Yes) m) refl)
+  where
+    none : Whitespace
+    none = record { found_tabs = false; has_valid_yaml_ws = false }
+
+    before : List ℕ
+    before = leading (is_space Yes) m
+
+    here : Position
+    here = further (length before) p
+
+    found : Whitespace
+    found = found_in none before
+
+    place : (r : List ℕ) → after (is_space Yes) m ≡ r → further (length r) here ≡ further (length m) p
+    place r e = let long : length m ≡ length before + length r = ap length (span_cut (is_space Yes) m ∙ ap (λ x. before ++ x) e) ∙ length-append before r in
+        same_place p (length m) (omega (arith, long)) (omega (arith, long))
+
+    by : (r : List ℕ) → after (is_space Yes) m ≡ r → Rest m n p (after_spaces (r ++ n) (record { position = here; found = found }))
+    by [] e =
+        let ended : after_spaces n (record { position = here; found = found }) ≡ Ok (record { rest = n; position = here; value = found }) =
+        (let no = none_at_end (λ d. d == 35) refl refl n k in grind arith) in
+        ends found ((parts m).0 ∙ rw e refl) (ended ∙ ap (λ q. Ok (record { rest = n; position = q; value = found })) (sym (none_further here) ∙ place [] e))
+    by (c ∷ t) e = let z = parts m in let line = no_break_after before (c ∷ t) (rw (← e, ← span_cut (is_space Yes) m) h) in elim (cases_Bool (c == 35)) [
+      | inr f ↦ goes_on c (t ++ n) here found (z.0 ∙ rw (e, f) refl) (z.1 ∙ rw (e, f) (and-false (is_empty before))) (sym (same_break c) ∙ not-true (classes.is_break c) (and_parts (not (classes.is_break c)) (has_no_break t) line).0) (rw f refl)
+      | inl f ↦ elim (cases_Bool (is_empty before)) [
+        | inl g ↦ glued t (grind (arith, eqb-true, span_cut)) (z.0 ∙ rw (e, f, g) refl) (grind (arith, none_further))
+        | inr g ↦ ends found (z.0 ∙ rw (e, f, g) refl) (rw (f, z.2, g, line_skipped (c ∷ t) n here line k, place (c ∷ t) e) refl)
+      ]
+    ]

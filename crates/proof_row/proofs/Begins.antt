@@ -2,7 +2,7 @@
 use Rattle.proof_row.proofs.Common.{[], Account, alias, alias_name, anchor, anchor_name, are_marks, begins_flow, begins_plain, begins_with_space_or_break, block_entry, block_read, block_scalar, BlockRead, BlockStyle, Bool, codes, collection_column, colon, comma, dash, dashes, Directive, directive_line, directive_of, document_end, document_start, dots, double_quoted, ends_separation, eqb-true, false, flow_entry, flow_mapping_end, flow_mapping_start, flow_sequence_end, flow_sequence_start, folded, has_no_break, Holds, in_double_quotes, in_single_quotes, is_adjacent, is_at_gap, is_at_line_end, is_blank, is_blank_or_end, is_break, is_flow, is_nul, is_value_indicator, is_whole_plain, IsDoubleQuoted, IsNamed, IsPiece, IsSingleQuoted, key, Kind, kind_at, kind_by, kind_of, List, literal, mapping_closing, mapping_opening, nothing, Option, plain, plain_scalar, plain_value, Position, question, refl, reserved, scalar, SeparationsEndBeforePieces, sequence_closing, sequence_opening, single_quoted, Some, subst, sym, Tag, tag, tag_declaration, tag_directive, tag_text, TextsBeginWithOneKind, Tok, true, value, version, version_directive, written_tag, ℕ, ◌&&◌, ◌++◌, ◌||◌, ◌∷◌, ◌≡◌, ◌≢◌, arith, nat_tests, gaps}
 use Rattle.defs_token.specs.Account.{is_in_flow}
 use Rattle.proof_row.proofs.TagEnds.{mark_is_first}
-use Rattle.proof_row.proofs.Blocks.{begins_block, block_begins}
+use Rattle.proof_row.proofs.Blocks.{block_begins}
 
 -- ---- a piece and its token
 
@@ -25,16 +25,14 @@ pub record Context : Type 0 where
 abbrev pub context_of : Account → Context
 context_of a = record { in_flow = is_in_flow a; adjacent = is_adjacent a.before; column = a.position.col; collection = collection_column a }
 
-abbrev IsPlainIn : Context → (piece next text : List ℕ) → Type 0
-IsPlainIn a p x text = Holds (begins_plain a.in_flow a.adjacent a.column (p ++ x)) × Holds (is_whole_plain a.in_flow a.collection p x) × (plain_value p ≡ Some text)
-
 abbrev IsMarkerIn : Context → (piece next marker : List ℕ) → Type 0
 IsMarkerIn a p x marker = (p ≡ marker) × (a.column ≡ 0) × Holds (is_at_gap x)
 
 -- a piece of a kind, and its token
 abbrev pub Whole : Kind → Context → (piece next : List ℕ) → Tok → Type 0
 Whole nothing a p x t = ⊥
-Whole plain_scalar a p x t = (text : List ℕ) × IsPlainIn a p x text × (t ≡ scalar plain text)
+Whole plain_scalar a p x t =
+    (text : List ℕ) × (Holds (begins_plain a.in_flow a.adjacent a.column (p ++ x)) × Holds (is_whole_plain a.in_flow a.collection p x) × (plain_value p ≡ Some text)) × (t ≡ scalar plain text)
 Whole sequence_opening a p x t = (p ≡ codes "[") × (t ≡ flow_sequence_start)
 Whole sequence_closing a p x t = (p ≡ codes "]") × (t ≡ flow_sequence_end)
 Whole mapping_opening a p x t = (p ≡ codes "{") × (t ≡ flow_mapping_start)
@@ -96,9 +94,6 @@ here a c r h = there a.in_flow a.adjacent a.column c r h
 known : (a : Context) (p r x : List ℕ) (k : Kind) → p ≡ r → IsThere a (r ++ x) k → IsThere a (p ++ x) k
 known a p r x k e h = subst (λ z. IsThere a (z ++ x) k) (sym e) h
 
-block_there : (a : Context) (p x : List ℕ) → a.in_flow ≡ false → begins_block p ≡ true → IsThere a (p ++ x) block_scalar
-block_there a b x o h = grind (arith, there, unplain, eqb-true)
-
 -- the text at a piece says the piece's kind
 pub kind_there : (k : Kind) (a : Context) (p x : List ℕ) (t : Tok) → Whole k a p x t → IsThere a (p ++ x) k
 unfolding is_blank_or_end is_blank is_break is_nul is_flow
@@ -110,7 +105,7 @@ kind_there directive_line a p x t h =
     let r : (r : List ℕ) × (p ≡ 37 ∷ r) = directive_begins p h.0 h.1 in
     known a p (37 ∷ r.0) x _ r.1 (here a 37 (r.0 ++ x) refl)
 kind_there tag_text a p x t h = grind (arith, nat_tests, eqb-true, mark_is_first, known, here)
-kind_there block_scalar a p x t h = block_there a p x h.2 (block_begins a.collection p x h.0 h.1)
+kind_there block_scalar a p x t h = let begins = block_begins a.collection p x h.0 h.1 in grind (arith, there, unplain, eqb-true, begins)
 kind_there k a p x t h = grind (arith, known, here, unplain, space_is_gap)
 
 -- and no separation goes on over it

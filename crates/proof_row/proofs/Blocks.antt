@@ -1,7 +1,7 @@
 -- A block scalar has one end.
-use Rattle.proof_row.proofs.Common.{[], ap, append-nil, append_assoc, begins_with, block_read, BlockRead, BlockScalarsHaveOneEnd, body, Bool, column_by, content_column, Ending, false, further_text, has_no_nul, Header, header_of, inl, inr, is_at_end, is_break, is_further_text, List, None, Option, read_body, read_lines, read_split, refl, Some, Split, split, subst, sym, true, value_by, ℕ, ◌++◌, ◌==◌, ◌||◌, ◌∙◌, ◌∷◌, ◌≡◌, ◌⊎◌, arith, both, untrue, no_nul_after}
+use Rattle.proof_row.proofs.Common.{cases_Bool, [], ap, append-nil, append_assoc, block_read, BlockRead, BlockScalarsHaveOneEnd, body, Bool, column_by, content_column, Ending, false, further_text, has_no_nul, Header, header_of, inl, inr, is_at_end, is_break, is_further_text, List, None, Option, read_body, read_lines, read_split, refl, Some, Split, split, subst, sym, true, value_by, ℕ, ◌++◌, ◌==◌, ◌||◌, ◌∙◌, ◌∷◌, ◌≡◌, arith, both, untrue, no_nul_after}
 use Rattle.defs_text.specs.BlockScalar.{unbroken}
-use Rattle.proof_row.proofs.Splits.{More, splits}
+use Rattle.proof_row.proofs.Splits.{splits}
 use Rattle.proof_row.proofs.Lines.{of_lines, lines_after, split_append, up_to_break, first_line, line_of, line_is, line_more, no_lines}
 use Rattle.proof_row.proofs.Columns.{column_same, IsBefore, further, further_is_no_break, no_rows}
 
@@ -26,11 +26,10 @@ line_begins (c ∷ r) = grind arith
 
 -- A block scalar begins with `|` or `>`.
 pub block_begins : (collection : Option ℕ) (p x : List ℕ) (r : BlockRead) → block_read collection p x ≡ Some r → begins_block p ≡ true
-block_begins collection p x r e = by (begins_block p) refl
-  where
-    by : (b : Bool) → begins_block p ≡ b → b ≡ true
-    by true f = refl
-    by false f = absurd (has_header collection ((split p).complete) ((split p).last) x (is_at_end x) r e (no_header (line_of p) (ap begins_block (line_is p) ∙ (line_begins p ∙ f))))
+block_begins collection p x r e = elim (cases_Bool (begins_block p)) [
+  | inl f ↦ f
+  | inr f ↦ absurd (has_header collection ((split p).complete) ((split p).last) x (is_at_end x) r e (no_header (line_of p) (ap begins_block (line_is p) ∙ (line_begins p ∙ f))))
+]
 
 -- a block scalar before further text: its header, and lines that all have their breaks
 record BeforeText (collection : Option ℕ) (s : Split) (next : List ℕ) : Type 0 where
@@ -54,9 +53,6 @@ not_at_end (d ∷ z) y n c = untrue _ (both _ _ c).0
 
 at_end : (y : List ℕ) → has_no_nul y ≡ true → is_at_end y ≡ true → y ≡ []
 at_end a c e = grind arith
-
-begins_not : (z y : List ℕ) → begins_with 10 (z ++ y) ≡ false → begins_with 10 z ≡ false
-begins_not z y h = grind arith
 
 -- The lines of a longer scalar, of which the first after the shorter one is further text.
 longer_lines : (collection : Option ℕ) (head : List ℕ) (ls : List (List ℕ)) (h : Header) (z y : List ℕ) (zs : List (List ℕ)) (last : List ℕ) (s : BlockRead) → header_of head ≡ Some h →
@@ -83,18 +79,17 @@ over collection p z y r s e f n c =
     let part : BeforeText collection (of_lines ((split p).complete) ((split p).last)) (z ++ y) =
     (grind arith) in
     let whole : split (p ++ z) ≡ lines_after (part.head ∷ part.lines) (split z) =
-    split_append p z (part.head ∷ part.lines) part.is_split (begins_not z y (further_is_no_break (column_by part.header.digit collection part.lines) (z ++ y) part.is_further)) in
+    split_append p z (part.head ∷ part.lines) part.is_split (let none = further_is_no_break (column_by part.header.digit collection part.lines) (z ++ y) part.is_further in grind (arith, none)) in
     longer_lines collection part.head part.lines part.header z y ((split z).complete) ((split z).last) s part.is_header refl part.is_further n (no_nul_after z y c) (is_at_end y) refl
     (ap (λ x. read_split collection x y) (sym whole) ∙ f)
 
 pub blocks : BlockScalarsHaveOneEnd
-blocks collection p q x y h k e = by (splits p q x y e)
+blocks collection p q x y h k e = elim (splits p q x y e) [
+  | inl m ↦ longer p q x y h.0 k.0 h.1 k.1 h.2 m.more m.longer m.rest
+  | inr m ↦ let same : (q ≡ p) × (y ≡ x) = longer q p y x k.0 h.0 k.1 h.1 k.2 m.more m.longer m.rest in (sym same.0, sym same.1)
+]
   where
     longer : (p q x y : List ℕ) (r s : BlockRead) → block_read collection p x ≡ Some r → block_read collection q y ≡ Some s → has_no_nul (p ++ x) ≡ true → (more : List ℕ) → q ≡ p ++ more → x ≡ more ++ y → (p ≡ q) × (x ≡ y)
     longer p q x y r s h k c [] f g = (sym (f ∙ append-nil p), g)
     longer p q x y r s h k c (d ∷ z) f g =
         absurd (over collection p (d ∷ z) y r s (cc) (cc) (λ i. cc i) (subst (λ t. has_no_nul t ≡ true) g (no_nul_after p x c)))
-
-    by : More p q x y ⊎ More q p y x → (p ≡ q) × (x ≡ y)
-    by (inl m) = longer p q x y h.0 k.0 h.1 k.1 h.2 m.more m.longer m.rest
-    by (inr m) = let same : (q ≡ p) × (y ≡ x) = longer q p y x k.0 h.0 k.1 h.1 k.2 m.more m.longer m.rest in (sym same.0, sym same.1)

@@ -33,9 +33,8 @@ Outside n l = (is_spaces l ≡ false) × (leading_spaces l < n)
 
 outside : (n : ℕ) (t : List ℕ) → is_outside n t ≡ true → Outside n (up_to_break t)
 unfolding is_break
-outside zero t h = absurd (cc h)
-outside (suc n) [] h = absurd (cc h)
 outside (suc n) (c ∷ r) h = grind (arith, outside n r, eqb-true)
+outside n t h = absurd (cc h)
 
 -- a line that is neither of spaces alone nor content
 no_row : (column : ℕ) (l : List ℕ) → is_spaces l ≡ false → is_content_line column l ≡ false → row_of column l ≡ None

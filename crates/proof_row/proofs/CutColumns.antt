@@ -1,31 +1,24 @@
 -- Columns over a step, as a cut has them: block collections that end, and a key that waits on its line.
 use Rattle.std.proofs.lemmas.Bool.Decides.{nat_tests}
-use Rattle.proof_row.proofs.Common.{[], Account, Act, act_of, ap, arith, Before, begins_free_line, block_end, blocks_at, Bool, drop, ends_at, ends_separation, false, gives_node, has_break, has_no_break, if◌then◌else◌, is_blank_or_end, is_in_line, is_marker, IsPiece, length, List, nat_lt, not_ended, Option, Position, position_after, position_past, previous_by, put, refl, replicate, subst, suc, Tok, Token, true, zero, ℕ, ◌++◌, ◌+◌, ◌-◌, ◌<◌, ◌∙◌, ◌∷◌, ◌≡◌, ◌≤◌, ◌⊎◌, both, untrue}
+use Rattle.proof_row.proofs.Common.{[], Account, Act, act_of, arith, Before, begins_free_line, block_end, blocks_at, Bool, drop, ends_at, ends_separation, false, gives_node, has_break, has_no_break, if◌then◌else◌, is_blank_or_end, is_in_line, is_marker, IsPiece, length, List, nat_lt, not_ended, Option, Position, position_after, position_past, previous_by, put, refl, replicate, subst, suc, Tok, Token, true, zero, ℕ, ◌++◌, ◌+◌, ◌-◌, ◌<◌, ◌∷◌, ◌≡◌, ◌≤◌, ◌⊎◌, both, untrue}
 use Rattle.proof_row.proofs.CutPieces.{account_by}
 use Rattle.proof_row.proofs.CutSteps.{somes}
 use Rattle.proof_row.proofs.Inserted.{past_all, AreEmpty}
 
 -- ---- ends of block collections
 
--- the collections that go on are the outer ones
-ended : (col : ℕ) (bs : List ℕ) → (drop (length bs - length (not_ended col bs)) bs ≡ not_ended col bs) × (length (not_ended col bs) ≤ length bs)
-ended col [] = (refl, omega arith)
-ended col (n ∷ bs) = by (nat_lt col n) (ended col bs)
-  where
-    by : (d : Bool) → (drop (length bs - length (not_ended col bs)) bs ≡ not_ended col bs) × (length (not_ended col bs) ≤ length bs) →
-        (let cs : List ℕ = (if d then not_ended col bs else n ∷ bs) in (drop (length (n ∷ bs) - length cs) (n ∷ bs) ≡ cs) × (length cs ≤ length (n ∷ bs)))
-    by a h = grind arith
+-- collections that are the outer ones of others
+abbrev AreOuter : (cs bs : List ℕ) → Type 0
+AreOuter cs bs = (drop (length bs - length cs) bs ≡ cs) × (length cs ≤ length bs)
 
-drop_all : (bs : List ℕ) → drop (length bs) bs ≡ []
-drop_all [] = refl
-drop_all (n ∷ bs) = drop_all bs
+one_more : (n : ℕ) (cs bs : List ℕ) (ends : Bool) → AreOuter cs bs → AreOuter (if ends then cs else n ∷ bs) (n ∷ bs)
+one_more n cs bs a h = grind arith
 
-outer : (k : Act) (col : ℕ) (bs : List ℕ) → (drop (length bs - length (blocks_at false k col bs)) bs ≡ blocks_at false k col bs) × (length (blocks_at false k col bs) ≤ length bs)
-outer k col bs = by (is_marker k)
-  where
-    by : (m : Bool) → (let cs : List ℕ = (if m then [] else not_ended col bs) in (drop (length bs - length cs) bs ≡ cs) × (length cs ≤ length bs))
-    by true = (ap (λ k. drop k bs) (omega arith) ∙ drop_all bs, omega arith)
-    by false = ended col bs
+-- the collections that go on are the outer ones, or none
+ended : (none : Bool) (col : ℕ) (bs : List ℕ) → AreOuter (if none then [] else not_ended col bs) bs
+ended true col (n ∷ bs) = one_more n [] bs true (ended true col bs)
+ended false col (n ∷ bs) = one_more n (not_ended col bs) bs (nat_lt col n) (ended false col bs)
+ended none col bs = (refl, omega arith)
 
 -- Tokens without a piece lead from an account to another.
 abbrev pub LeadTo : Account → List Token → Account → Type 0
@@ -39,7 +32,7 @@ ends_lead (suc many) here p b (n ∷ bs) m us next t e = grind (arith, ends_lead
 -- at a piece outside flow
 pub blocks_end : (k : Act) (here p : Position) (b : Before) (bs : List ℕ) → LeadTo (account_by here b (somes bs) []) (ends_at p bs (blocks_at false k here.col bs)) (account_by here b (somes (blocks_at false k here.col bs)) [])
 blocks_end k here p b bs =
-    let o : (drop (length bs - length (blocks_at false k here.col bs)) bs ≡ blocks_at false k here.col bs) × (length (blocks_at false k here.col bs) ≤ length bs) = outer k here.col bs in
+    let o : AreOuter (blocks_at false k here.col bs) bs = ended (is_marker k) here.col bs in
     subst (λ cs. LeadTo (account_by here b (somes bs) []) (ends_at p bs (blocks_at false k here.col bs)) (account_by here b (somes cs) [])) o.0
     (ends_lead (length bs - length (blocks_at false k here.col bs)) here p b bs (omega arith))
 
@@ -51,7 +44,7 @@ not_ended_twice col (n ∷ bs) = grind (arith, not_ended_twice col bs)
 
 pub not_ended_further : (col here : ℕ) (bs : List ℕ) → col ≤ here → not_ended col bs ≡ bs → not_ended here bs ≡ bs
 not_ended_further col here [] m h = refl
-not_ended_further col here (n ∷ bs) m h = let short = (ended col bs).1 in grind (arith, nat_tests, short)
+not_ended_further col here (n ∷ bs) m h = let short = (ended false col bs).1 in grind (arith, nat_tests, short)
 
 -- ---- on one line
 

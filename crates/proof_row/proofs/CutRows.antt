@@ -1,5 +1,6 @@
 -- Each step of a row is a row of a cut: tokens without a piece, and the one that it shows.
 use Rattle.proof_row.proofs.Common.{[], account_at_piece, account_past, account_past_separation, account_past_token, Act, act_of, ap, arith, Before, before_past, begins_free_line, begun_by, begun_inside, begun_outside, Bool, Colon, ends_at, entries_past, Entry, false, free, gives_node, has_break, has_no_break, if◌then◌else◌, inl, inr, is_deeper, is_in_column, is_in_line, is_marker, is_renewed, is_separation, is_waiting, IsPiece, IsWritten, key_end, length, level_of, Line, line_past, line_past_separation, List, map, may_stand, None, not_ended, on_one_line, Option, Outside, pair_position, past_inside, past_outside, past_piece, piece_with_blocks, Position, position_after, previous_by, put, refl, seen, shown_position, Site, site_at, site_past, Some, Step, subst, suc, sym, taken, takes_pair, Tok, Token, tokens_of_step, true, waits, ℕ, ◌&&◌, ◌++◌, ◌<◌, ◌∙◌, ◌∷◌, ◌≡◌, ◌≤◌}
+use Rattle.std.proofs.Math.Bool.{and-false}
 use Rattle.defs_token.specs.Account.{Account as PieceAccount}
 use Rattle.defs_token.specs.Step as step
 use Rattle.defs_token.specs.RowAccount.{Account, before_by as before_by_previous}
@@ -78,10 +79,14 @@ abbrev pub past_by : (must : Bool) → Site → (piece : List ℕ) → Tok → (
 past_by must at p t next key None = None
 past_by must at p t next key (Some l) = past_outside at p t next (line_past must at.position at.blocks (act_of t) key l)
 
--- a piece outside flow, and the account before it
-module _ (must : Bool) (s : Site) (line : Line) (f : List ℕ) (c : ℕ) (r : List ℕ) (t : Tok) (key : Bool) (ws : List Step) (after : List ℕ) (x : Account) where
-  abbrev place : Account
-  place = record { site = s; line = line; entries = [] }
+same_many : (es : List Entry) → length (map level_of es) ≡ length (levels_in es)
+same_many [] = refl
+same_many (e ∷ es) = ap suc (same_many es)
+
+-- a step with its piece, and what is known of the account before it
+module _ (s : Site) (line : Line) (f : List ℕ) (c : ℕ) (r : List ℕ) (t : Tok) (key : Bool) (ws : List Step) (after : List ℕ) (x : Account) where
+  abbrev place : List Entry → Account
+  place es = record { site = s; line = line; entries = es }
 
   abbrev shown_step : Step
   shown_step = record { separation = f; piece = c ∷ r; shown = t; key = key }
@@ -92,155 +97,126 @@ module _ (must : Bool) (s : Site) (line : Line) (f : List ℕ) (c : ℕ) (r : Li
   abbrev site_here : Site
   site_here = site_at false s f (c ∷ r) t further
 
+  abbrev inner : Site
+  inner = site_at true s f (c ∷ r) t further
+
   abbrev before_here : Before
   before_here = before_past (before_by_previous s.before) f
 
-  abbrev IsCut : Type 0
-  IsCut = IsCutStep place shown_step ws after x
+  abbrev colon : Site → Colon
+  colon at = key_end t (position_after at.position (c ∷ r) further) ws after
 
-  outside_so : (l : Line) → IsWritten place shown_step further → line_past_separation false (begins_free_line s.before f) line ≡ Some l
+  abbrev own : Site → Position
+  own at = shown_position at (c ∷ r) t further
+
+  abbrev IsCut : List Entry → Type 0
+  IsCut es = IsCutStep (place es) shown_step ws after x
+
+  -- ---- outside flow
+
+  outside_so : (must : Bool) (l : Line) → IsWritten (place []) shown_step further → line_past_separation false (begins_free_line s.before f) line ≡ Some l
       → past_by must site_here (c ∷ r) t further key (line_past_separation false (begins_free_line s.before f) line) ≡ Some x
       → (has_break (c ∷ r) && is_waiting x.line) ≡ false → (IsKept x → is_waiting x.line ≡ true → is_in_line further ≡ true)
-      → Leads s line site_here l before_here → WaitsAt l site_here.position.col site_here.blocks → IsCut
-  outside_so l h same_line same on_line in_line leads waiting =
+      → Leads s line site_here l before_here → WaitsAt l site_here.position.col site_here.blocks → IsCut []
+  outside_so must l h same_line same on_line in_line leads waiting =
       by (line_past must site_here.position site_here.blocks (act_of t) key l) (rw same_line at same)
-      (begun (act_of t) must key l site_here.position colon.here before_here ((c ∷ r) ++ further) t c r site_here.blocks refl)
+      (begun (act_of t) must key l site_here.position (colon site_here).here before_here ((c ∷ r) ++ further) t c r site_here.blocks refl)
       (waits_on (act_of t) must key l site_here.position site_here.blocks waiting on_node)
     where
-      colon : Colon
-      colon = key_end t (position_after site_here.position (c ∷ r) further) ws after
-
-      own : Position
-      own = shown_position site_here (c ∷ r) t further
-
       -- at a node the collections that go on are those that it does not end
       on_node : act_of t ≡ gives_node → not_ended site_here.position.col site_here.blocks ≡ site_here.blocks
       on_node k = grind (arith, not_ended_twice)
 
       more : Option Line → List Token
-      more o = begun_outside (is_deeper site_here.position.col site_here.blocks) site_here.position colon.here (act_of t) key o
+      more o = begun_outside (is_deeper site_here.position.col site_here.blocks) site_here.position (colon site_here).here (act_of t) key o
 
-      us : List Token
-      us = ends_at site_here.position s.blocks site_here.blocks ++ more (Some l)
-
-      begin : PieceAccount
-      begin = account_by site_here.position before_here (somes (with_key site_here.blocks l)) []
-
-      by : (o : Option Outside) → past_outside site_here (c ∷ r) t further o ≡ Some x → BegunBy begin (more (Some l)) ((c ∷ r) ++ further) t (act_of t) c r site_here.blocks o → WaitsThen (act_of t) site_here.position.col o → IsCut
+      by : (o : Option Outside) → past_outside site_here (c ∷ r) t further o ≡ Some x → BegunBy (account_by site_here.position before_here (somes (with_key site_here.blocks l)) []) (more (Some l)) ((c ∷ r) ++ further) t (act_of t) c r site_here.blocks o → WaitsThen (act_of t) site_here.position.col o → IsCut []
       by None e g k = absurd (cc e)
       by (Some o) e g k =
           let z : Account = record { site = site_past false site_here (c ∷ r) t further o.blocks; line = o.line; entries = begun_by t } in
           let to : z ≡ x = cc e in
           let line_is : o.line ≡ x.line = ap (λ y. y.line) to in
           let one_line : is_waiting o.line ≡ true → has_no_break (c ∷ r) ≡ true = λ h. (grind arith) in
+          let us : List Token = ends_at site_here.position s.blocks site_here.blocks ++ more (Some l) in
           let lead = leads (more (Some l)) ((c ∷ r) ++ further) t g.are_empty in
           let opened : PieceAccount = account_by site_here.position before_here (somes (with_key o.blocks o.line)) [] in
-          let there : account_at_piece (past_all (account_past_separation (in_cut place) f ((c ∷ r) ++ further)) us) (c ∷ r) ≡ opened = ap (λ d. account_at_piece d (c ∷ r)) lead.1 ∙ g.blocks_are in
-          let keeps : IsKept z = kept_on o.line site_here.position o.blocks z.site.awaits c r further t k.0 one_line (λ i. no_directive (seen place site_here f) c r further None own t h.1.1 (inl (k.1 i))) in
+          let there : account_at_piece (past_all (account_past_separation (in_cut (place [])) f ((c ∷ r) ++ further)) us) (c ∷ r) ≡ opened = ap (λ d. account_at_piece d (c ∷ r)) lead.1 ∙ g.blocks_are in
+          let keeps : IsKept z = kept_on o.line site_here.position o.blocks z.site.awaits c r further t k.0 one_line (λ i. no_directive (seen (place []) site_here f) c r further None (own site_here) t h.1.1 (inl (k.1 i))) in
           let on : is_waiting o.line ≡ true → is_in_line further ≡ true = λ i. in_line (subst IsKept to keeps) (ap is_waiting (sym line_is) ∙ i) in
-          let piece : IsPiece opened (c ∷ r) further None own t = sees o one_line on g.sees in
-          let alike = blocks_alike opened c r further None own t (somes (with_key o.blocks o.line)) piece in
+          let piece : IsPiece opened (c ∷ r) further None (own site_here) t = sees o one_line on g.sees in
+          let alike = blocks_alike opened c r further None (own site_here) t (somes (with_key o.blocks o.line)) piece in
           let levels = levels_outside t c r in
           let past : account_past_token opened (c ∷ r) further t ≡ in_cut z = grind (arith, alike, levels) in
-          rw (← to) (stepped place f c r t key ws after z us own opened h.0 (ap (λ o. (ends_at site_here.position s.blocks site_here.blocks ++ more o) ++ (put own t ∷ [])) same_line) lead.0 there piece past keeps)
+          rw (← to) (stepped (place []) f c r t key ws after z us (own site_here) opened h.0 (ap (λ o. (ends_at site_here.position s.blocks site_here.blocks ++ more o) ++ (put (own site_here) t ∷ [])) same_line) lead.0 there piece past keeps)
         where
-          sees : (o : Outside) → (is_waiting o.line ≡ true → has_no_break (c ∷ r) ≡ true) → (is_waiting o.line ≡ true → is_in_line further ≡ true) → Sees (act_of t) site_here.blocks o → IsPiece (account_by site_here.position before_here (somes (with_key o.blocks o.line)) []) (c ∷ r) further None own t
+          sees : (o : Outside) → (is_waiting o.line ≡ true → has_no_break (c ∷ r) ≡ true) → (is_waiting o.line ≡ true → is_in_line further ≡ true) → Sees (act_of t) site_here.blocks o → IsPiece (account_by site_here.position before_here (somes (with_key o.blocks o.line)) []) (c ∷ r) further None (own site_here) t
           sees o one on (inl e) = rw e h.1.1
-          sees o one on (inr (inl k)) = piece_with_blocks (somes (with_key o.blocks o.line)) (account_by site_here.position before_here (somes site_here.blocks) []) (c ∷ r) further None own t (grind arith) (one k.0) (on k.0) h.1.1
-          sees o one on (inr (inr i)) = indicator_with_blocks (somes (with_key o.blocks o.line)) (account_by site_here.position before_here (somes site_here.blocks) []) c r further None own t i h.1.1
+          sees o one on (inr (inl k)) = piece_with_blocks (somes (with_key o.blocks o.line)) (account_by site_here.position before_here (somes site_here.blocks) []) (c ∷ r) further None (own site_here) t (grind arith) (one k.0) (on k.0) h.1.1
+          sees o one on (inr (inr i)) = indicator_with_blocks (somes (with_key o.blocks o.line)) (account_by site_here.position before_here (somes site_here.blocks) []) c r further None (own site_here) t i h.1.1
 
-  outside_step : IsWritten place shown_step further → past_by must site_here (c ∷ r) t further key (line_past_separation false (begins_free_line s.before f) line) ≡ Some x
-      → (has_break (c ∷ r) && is_waiting x.line) ≡ false → (IsKept x → is_waiting x.line ≡ true → is_in_line further ≡ true) → IsKept place → IsCut
-  outside_step h same on_line in_line kept = by (begins_free_line s.before f) line refl refl
+  outside_step : (must : Bool) → IsWritten (place []) shown_step further → past_by must site_here (c ∷ r) t further key (line_past_separation false (begins_free_line s.before f) line) ≡ Some x
+      → (has_break (c ∷ r) && is_waiting x.line) ≡ false → (IsKept x → is_waiting x.line ≡ true → is_in_line further ≡ true) → IsKept (place []) → IsCut []
+  outside_step must h same on_line in_line kept = by (begins_free_line s.before f) line refl refl
     where
       lead : Leads s free site_here free before_here
       lead = blocks_end (act_of t) site_here.position site_here.position before_here s.blocks
 
-      waiting_so : (begin : Position) → line ≡ waits begin → begins_free_line s.before f ≡ false → (m : Bool) → is_marker (act_of t) ≡ m → IsCut
+      waiting_so : (begin : Position) → line ≡ waits begin → begins_free_line s.before f ≡ false → (m : Bool) → is_marker (act_of t) ≡ m → IsCut []
       waiting_so begin e g true k = grind (arith, same)
       waiting_so begin e g false k =
           let keeps : KeptBy (waits begin) s = subst (λ z. KeptBy z s) e kept in
           let right : begin.col ≤ site_here.position.col = omega (arith, keeps.1, column_grows s.position f ((c ∷ r) ++ further) (unbroken f (sym (keeps.2 f) ∙ g))) in
           let all : site_here.blocks ≡ s.blocks = ap (λ m. if m then [] else not_ended site_here.position.col s.blocks) k ∙ not_ended_further begin.col site_here.position.col s.blocks right keeps.0 in
-          outside_so (waits begin) h (rw (g, e) refl) same on_line in_line (rw e (λ us n u i. grind (arith, all))) (rw all keeps.0, right)
+          outside_so must (waits begin) h (rw (g, e) refl) same on_line in_line (rw e (λ us n u i. grind (arith, all))) (rw all keeps.0, right)
 
-      by : (n : Bool) (m : Line) → begins_free_line s.before f ≡ n → line ≡ m → IsCut
-      by true free g e = outside_so free h (rw (g, e) refl) same on_line in_line (rw e lead) tt
-      by false free g e = outside_so free h (rw (g, e) refl) same on_line in_line (rw e lead) tt
-      by true taken g e = outside_so free h (rw (g, e) refl) same on_line in_line (rw e lead) tt
-      by false taken g e = outside_so taken h (rw (g, e) refl) same on_line in_line (rw e lead) tt
+      by : (n : Bool) (m : Line) → begins_free_line s.before f ≡ n → line ≡ m → IsCut []
+      by true free g e = outside_so must free h (rw (g, e) refl) same on_line in_line (rw e lead) tt
+      by false free g e = outside_so must free h (rw (g, e) refl) same on_line in_line (rw e lead) tt
+      by true taken g e = outside_so must free h (rw (g, e) refl) same on_line in_line (rw e lead) tt
+      by false taken g e = outside_so must taken h (rw (g, e) refl) same on_line in_line (rw e lead) tt
       by false (waits begin) g e = waiting_so begin e g (is_marker (act_of t)) refl
       by true (waits begin) g e = absurd (cc (rw (g, e) at same))
 
--- ---- in flow
+  -- ---- in flow
 
-same_many : (es : List Entry) → length (map level_of es) ≡ length (levels_in es)
-same_many [] = refl
-same_many (e ∷ es) = ap suc (same_many es)
+  inside_step : (e : Entry) (es : List Entry) → IsWritten (place (e ∷ es)) shown_step further
+      → past_piece inner (c ∷ r) t further (is_renewed s.before f) key (line_past_separation true (begins_free_line s.before f) line) (e ∷ es) ≡ Some x
+      → (has_break (c ∷ r) && is_waiting x.line) ≡ false → IsKept (place (e ∷ es)) → IsCut (e ∷ es)
+  inside_step e es h same on_line kept = by_line (line_past_separation true (begins_free_line s.before f) line) refl same
+    where
+      bs : List (Option ℕ)
+      bs = somes (with_key s.blocks line)
 
-inside_step : (s : Site) (line : Line) (e : Entry) (es : List Entry) (f : List ℕ) (c : ℕ) (r : List ℕ) (t : Tok) (key : Bool) (ws : List Step) (after : List ℕ) (x : Account) →
-    (let a : Account = record { site = s; line = line; entries = e ∷ es } in
-    let w : Step = record { separation = f; piece = c ∷ r; shown = t; key = key } in
-    let next : List ℕ = step.spelled ws after in
-    let at : Site = site_at true s f (c ∷ r) t next in
-    IsWritten a w next → past_piece at (c ∷ r) t next (is_renewed s.before f) key (line_past_separation true (begins_free_line s.before f) line) (e ∷ es) ≡ Some x →
-    (has_break (c ∷ r) && is_waiting x.line) ≡ false → IsKept a → IsCutStep a w ws after x)
-inside_step s line e es f c r t key ws after x h same on_line kept = by_line (line_past_separation true (begins_free_line s.before f) line) refl same
-  where
-    a : Account
-    a = record { site = s; line = line; entries = e ∷ es }
+      us : List Token
+      us = begun_inside (takes_pair e.kind e.pair) e.pair inner.position (pair_position (colon inner).past (colon inner).next) (pair_position (position_after inner.position (c ∷ r) further) further) (act_of t) key e.had
 
-    w : Step
-    w = record { separation = f; piece = c ∷ r; shown = t; key = key }
+      here : PieceAccount
+      here = account_by inner.position before_here bs (levels_in (e ∷ es))
 
-    next : List ℕ
-    next = step.spelled ws after
+      by_entries : (l : Line) → line_past_separation true (begins_free_line s.before f) line ≡ Some l → (o : Option (List Entry)) → past_inside inner (c ∷ r) t further l o ≡ Some x → EnteredBy here us ((c ∷ r) ++ further) t c r es o → IsCut (e ∷ es)
+      by_entries l g None i n = absurd (cc i)
+      by_entries l g (Some zs) i n =
+          let z : Account = record { site = site_past true inner (c ∷ r) t further inner.blocks; line = l; entries = zs } in
+          let to : z ≡ x = cc i in
+          let flow : (l ≡ line) × (is_waiting line ≡ true → begins_free_line s.before f ≡ false) = grind arith in
+          let one_line : is_waiting line ≡ true → has_no_break (c ∷ r) ≡ true = λ j. (grind arith) in
+          let after_all : PieceAccount = account_by inner.position before_here bs (n.level ∷ levels_in es) in
+          let there : account_at_piece (past_all here us) (c ∷ r) ≡ after_all = ap (λ d. account_at_piece d (c ∷ r)) n.account_is ∙ ap (λ y. account_by inner.position before_here y (n.level ∷ levels_in es)) (settled_all inner.position.col (with_key s.blocks line)) in
+          let piece : IsPiece after_all (c ∷ r) further None (own inner) t = piece_in_flow inner.position before_here (somes inner.blocks) bs (level_of e) n.level (map level_of es) (levels_in es) c r further None None (own inner) t (same_many es) n.has_no_pair h.1.1 in
+          let alike = blocks_alike after_all c r further None (own inner) t bs piece in
+          let past : account_past_token after_all (c ∷ r) further t ≡ in_cut z = (let levels = n.levels_are in let same = flow.0 in grind (arith, alike, levels, same)) in
+          let waiting : KeptBy l z.site = subst (λ y. KeptBy y z.site) (sym flow.0) (keeps line kept flow.1 one_line piece) in
+          rw (← to) (stepped (place (e ∷ es)) f c r t key ws after z us (own inner) after_all h.0 refl n.are_empty there piece past waiting)
+        where
+          keeps : (m : Line) → KeptBy m s → (is_waiting m ≡ true → begins_free_line s.before f ≡ false) → (is_waiting m ≡ true → has_no_break (c ∷ r) ≡ true) → IsPiece (account_by inner.position before_here bs (n.level ∷ levels_in es)) (c ∷ r) further None (own inner) t →
+              KeptBy m (site_past true inner (c ∷ r) t further inner.blocks)
+          keeps a k broken one p = grind (arith, column_grows, unbroken, kept_on, no_directive)
 
-    at : Site
-    at = site_at true s f (c ∷ r) t next
-
-    b : Before
-    b = before_past (before_by_previous s.before) f
-
-    colon : Colon
-    colon = key_end t (position_after at.position (c ∷ r) next) ws after
-
-    own : Position
-    own = shown_position at (c ∷ r) t next
-
-    bs : List (Option ℕ)
-    bs = somes (with_key s.blocks line)
-
-    us : List Token
-    us = begun_inside (takes_pair e.kind e.pair) e.pair at.position (pair_position colon.past colon.next) (pair_position (position_after at.position (c ∷ r) next) next) (act_of t) key e.had
-
-    here : PieceAccount
-    here = account_by at.position b bs (levels_in (e ∷ es))
-
-    by_entries : (l : Line) → line_past_separation true (begins_free_line s.before f) line ≡ Some l → (o : Option (List Entry)) → past_inside at (c ∷ r) t next l o ≡ Some x → EnteredBy here us ((c ∷ r) ++ next) t c r es o → IsCutStep a w ws after x
-    by_entries l g None i n = absurd (cc i)
-    by_entries l g (Some zs) i n =
-        let z : Account = record { site = site_past true at (c ∷ r) t next at.blocks; line = l; entries = zs } in
-        let to : z ≡ x = cc i in
-        let flow : (l ≡ line) × (is_waiting line ≡ true → begins_free_line s.before f ≡ false) = grind arith in
-        let one_line : is_waiting line ≡ true → has_no_break (c ∷ r) ≡ true = λ j. (grind arith) in
-        let after_all : PieceAccount = account_by at.position b bs (n.level ∷ levels_in es) in
-        let there : account_at_piece (past_all here us) (c ∷ r) ≡ after_all = ap (λ d. account_at_piece d (c ∷ r)) n.account_is ∙ ap (λ y. account_by at.position b y (n.level ∷ levels_in es)) (settled_all at.position.col (with_key s.blocks line)) in
-        let piece : IsPiece after_all (c ∷ r) next None own t = piece_in_flow at.position b (somes at.blocks) bs (level_of e) n.level (map level_of es) (levels_in es) c r next None None own t (same_many es) n.has_no_pair h.1.1 in
-        let alike = blocks_alike after_all c r next None own t bs piece in
-        let past : account_past_token after_all (c ∷ r) next t ≡ in_cut z = (let levels = n.levels_are in let same = flow.0 in grind (arith, alike, levels, same)) in
-        let waiting : KeptBy l z.site = subst (λ y. KeptBy y z.site) (sym flow.0) (keeps line kept flow.1 one_line piece) in
-        rw (← to) (stepped a f c r t key ws after z us own after_all h.0 refl n.are_empty there piece past waiting)
-      where
-        keeps : (m : Line) → KeptBy m s → (is_waiting m ≡ true → begins_free_line s.before f ≡ false) → (is_waiting m ≡ true → has_no_break (c ∷ r) ≡ true) → IsPiece (account_by at.position b bs (n.level ∷ levels_in es)) (c ∷ r) next None own t →
-            KeptBy m (site_past true at (c ∷ r) t next at.blocks)
-        keeps a k broken one p = grind (arith, column_grows, next, unbroken, kept_on, no_directive, b, bs, own)
-
-    by_line : (o : Option Line) → line_past_separation true (begins_free_line s.before f) line ≡ o → past_piece at (c ∷ r) t next (is_renewed s.before f) key o (e ∷ es) ≡ Some x → IsCutStep a w ws after x
-    by_line None g i = absurd (cc i)
-    by_line (Some l) g i = by_entries l g (entries_past at.position (is_renewed s.before f) (act_of t) (begun_by t) key e es) i
-        (entered (act_of t) (is_renewed s.before f) key e.had e.kind e.pair at.position (pair_position colon.past colon.next) (pair_position (position_after at.position (c ∷ r) next) next) b bs ((c ∷ r) ++ next) t c r es refl
-        (λ k. begins_no_key (seen a at f) c r next None own t k h.1.1))
+      by_line : (o : Option Line) → line_past_separation true (begins_free_line s.before f) line ≡ o → past_piece inner (c ∷ r) t further (is_renewed s.before f) key o (e ∷ es) ≡ Some x → IsCut (e ∷ es)
+      by_line None g i = absurd (cc i)
+      by_line (Some l) g i = by_entries l g (entries_past inner.position (is_renewed s.before f) (act_of t) (begun_by t) key e es) i
+          (entered (act_of t) (is_renewed s.before f) key e.had e.kind e.pair inner.position (pair_position (colon inner).past (colon inner).next) (pair_position (position_after inner.position (c ∷ r) further) further) before_here bs ((c ∷ r) ++ further) t c r es refl
+          (λ k. begins_no_key (seen (place (e ∷ es)) inner f) c r further None (own inner) t k h.1.1))
 
 -- ---- all
 
@@ -259,16 +235,13 @@ cut_no_key must a w ws after x none idle idle_then h same = by a.entries w.piece
     next : List ℕ
     next = step.spelled ws after
 
-    not_both : (m n : Bool) → n ≡ false → (m && n) ≡ false
-    not_both a n e = grind arith
-
     by : (es : List Entry) (p : List ℕ) → es ≡ [] →
         (let b : Account = record { site = a.site; line = a.line; entries = es } in let v : Step = record { separation = w.separation; piece = p; shown = w.shown; key = w.key } in let at : Site = site_at false a.site w.separation p w.shown next in
         IsWritten b v next → past_by must at p w.shown next w.key (line_past_separation false (begins_free_line a.site.before w.separation) a.line) ≡ Some x → IsCutStep b v ws after x)
     by (e ∷ es) p i h same = absurd (cc i)
     by [] [] i h same = absurd (cc h.1.0)
     by [] (c ∷ r) i h same =
-        outside_step must a.site a.line w.separation c r w.shown w.key ws after x h same (not_both (has_break (c ∷ r)) (is_waiting x.line) idle_then)
+        outside_step a.site a.line w.separation c r w.shown w.key ws after x must h same (rw idle_then (and-false (has_break (c ∷ r))))
         (λ k j. absurd (cc (j, idle_then))) (idle_kept a.line a.site idle)
 
 -- A step of a row is a row of a cut, if where a key waits the text after it goes on in the line.
@@ -286,8 +259,8 @@ cut_step a w ws after x h same in_line kept = by a.entries w.piece h same kept
     by [] (c ∷ r) h same kept =
         let at : Site = site_at false a.site w.separation (c ∷ r) w.shown next in
         let s = stood (may_stand false a.site at w.separation (c ∷ r) w.shown next) (c ∷ r) _ x same in
-        outside_step (is_in_column at.position.col at.blocks) a.site a.line w.separation c r w.shown w.key ws after x h (same_by at (c ∷ r) w.shown next (is_renewed a.site.before w.separation) w.key (line_past_separation false (begins_free_line a.site.before w.separation) a.line) ∙ s.0) s.1 in_line kept
+        outside_step a.site a.line w.separation c r w.shown w.key ws after x (is_in_column at.position.col at.blocks) h (same_by at (c ∷ r) w.shown next (is_renewed a.site.before w.separation) w.key (line_past_separation false (begins_free_line a.site.before w.separation) a.line) ∙ s.0) s.1 in_line kept
     by (e ∷ es) (c ∷ r) h same kept =
         let at : Site = site_at true a.site w.separation (c ∷ r) w.shown next in
         let s = stood (may_stand true a.site at w.separation (c ∷ r) w.shown next) (c ∷ r) _ x same in
-        inside_step a.site a.line e es w.separation c r w.shown w.key ws after x h s.0 s.1 kept
+        inside_step a.site a.line w.separation c r w.shown w.key ws after x e es h s.0 s.1 kept

@@ -66,10 +66,7 @@ abbrev pub BegunBy : Account → List Token → (next : List ℕ) → Tok → Ac
 BegunBy d us next t k c r bs None = Unit {0}
 BegunBy d us next t k c r bs (Some x) = Begun d us next t k c r bs x
 
-abbrev Outer : Position → Before → List ℕ → Account
-Outer here b bs = account_by here b (somes bs) []
-
 -- every piece outside flow
 pub begun : (k : Act) (must key : Bool) (l : Line) (here colon : Position) (b : Before) (next : List ℕ) (t : Tok) (c : ℕ) (r bs : List ℕ) → act_of t ≡ k →
-    BegunBy (Outer here b (with_key bs l)) (begun_outside (is_deeper here.col bs) here colon k key (Some l)) next t k c r bs (line_past must here bs k key l)
+    BegunBy (account_by here b (somes (with_key bs l)) []) (begun_outside (is_deeper here.col bs) here colon k key (Some l)) next t k c r bs (line_past must here bs k key l)
 begun k must key l here colon b next t c r bs e = grind (arith, settled_all)

@@ -8,10 +8,6 @@ with_had_step : (kind : FlowKind) (pair : Pair) (begun ds es : List Entry) (Were
     Stepped LikeEntries (Were × (ds ≡ es)) (with_had kind pair begun ds x) (with_had kind pair begun es y)
 with_had_step kind pair begun ds es a b y j t = grind (arith, like_after, tails, same_after)
 
-abbrev pub EntriesStep : Act → Type 0
-EntriesStep k = (here : Position) (again : Bool) (begun : List Entry) (b c : Bool) (d e : Entry) (ds es : List Entry) → LikeEntry d e → LikeEntries ds es →
-    Stepped LikeEntries ((d ∷ ds ≡ e ∷ es) × (b ≡ c)) (entries_past here again k begun b d ds) (entries_past here again k begun c e es)
-
 goes_on : (k : Act) (here : Position) (again : Bool) (begun : List Entry) (b c : Bool) (d e : Entry) (ds es : List Entry) → LikeEntry d e → LikeEntries ds es →
     Stepped LikeEntries ((d ∷ ds ≡ e ∷ es) × (b ≡ c)) (entry_past here again k begun b d ds) (entry_past here again k begun c e es)
 goes_on k here again begun b c d e ds es i j =
@@ -20,7 +16,8 @@ goes_on k here again begun b c d e ds es i j =
     (rw (← i.0, ← i.1) (with_had_step d.kind (pair_past (takes_pair d.kind d.pair) k d.pair) begun ds es ((d.had ≡ e.had) × (b ≡ c)) _ _ j (grind arith)))
 
 -- Like entries are like again after a piece in flow.
-pub entries_step : (k : Act) → EntriesStep k
+pub entries_step : (k : Act) (here : Position) (again : Bool) (begun : List Entry) (b c : Bool) (d e : Entry) (ds es : List Entry) → LikeEntry d e → LikeEntries ds es →
+    Stepped LikeEntries ((d ∷ ds ≡ e ∷ es) × (b ≡ c)) (entries_past here again k begun b d ds) (entries_past here again k begun c e es)
 entries_step gives_closing here again begun b c d e ds es i j = grind (arith, weaker, both, same_entry)
 entries_step gives_comma here again begun b c d e ds es i j = grind (arith, weaker, both, same_entry, tails)
 entries_step k here again begun b c d e ds es i j = goes_on k here again begun b c d e ds es i j

@@ -23,13 +23,10 @@ Same p q x y t u = (p ≡ q) × (x ≡ y) × (t ≡ u)
 same_by : (p q x y : List ℕ) (t u : Tok) → (p ≡ q) × (x ≡ y) → t ≡ u → Same p q x y t u
 same_by p q x y t u s e = (s.0, s.1, e)
 
-abbrev OneOf : Kind → Type 0
-OneOf k = (a : Context) (p q x y : List ℕ) (t u : Tok) → Whole k a p x t → Whole k a q y u → p ++ x ≡ q ++ y → has_no_nul (p ++ x) ≡ true → Same p q x y t u
-
 one_name : (i : ℕ) (token : List ℕ → Tok) (p q x y : List ℕ) (t u : Tok) → (name : List ℕ) × IsNamed i p x name × (t ≡ token name) → (name : List ℕ) × IsNamed i q y name × (u ≡ token name) → p ++ x ≡ q ++ y → Same p q x y t u
 one_name i token p q x y t u h k e = let same : (p ≡ q) × (x ≡ y) = names i p q x y (h.0, h.1) (k.0, k.1) e in grind arith
 
-pub one_of : (k : Kind) → OneOf k
+pub one_of : (k : Kind) (a : Context) (p q x y : List ℕ) (t u : Tok) → Whole k a p x t → Whole k a q y u → p ++ x ≡ q ++ y → has_no_nul (p ++ x) ≡ true → Same p q x y t u
 one_of nothing a p q x y t u h k e n = absurd h
 one_of plain_scalar a p q x y t u h k e n = grind (arith, plains, some, same_by)
 one_of directive_line a p q x y t u h k e n = grind (arith, directives, some, same_by)

@@ -16,9 +16,8 @@ over fl coll s c (d ∷ r) next h k f = grind (arith, both, contrary, untrue, ov
 from : (fl : Bool) (coll : Option ℕ) (s : Stand) (p q x y : List ℕ) → goes_on fl coll s p x ≡ true → goes_on fl coll s q y ≡ true → settled s p ≡ true → settled s q ≡ true →
     stops fl coll inside x ≡ true → stops fl coll inside y ≡ true → p ++ x ≡ q ++ y → (p ≡ q) × (x ≡ y)
 from fl coll s [] [] x y h k f g i j e = (refl, e)
-from fl coll s [] (d ∷ q) x y h k f g i j e = grind (arith, over)
-from fl coll s (c ∷ p) [] x y h k f g i j e = grind (arith, over)
 from fl coll s (c ∷ p) (d ∷ q) x y h k f g i j e = grind (arith, same_head, both, longer, from fl coll (past s c) p q x y)
+from fl coll s p q x y h k f g i j e = grind (arith, over)
 
 pub plains : PlainScalarsHaveOneEnd
 plains fl coll a q x y h k e = grind (arith, same_head, both, from, longer)

@@ -70,19 +70,11 @@ bodies at f quote lf again stop b d x y h k i j e = by (splits b d (quote ∷ x)
 between : (quote : ℕ) (p q b d x y : List ℕ) → p ≡ quote ∷ (b ++ (quote ∷ [])) → q ≡ quote ∷ (d ++ (quote ∷ [])) → p ++ x ≡ q ++ y → b ++ (quote ∷ x) ≡ d ++ (quote ∷ y)
 between quote p q b d x y f g e = grind (arith, same_head, append_assoc)
 
-single_stops : (z y : List ℕ) → begins_with single_quote (z ++ (single_quote ∷ y)) ≡ false → is_read (elements single_quoted_element 0 (single_quote ∷ z)) ≡ false
-unfolding single_quoted_element is_nul
-single_stops a y h = grind arith
-
-double_stops : (z y : List ℕ) → false ≡ false → is_read (elements double_quoted_element 0 (double_quote ∷ z)) ≡ false
-unfolding double_quoted_element is_nul
-double_stops z y h = refl
-
 -- The bodies of two scalars in single quotes, and what follows these.
 pub single_bodies : (p q x y s t : List ℕ) → (h : IsSingleQuoted p x s) → (k : IsSingleQuoted q y t) → p ++ x ≡ q ++ y → (h.0 ≡ k.0) × (x ≡ y)
-unfolding single_quoted_value
+unfolding single_quoted_value single_quoted_element is_nul
 single_bodies p q x y s t h k e =
-    bodies single_quoted_element single_onward single_quote refl (begins_with single_quote) single_stops h.0 k.0 x y
+    bodies single_quoted_element single_onward single_quote refl (begins_with single_quote) (λ z y h. grind arith) h.0 k.0 x y
     (read_elements (has_document_marker h.0) (elements single_quoted_element 0 h.0) s h.2) (read_elements (has_document_marker k.0) (elements single_quoted_element 0 k.0) t k.2)
     h.3 k.3 (between single_quote p q h.0 k.0 x y h.1 k.1 e)
 
@@ -91,9 +83,9 @@ singles p q x y h k e = let same : (h.1.0 ≡ k.1.0) × (x ≡ y) = single_bodie
 
 -- The bodies of two scalars in double quotes, and what follows these.
 pub double_bodies : (p q x y s t : List ℕ) → (h : IsDoubleQuoted p x s) → (k : IsDoubleQuoted q y t) → p ++ x ≡ q ++ y → (h.0 ≡ k.0) × (x ≡ y)
-unfolding double_quoted_value
+unfolding double_quoted_value double_quoted_element is_nul
 double_bodies p q x y s t h k e =
-    bodies double_quoted_element double_onward double_quote refl (λ z. false) double_stops h.0 k.0 x y
+    bodies double_quoted_element double_onward double_quote refl (λ z. false) (λ z y h. refl) h.0 k.0 x y
     (read_elements (has_document_marker h.0) (elements double_quoted_element 0 h.0) s h.2) (read_elements (has_document_marker k.0) (elements double_quoted_element 0 k.0) t k.2)
     refl refl (between double_quote p q h.0 k.0 x y h.1 k.1 e)
 

@@ -8,6 +8,5 @@ pub record More (p q x y : List ℕ) : Type 0 where
   pub rest : x ≡ more ++ y
 
 pub splits : (p q x y : List ℕ) → p ++ x ≡ q ++ y → More p q x y ⊎ More q p y x
-splits [] q x y e = grind (arith, longer)
-splits (c ∷ p) [] x y e = grind (arith, longer)
 splits (c ∷ p) (d ∷ q) x y e = grind (arith, same_head, longer, splits p q x y (same_head c d (p ++ x) (q ++ y) e).1)
+splits p q x y e = grind (arith, longer)

@@ -1,21 +1,21 @@
 -- A tag has one end: a verbatim one its `>`, another one the first gap or flow indicator.
-use Rattle.proof_row.proofs.Common.{[], after, after_mark, all_of, append_assoc, begins_with, begins_with_mark, Bool, eqb-true, false, if◌then◌else◌, inl, inr, is_alpha, is_blank, is_blank_or_end, is_break, is_decimal_digit, is_flow, is_letter, is_nul, is_same, is_tag, is_uri, leading, List, named, not, refl, shorthand, Some, subst, sym, Tag, tag_of_class, TagsHaveOneEnd, true, verbatim, written_tag, ℕ, ◌&&◌, ◌++◌, ◌==◌, ◌∷◌, ◌≡◌, ◌⊎◌, arith, both, joined, same_head, ends_run, runs, gaps, flows, leading_after, all_leading, all_weaker, all_append}
+use Rattle.proof_row.proofs.Common.{cases_Bool, [], after, after_mark, all_of, append_assoc, begins_with, begins_with_mark, Bool, eqb-true, false, inl, inr, is_alpha, is_blank, is_blank_or_end, is_break, is_decimal_digit, is_flow, is_letter, is_nul, is_same, is_tag, is_uri, leading, List, named, not, refl, shorthand, Some, subst, sym, Tag, TagsHaveOneEnd, true, verbatim, written_tag, ℕ, ◌&&◌, ◌++◌, ◌==◌, ◌∷◌, ◌≡◌, ◌⊎◌, arith, both, joined, same_head, ends_run, runs, gaps, flows, leading_after, all_leading, all_weaker, all_append}
 
 -- ---- the characters of a shorthand
 
 -- neither a gap's character nor a flow indicator
-abbrev goes_on : ℕ → Bool
+abbrev pub goes_on : ℕ → Bool
 goes_on c = not (is_blank_or_end c) && not (is_flow c)
 
 going : (class : ℕ → Bool) (c : ℕ) → (is_blank_or_end c ≡ true → class c ≡ false) → (is_flow c ≡ true → class c ≡ false) → class c ≡ true → goes_on c ≡ true
 going class c f g h = grind arith
 
-alpha_goes_on : (c : ℕ) → is_alpha c ≡ true → goes_on c ≡ true
+pub alpha_goes_on : (c : ℕ) → is_alpha c ≡ true → goes_on c ≡ true
 unfolding is_alpha is_decimal_digit is_letter
 alpha_goes_on c h =
     going is_alpha c (λ f. gaps (λ z. is_alpha z ≡ false) c f refl refl refl refl refl) (λ f. flows (λ z. is_alpha z ≡ false) c f refl refl refl refl refl) h
 
-tag_goes_on : (c : ℕ) → is_tag c ≡ true → goes_on c ≡ true
+pub tag_goes_on : (c : ℕ) → is_tag c ≡ true → goes_on c ≡ true
 unfolding is_tag is_uri is_flow is_decimal_digit is_letter
 tag_goes_on c h =
     going is_tag c (λ f. gaps (λ z. is_tag z ≡ false) c f refl refl refl refl refl) (λ f. flows (λ z. is_tag z ≡ false) c f refl refl refl refl refl) h
@@ -30,21 +30,17 @@ IsShorthand r = (all_of goes_on r ≡ true) × (begins_with 60 r ≡ false)
 
 of_named : (name r : List ℕ) (t : Tag) → begins_with_mark r ≡ true → named name r ≡ Some t → all_of goes_on r ≡ true
 unfolding is_blank_or_end is_blank is_break is_nul is_flow
-of_named name [] t m e = absurd (cc e)
-of_named name (c ∷ []) t m e = absurd (cc e)
 of_named name (c ∷ d ∷ r) t m e =
     joined _ _ (subst (λ z. goes_on z ≡ true) (sym (eqb-true c 33 m)) refl) (all_weaker is_tag goes_on tag_goes_on (d ∷ r) (grind arith))
+of_named name r t m e = absurd (cc e)
 
 of_shorthand : (c : ℕ) (r : List ℕ) (t : Tag) → shorthand (c ∷ r) ≡ Some t → all_of goes_on (c ∷ r) ≡ true
-of_shorthand c r t e = by (begins_with_mark (after is_alpha (c ∷ r))) refl e
-  where
-    by : (b : Bool) → begins_with_mark (after is_alpha (c ∷ r)) ≡ b →
-        (if b then named (leading is_alpha (c ∷ r)) (after is_alpha (c ∷ r)) else tag_of_class is_tag (33 ∷ []) (c ∷ r)) ≡ Some t → all_of goes_on (c ∷ r) ≡ true
-    by true m f =
-        subst (λ z. all_of goes_on z ≡ true) (leading_after is_alpha (c ∷ r))
-        (all_append goes_on (leading is_alpha (c ∷ r)) (after is_alpha (c ∷ r)) (all_weaker is_alpha goes_on alpha_goes_on _ (all_leading is_alpha (c ∷ r)))
-        (of_named (leading is_alpha (c ∷ r)) (after is_alpha (c ∷ r)) t m f))
-    by false m f = all_weaker is_tag goes_on tag_goes_on (c ∷ r) (grind arith)
+of_shorthand c r t e = elim (cases_Bool (begins_with_mark (after is_alpha (c ∷ r)))) [
+  | inl m ↦ subst (λ z. all_of goes_on z ≡ true) (leading_after is_alpha (c ∷ r))
+      (all_append goes_on (leading is_alpha (c ∷ r)) (after is_alpha (c ∷ r)) (all_weaker is_alpha goes_on alpha_goes_on _ (all_leading is_alpha (c ∷ r)))
+      (of_named (leading is_alpha (c ∷ r)) (after is_alpha (c ∷ r)) t m (rw m at e)))
+  | inr m ↦ all_weaker is_tag goes_on tag_goes_on (c ∷ r) (grind arith)
+]
 
 same_one : (r : List ℕ) → is_same r (62 ∷ []) ≡ true → r ≡ 62 ∷ []
 same_one [] h = absurd (cc h)
@@ -53,11 +49,10 @@ same_one (c ∷ d ∷ r) h = absurd (cc (both (c == 62) false h).1)
 
 shape : (r : List ℕ) (t : Tag) → after_mark r ≡ Some t → IsVerbatim r ⊎ IsShorthand r
 shape [] t e = inr (refl, refl)
-shape (c ∷ r) t e = by (c == 60) refl e
-  where
-    by : (b : Bool) → (c == 60) ≡ b → (if b then verbatim r else shorthand (c ∷ r)) ≡ Some t → IsVerbatim (c ∷ r) ⊎ IsShorthand (c ∷ r)
-    by true i f = inl (subst (λ z. IsVerbatim (z ∷ r)) (sym (eqb-true c 60 i)) (grind (arith, leading_after, same_one, all_leading)))
-    by false i f = inr (of_shorthand c r t f, i)
+shape (c ∷ r) t e = elim (cases_Bool (c == 60)) [
+  | inl i ↦ let f : verbatim r ≡ Some t = rw i at e in rw (eqb-true c 60 i) (inl (grind (arith, leading_after, same_one, all_leading)))
+  | inr i ↦ inr (of_shorthand c r t (rw i at e), i)
+]
 
 -- ---- two tags
 

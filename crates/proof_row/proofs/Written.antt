@@ -6,10 +6,7 @@ use Rattle.proof_row.proofs.Like.{LikeEntries, IsLike}
 
 -- ---- what a piece is seen with
 
-abbrev in_levels : List Entry → Bool
-in_levels es = not (is_empty (map level_of es))
-
-same_levels : (ds es : List Entry) → LikeEntries ds es → in_levels ds ≡ in_levels es
+same_levels : (ds es : List Entry) → LikeEntries ds es → not (is_empty (map level_of ds)) ≡ not (is_empty (map level_of es))
 same_levels [] [] j = refl
 same_levels (d ∷ ds) (e ∷ es) j = refl
 same_levels _ _ j = absurd j

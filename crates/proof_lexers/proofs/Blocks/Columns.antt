@@ -28,11 +28,8 @@ no_row : (column : ℕ) (w : List ℕ) → row_of column w ≡ None → NoRow co
 unfolding row_of is_empty_line is_content_line
 no_row column w h = grind arith
 
-none_marked : (w y : List ℕ) → NoRow 0 w → ends_line y ≡ true → is_further_text 0 (w ++ y) ≡ true
-none_marked a y z b = grind (arith, le-leb, line_marker, not-false)
-
 pub none_further : (column : ℕ) (w y : List ℕ) → row_of column w ≡ None → is_in_line w ≡ true → list_all is_some w ≡ true → ends_line y ≡ true → is_further_text column (w ++ y) ≡ true
-none_further zero w y h inner some ends = none_marked w y (no_row 0 w h) ends
+none_further zero w y h inner some ends = let z = no_row 0 w h in grind (arith, le-leb, line_marker, not-false, z)
 none_further (suc n) w y h inner some ends =
     let z = no_row (suc n) w h in
     let no_content : (nat_le (suc n) (leading_spaces w) && nat_le (suc (suc n)) (length w)) ≡ false = (let k = z.no_content in grind (arith, suc_off n)) in

@@ -25,10 +25,6 @@ tab_whole (l ∷ ls) e = tab_line l.text (spell ls e) l.by (texts ls ++ e ∷ []
 
 -- ---- further text begins with no line feed, and is not the end
 
--- whether a CR is a break read_alone goes by the character after it
-pub fits_alone : (k : Break) → Fits k []
-fits_alone a = grind arith
-
 fits_next : (k : Break) (next : List ℕ) → (slice_index next 0 == 10) ≡ false → Fits k next
 fits_next k next h = grind arith
 
@@ -114,10 +110,6 @@ module _ (indent : ℕ) (p : Position) where
     tabless : starts_with_tab (ls ++ last ∷ []) ≡ false
     value : record { style = h.style; column = column; text = value_before_end h column rows last row } ≡ b
 
-  at_the_end : (h : defs.Header) (column : ℕ) (ls : List (List ℕ)) (last : List ℕ) (b : BlockRead)
-      → with_value h column (if starts_with_tab (ls ++ last ∷ []) then None else value_at_end h column last (rows_of column ls) (row_of column last)) ≡ Some b → AtEnd h column ls last b
-  at_the_end h column ls last b e = grind arith
-
 -- ---- each piece
 
 pub some_next : (d : ℕ) (n : List ℕ) → list_all is_some (d ∷ n) ≡ true → is_at_end (d ∷ n) ≡ false
@@ -147,8 +139,9 @@ module _ (indent : ℕ) (p : Position) (b : BlockRead) where
   to_end : (w : List ℕ) (k : Break) (ls : List Line) (last : List ℕ) → Headed w → Fits k (spell ls last) → AreLines ls last → is_in_line last ≡ true
       → read_body (header_of w) (collection_of indent) (body (texts ls) (unbroken last)) [] ≡ Some b → Read_as (w ++ put k (spell ls last)) []
   to_end _ k ls last (heads h line is digit inner) fits are last_inner e =
-      let z = at_the_end indent p h _ (texts ls) last b (rw is at e) in
       let K = column_by h.digit (collection_of indent) (texts ls ++ last ∷ []) in
+      let told = rw is at e in
+      let z : AtEnd indent p h K (texts ls) last b = grind (arith, told) in
       let found = block_is h line k indent p is digit inner ls last K refl are last_inner fits (tab_whole ls last ∙ z.tabless) in
       rw (append-nil, ← z.value) (before_the_end h line k indent p is digit inner K ls last z.rows are last_inner fits z.are_rows found z.row (row_is K last z.row z.is_row))
 
@@ -230,9 +223,9 @@ module _ (style : BlockStyle) (indent : ℕ) (p : Position) where
         let parts = are_parts own ns last (rw (← split_at) are) in
         let column_is : column ≡ column_by h.digit (collection_of indent) (texts (own ++ ns) ++ last ∷ []) = ap (λ x. column_by h.digit (collection_of indent) (texts x ++ last ∷ [])) split_at in
         let same : column ≡ column_by h.digit (collection_of indent) (texts own) = column_is ∙ part_column h.digit indent own ns last parts.1 last_inner (rw (← column_is) further) in
-        let fits_own : Fits k (spell own []) = fits_before k own (spell ns last) [] (fits_alone k) (rw (← joined) fits) in
+        let fits_own : Fits k (spell own []) = fits_before k own (spell ns last) [] (fits_next k [] refl) (rw (← joined) fits) in
         let tab_free = tab_of own (spell ns last) (rw (← joined) tabless) in
-        let lines = split_spell (record { text = indicator_of style ∷ line; by = k } ∷ own) [] (style_inner style line inner, fits_own, are_before own (spell ns last) [] fits_alone parts.0) refl in
+        let lines = split_spell (record { text = indicator_of style ∷ line; by = k } ∷ own) [] (style_inner style line inner, fits_own, are_before own (spell ns last) [] (λ k. fits_next k [] refl) parts.0) refl in
         found (line ++ put k (spell ls last)) (indicator_of style ∷ (line ++ put k (spell own []))) (spell ns last) line (value_before_text h rs) h (column_by h.digit (collection_of indent) (texts own)) is
         (ap (λ a. indicator_of style ∷ (line ++ put k a)) joined ∙ sym (spell_more (record { text = indicator_of style ∷ line; by = k } ∷ own) [] (spell ns last))) some_next_text
         (ap (λ s. read_split (collection_of indent) s (spell ns last)) lines ∙ ap (λ t. read_lines (collection_of indent) ((indicator_of style ∷ line) ∷ texts own) [] (spell ns last) t) not_end

@@ -1,5 +1,5 @@
 -- Block scalars' headers are read as what they say.
-use Rattle.proof_lexers.proofs.Common.{[], along, and_then, ap, arith, At, begins_with, BlockStyle, Bool, cases_Bool, chomping, comment, digit_of, ends_line, EndsAs, Err, false, further, has_zero, header, header_break, header_end, header_of, HeadersEndAsTheirLineSays, if◌then◌else◌, increment, indicator_of, indicators, indicators_of, inl, inr, is_break, is_in_line, is_rest_of_line, is_sign, IsHeaderRead, IsHeaderRefusal, length, linebreak, List, nat_tests, no_header, None, Ok, Option, past, past_indicators, Position, Read, reads, refl, refuses, sign_of, Some, space, sym, tab, tabbed, true, whole_header, with_indicators, Yes, zero_digit, ℕ, ◌++◌, ◌==◌, ◌∙◌, ◌∷◌, ◌≡◌, eqb-true, digit_by, digit_or_zero, Fault, Header, read_header, Result, and_parts, ◌||◌, after_style, slice_index, BlockScalarTab, BlockScalarZero, is_between, both, same_break}
+use Rattle.proof_lexers.proofs.Common.{[], along, and_then, ap, arith, At, begins_with, BlockStyle, Bool, cases_Bool, chomping, comment, digit_of, ends_line, EndsAs, Err, false, further, has_zero, header, header_break, header_end, header_of, HeadersEndAsTheirLineSays, if◌then◌else◌, increment, indicator_of, indicators, indicators_of, inl, inr, is_break, is_in_line, is_rest_of_line, is_sign, IsHeaderRead, IsHeaderRefusal, length, linebreak, List, nat_tests, no_header, None, Ok, Option, past, past_indicators, Position, Read, reads, refl, refuses, sign_of, Some, sym, tab, tabbed, true, whole_header, with_indicators, zero_digit, ℕ, ◌++◌, ◌==◌, ◌∙◌, ◌∷◌, ◌≡◌, eqb-true, digit_by, digit_or_zero, Fault, Header, read_header, Result, and_parts, ◌||◌, after_style, slice_index, BlockScalarTab, BlockScalarZero, is_between, both, same_break}
 use Rattle.yaml_chars.specs.Class.{is_digit}
 use Rattle.defs_text.specs.Classes as classes
 use Rattle.defs_text.specs.BlockScalar as defs
@@ -43,17 +43,15 @@ module _ (start : Position) (style : BlockStyle) where
   -- indicators are a header, if no `0` stands among them
   some_header : (l : List ℕ) → has_zero l ≡ false → after_style style (front l) ≡ None → ⊥
   unfolding sign_of digit_of
-  some_header [] z e = grind arith
-  some_header (c ∷ []) z e = grind arith
   some_header (c ∷ d ∷ l) z e = grind arith
+  some_header l z e = grind arith
 
   -- a line is the header that its indicators are, if the rest of it is blanks and a comment
   header_is : (l : List ℕ) (h : defs.Header) → has_zero l ≡ false → after_style style (front l) ≡ Some h
       → header_of (indicator_of style ∷ l) ≡ (if is_rest_of_line (past_indicators l) then Some h else None)
   unfolding sign_of digit_of
-  header_is [] h z e = grind arith
-  header_is (c ∷ []) h z e = grind arith
   header_is (c ∷ d ∷ l) h z e = grind arith
+  header_is l h z e = grind arith
 
   -- the model reads just these
   indicators_read : (l r : List ℕ) (h : defs.Header) → ends_line r ≡ true → has_zero l ≡ false → after_style style (front l) ≡ Some h
@@ -63,18 +61,15 @@ module _ (start : Position) (style : BlockStyle) where
     | inl f ↦ grind (arith, digit_is)
     | inr f ↦ elim (cases_Bool (c == 45)) [ inl g ↦ grind (arith, digit_is) | inr g ↦ grind (arith, digit_is) ]
   ]
-  indicators_read [] [] h ends z e = grind (arith, digit_is)
-  indicators_read (c ∷ []) [] h ends z e = grind (arith, digit_is)
-  indicators_read [] (b ∷ r) h ends z e = let quiet = still b (sym (same_break b) ∙ ends) in grind (arith, quiet)
-  indicators_read (c ∷ []) (b ∷ r) h ends z e = let quiet = still b (sym (same_break b) ∙ ends) in grind (arith, digit_is, quiet)
+  indicators_read l [] h ends z e = grind (arith, digit_is)
+  indicators_read l (b ∷ r) h ends z e = let quiet = still b (sym (same_break b) ∙ ends) in grind (arith, digit_is, quiet)
 
   -- a `0` is refused, and no header has one
   zero_fails : (l r : List ℕ) → has_zero l ≡ true
       → (header_of (indicator_of style ∷ l) ≡ None) × (indicators start (l ++ r) (past start) ≡ Err (At BlockScalarZero start))
   unfolding sign_of digit_of indicators chomping increment is_digit classes.is_blank
-  zero_fails [] r z = cc
-  zero_fails (c ∷ []) r z = grind (arith, nat_tests, eqb-true)
   zero_fails (c ∷ d ∷ l) r z = grind (arith, nat_tests, eqb-true)
+  zero_fails l r z = grind (arith, nat_tests, eqb-true)
 
   -- after a header's line
   at_line_end : (line r : List ℕ) (h : defs.Header) → ends_line r ≡ true → header_of (indicator_of style ∷ line) ≡ Some h
@@ -99,26 +94,16 @@ module _ (start : Position) (style : BlockStyle) (line r : List ℕ) (inner : is
   -- after the indicators, before the rest of the line
   finish : (h : defs.Header) → has_zero line ≡ false → after_style style (front line) ≡ Some h → Ends (header start (line ++ r) (past start))
   unfolding header header_end header_break
-  finish h free own = rw (indicators_read start style line r h ends free own) (told (rest_of_line w r q (in_line_is w ∙ rest_inner) ends))
-    where
-      q : Position
-      q = along (front line) (past start)
-
-      is : header_of (indicator_of style ∷ line) ≡ (if is_rest_of_line w then Some h else None)
-      is = header_is start style line h free own
-
-      rest_inner : is_in_line w ≡ true
-      rest_inner = (and_parts (is_in_line (front line)) (is_in_line w) (sym (list_all-append _ (front line) w) ∙ ap is_in_line (sym (front_cut line)) ∙ inner)).1
-
-      position : further (length w) q ≡ along line (past start)
-      position = sym (ap (λ x. along x (past start)) (front_cut line) ∙ along_append (front line) w (past start) ∙ along_further w q)
-
-      told : Rest w r q (space Yes (w ++ r) q)
-          → Ends (and_then (header_end start (w ++ r) q) (λ b. Ok (with_indicators (indicators_of h) b)))
-      told (rest_of_lines.ends v rest e) = rw (e, position) (at_line_end start style line r h ends (is ∙ rw rest refl))
-      told (glued text so unlike e) =
-          refuses _ (comment h (front line) text (is ∙ rw unlike refl) ((grind arith) ∙ own) (front_cut line ∙ ap (λ x. front line ++ x) so)) (rw e refl)
-      told (goes_on c more p v unlike begins solid e) = refuses _ (no_header (is ∙ rw unlike refl) free unlike begins) (rw (e, solid) refl)
+  finish h free own =
+      let q : Position = along (front line) (past start) in
+      let is = header_is start style line h free own in
+      let rest_inner = (and_parts (is_in_line (front line)) (is_in_line w) (sym (list_all-append _ (front line) w) ∙ ap is_in_line (sym (front_cut line)) ∙ inner)).1 in
+      let position : further (length w) q ≡ along line (past start) = sym (ap (λ x. along x (past start)) (front_cut line) ∙ along_append (front line) w (past start) ∙ along_further w q) in
+      rw (indicators_read start style line r h ends free own) (elim (rest_of_line w r q (in_line_is w ∙ rest_inner) ends) [
+        | rest_of_lines.ends v rest e ↦ rw (e, position) (at_line_end start style line r h ends (is ∙ rw rest refl))
+        | glued text so unlike e ↦ refuses _ (comment h (front line) text (is ∙ rw unlike refl) ((grind arith) ∙ own) (front_cut line ∙ ap (λ x. front line ++ x) so)) (rw e refl)
+        | goes_on c more p v unlike begins solid e ↦ refuses _ (no_header (is ∙ rw unlike refl) free unlike begins) (rw (e, solid) refl)
+      ])
 
   ended : Ends (header start (line ++ r) (past start))
   unfolding header

@@ -48,14 +48,11 @@ pub col_along : (w : List ℕ) (p : Position) → (along w p).col ≡ p.col + le
 col_along [] p = omega arith
 col_along (c ∷ w) p = col_along w (past p) ∙ omega arith
 
-at_break : (column : ℕ) (k : Break) (a : List ℕ) (p : Position) (b : List ℕ) → Fits k a → indent_from column (put k a) (at p b) ≡ indent_from column a (at (after_break k p) (b ++ 10 ∷ []))
-unfolding is_break
-at_break column d a p b fits = grind arith
-
 -- a line of spaces that ends at the column or before it
 pub empty_passes : (column : ℕ) (l : Line) (a : List ℕ) (p : Position) (b : List ℕ) → is_spaces l.text ≡ true → p.col + length l.text ≤ column → Fits l.by a
     → indent_from column (l.text ++ put l.by a) (at p b) ≡ indent_from column a (at (after_line l p) (b ++ 10 ∷ []))
-empty_passes column l a p b h le fits = along_spaces column l.text (put l.by a) p b h le ∙ at_break column l.by a (along l.text p) b fits
+unfolding is_break
+empty_passes column l a p b h le fits = along_spaces column l.text (put l.by a) p b h le ∙ (grind arith)
 
 pub last_passes : (column : ℕ) (w : List ℕ) (p : Position) (b : List ℕ) → is_spaces w ≡ true → p.col + length w ≤ column → indent_from column w (at p b) ≡ record { rest = []; position = along w p; value = record { column = column; breaks = b } }
 last_passes column w p b h le = ap (λ a. indent_from column a (at p b)) (sym (append-nil w)) ∙ along_spaces column w [] p b h le

@@ -18,9 +18,6 @@ pub line_marker : (w r : List ℕ) → ends_line r ≡ true → is_document_mark
 unfolding are_marks
 line_marker a r h = grind (arith, break_is_none, and_false, break_is_gap)
 
-pub marker_in_line : (col : ℕ) (w r : List ℕ) → ends_line r ≡ true → at_marker col (w ++ r) ≡ ((col == 0) && is_document_marker w)
-marker_in_line col w r h = same_marker col (w ++ r) ∙ rw (line_marker w r h) refl
-
 -- ---- what is known after rows
 
 -- after a row: an empty line's break waits, content takes what waits
@@ -89,17 +86,12 @@ module _ (literal : Bool) (column : ℕ) where
   pub through : (a r : List ℕ) (p q : Position) (l : Lines) (b : List ℕ) → indent_from column a (at p l.breaks) ≡ indent_from column r (at q b) → scan a (front p l) ≡ scan r (front q (record l { breaks = b }))
   through a r p q l b e = grind (arith, nat_tests, margin_passes, before)
 
-  -- empty lines
-  empty_goes : (l : Line) (a : List ℕ) (p : Position) (x : Lines) → is_spaces l.text ≡ true → p.col + length l.text ≤ column → Fits l.by a
-      → scan (l.text ++ put l.by a) (front p x) ≡ scan a (front (after_line l p) (after_row literal empty_row x))
-  empty_goes l a p x h le fits = through (l.text ++ put l.by a) a p (after_line l p) x (x.breaks ++ 10 ∷ []) (empty_passes column l a p x.breaks h le fits)
-
   -- ---- content lines
 
   begins_free : (k : ℕ) (w a rest : List ℕ) (char : ℕ) (p : Position) → k ≡ column → drop k w ≡ char ∷ rest → p.col ≡ column → ends_line a ≡ true → ((column == 0) && is_document_marker w) ≡ false → begins column p.col (char ∷ (rest ++ a)) ≡ true
   unfolding begins
   begins_free k w a rest char p same is col ends free =
-      let here : at_marker p.col (char ∷ (rest ++ a)) ≡ ((p.col == 0) && is_document_marker (char ∷ rest)) = marker_in_line p.col (char ∷ rest) a ends in
+      let here : at_marker p.col (char ∷ (rest ++ a)) ≡ ((p.col == 0) && is_document_marker (char ∷ rest)) = same_marker p.col (char ∷ (rest ++ a)) ∙ rw (line_marker (char ∷ rest) a ends) refl in
       let at_column = eq-eqb p.col column col in
       rw (here, none k same is, at_column) refl
     where
@@ -144,14 +136,14 @@ pub first_of : (column : ℕ) (w : List ℕ) (ws : List (List ℕ)) (rs : List R
 first_of column w ws rs h = by (row_of column w) (rows_of column ws) refl refl h
   where
     by : (o : Option Row) (os : Option (List Row)) → row_of column w ≡ o → rows_of column ws ≡ os → put_row o os ≡ Some rs → First column w ws rs
-    by None os e f g = cc
-    by (Some r) None e f g = cc
     by (Some r) (Some more) e f g = let same : r ∷ more ≡ rs = cc in first_row r more (sym same) (row_is column w r e) f
+    by o os e f g = cc
 
 module _ (literal : Bool) (column : ℕ) where
   row_goes : (l : Line) (a : List ℕ) (p : Position) (x : Lines) (r : Row) → p.col ≡ 0 → is_in_line l.text ≡ true → Fits l.by a → IsRow column l.text r
       → scan literal column (l.text ++ put l.by a) (front p x) ≡ scan literal column a (front (after_line l p) (after_row literal r x))
-  row_goes l a p x empty_row col inner fits (no_content h le) = empty_goes literal column l a p x h (omega (arith, le, col)) fits
+  row_goes l a p x empty_row col inner fits (no_content h le) =
+      through literal column (l.text ++ put l.by a) a p (after_line l p) x (x.breaks ++ 10 ∷ []) (empty_passes column l a p x.breaks h (omega (arith, le, col)) fits)
   row_goes l a p x (content_row m) col inner fits (is_content lead long free) = grind (arith, content_chars, break_ends, line_ends)
 
   pub rows_go : (ls : List Line) (a : List ℕ) (p : Position) (x : Lines) (rs : List Row) → p.col ≡ 0 → AreLines ls a → rows_of column (texts ls) ≡ Some rs

@@ -1,5 +1,6 @@
 -- The whole scan of a block scalar whose lines are known.
-use Rattle.proof_lexers.proofs.Common.{[], after_header, along, and_then, ap, append-nil, arith, At, begins_with, Block, block, block_position, BlockRead, Bool, breaks, cases_Bool, chomping_of, collection_of, Column, column_by, content_row, digit_by, digit_or_zero, drop, empty_row, empty_text, Err, false, Fault, first_content, further_position, has_content, Header, header, header_of, indent_from, indicator_of, indicators_of, inl, inr, is_at_end, is_in_line, is_literal_style, is_open, is_spaces, is_tabbed, IsRead, le-ltb, length, Lines, lines_from, List, max, nat_le, nat_lt, nat_tests, None, Ok, past, past_spaces, Position, position_after, position_or, Read, read_header, reads, refl, refuses, Result, Row, rows_of, Some, suc, sym, tab, tail, true, value_before_end, value_before_text, without_spaces, ℕ, ◌&&◌, ◌++◌, ◌+◌, ◌∙◌, ◌∷◌, ◌≡◌, ◌≤◌, Option, BlockScalarTab, and_false, both}
+use Rattle.proof_lexers.proofs.Common.{[], after_header, along, and_then, ap, append-nil, arith, At, begins_with, Block, block, block_position, BlockRead, breaks, cases_Bool, chomping_of, collection_of, Column, column_by, content_row, digit_by, digit_or_zero, drop, empty_row, empty_text, Err, false, Fault, first_content, further_position, has_content, Header, header, header_of, indent_from, indicator_of, indicators_of, inl, inr, is_at_end, is_in_line, is_literal_style, is_open, is_spaces, is_tabbed, IsRead, le-ltb, length, Lines, lines_from, List, max, nat_le, nat_lt, nat_tests, None, Ok, past, past_spaces, Position, position_after, position_or, Read, read_header, reads, refl, refuses, Result, Row, rows_of, Some, sym, tab, tail, true, value_before_end, value_before_text, without_spaces, ℕ, ◌&&◌, ◌++◌, ◌+◌, ◌∙◌, ◌∷◌, ◌≡◌, ◌≤◌, Option, BlockScalarTab, and_false, both}
+use Rattle.std.proofs.Math.Bool.{and_comm}
 use Rattle.defs_text.specs.Classes as classes
 use Rattle.defs_text.specs.BlockScalar as defs
 use Rattle.model_scanner.specs.BlockScalar.{content}
@@ -19,14 +20,11 @@ module _ (h : defs.Header) (line : List ℕ) (k : Break) (indent : ℕ) (p : Pos
   abbrev pub start : Position
   start = after_break k (along line (past p))
 
-  abbrev pub head : Header
-  head = record { indicators = indicators_of h; broken = true }
-
   abbrev pub scanned : List ℕ → Result (Read Block) Fault
   scanned a = block (is_literal_style h.style) indent (indicator_of h.style ∷ (line ++ put k a)) p
 
   abbrev pub after : Read Column → Result (Read Block) Fault
-  after r = after_header (is_literal_style h.style) indent p head r
+  after r = after_header (is_literal_style h.style) indent p (record { indicators = indicators_of h; broken = true }) r
 
   pub block_is : (ms : List Line) (e : List ℕ) (column : ℕ) → column_by h.digit (collection_of indent) (texts ms ++ e ∷ []) ≡ column → AreLines ms e → is_in_line e ≡ true → Fits k (spell ms e) → begins_with tab (spell ms e) ≡ false
       → scanned (spell ms e) ≡ after (indent_from column (spell ms e) (at start []))
@@ -70,6 +68,14 @@ module _ (h : defs.Header) (line : List ℕ) (k : Break) (indent : ℕ) (p : Pos
   piece_first : (column : ℕ) (a : List ℕ) (r : Read Column) → Fits k a → indent_from column a (at start []) ≡ r → first_content column true p (with_header a) ≡ stopped_at r
   piece_first column a r fits e = first_header column (indicator_of h.style ∷ line) k a p (style_inner h.style line inner) fits ∙ first_is column a start [] ∙ ap stopped_at e
 
+  -- the position after a header, lines, and a last line without a break
+  piece_position : (ls : List Line) (last next : List ℕ) → AreLines ls (last ++ next) → Fits k (spell ls (last ++ next))
+      → is_in_line last ≡ true → along last (after_lines ls start) ≡ position_after p (with_header (spell ls last)) next
+  piece_position ls last next are fits last_inner = sym (
+      after_chars (indicator_of h.style ∷ line) (put k (spell ls last)) next p (style_inner h.style line inner) ∙ after_put k (spell ls last) next (along line (past p)) (rw (spell_more ls last next) fits) ∙ after_spell ls last next start are
+      ∙ ap (λ x. position_after (after_lines ls start) x next) (sym (append-nil last)) ∙ after_chars last [] next (after_lines ls start) last_inner
+      )
+
   -- ---- before further text
 
   module _ (column : ℕ) (ls : List Line) (next : List ℕ) (rs : List Row) (are : AreLines ls next) (fits : Fits k (spell ls next)) (are_alone : AreLines ls []) (fits_alone : Fits k (spell ls []))
@@ -91,37 +97,26 @@ module _ (h : defs.Header) (line : List ℕ) (k : Break) (indent : ℕ) (p : Pos
     closed z n = rw (z.is) refl
 
     position_is : past_spaces (after_lines ls start) next ≡ further_position p piece next
-    position_is = let piece_position : position_after p (with_header (spell ls [])) next ≡ after_lines ls start = let more : Fits k (spell ls [] ++ next) = rw (spell_more ls [] next) fits in
-        after_chars (indicator_of h.style ∷ line) (put k (spell ls [])) next p (style_inner h.style line inner) ∙ after_put k (spell ls []) next (along line (past p)) more ∙ after_spell ls [] next start are in ap (λ q. past_spaces q next) (sym piece_position)
+    position_is = ap (λ q. past_spaces q next) (piece_position ls [] next are fits refl)
 
     -- where the piece's content begins, if the search in it ends so
     where_is : {o : Option Position} → first_content column true p piece ≡ o → block_position column p piece next ≡ position_or o (further_position p piece next)
     where_is e = rw (e, text) refl
 
-    without_rows : has_content rs ≡ false → (z : Outside column next (after_lines ls start)) → (l i : Bool) → nat_lt z.position.col column ≡ l → nat_le indent z.position.col ≡ i → IsRead indent p before_text piece next (scanned (spell ls next))
-    without_rows none z = by
-      where
-        here : z.position ≡ further_position p piece next
-        here = sym z.at_position ∙ position_is
-
-        first : first_content column true p piece ≡ None
-        first = piece_first column (spell ls []) _ fits_alone (all_empty column ls [] start [] rs refl are_alone rows none)
-
-        found : indent_from column (spell ls next) (at start []) ≡ record { rest = z.char ∷ z.rest; position = z.position; value = record { column = column; breaks = breaks (length rs) } }
-        found = all_empty column ls next start [] rs refl are rows none ∙ z.found (breaks (length rs))
-
-        is_here : is_shallow indent p before_text piece next ≡ (nat_le indent z.position.col && nat_lt z.position.col column)
-        is_here = rw (text, first, ← here) refl
-
-        go : (nat_lt z.position.col column && nat_le indent z.position.col) ≡ false → is_shallow indent p before_text piece next ≡ false → IsRead indent p before_text piece next (scanned (spell ls next))
-        go deep outside =
-            reads_it column before_text (spell ls next) piece next z.rest z.char z.position _ (breaks (length rs)) lines_read free outside found_by found deep (read_to z) position_is (where_is first ∙ sym here)
-            (ap (λ b. lines_read.text ++ tail (chomping_of h.chomping) b lines_read) (closed z _) ∙ empty_value h rs none ∙ rw none refl)
-
-        by : (l i : Bool) → nat_lt z.position.col column ≡ l → nat_le indent z.position.col ≡ i → IsRead indent p before_text piece next (scanned (spell ls next))
-        by true true e g = refuses _ (shallow free (is_here ∙ rw (g, e) refl)) (found_by ∙ ap after found ∙ rw (e, g, here) refl)
-        by true false e g = go (rw (e, g) refl) (is_here ∙ rw g refl)
-        by false i e g = go (rw e refl) (is_here ∙ rw e (and_false (nat_le indent z.position.col)))
+    without_rows : has_content rs ≡ false → Outside column next (after_lines ls start)
+        → IsRead indent p before_text piece next (scanned (spell ls next))
+    without_rows none z =
+        let here : z.position ≡ further_position p piece next = sym z.at_position ∙ position_is in
+        let first : first_content column true p piece ≡ None =
+        piece_first column (spell ls []) _ fits_alone (all_empty column ls [] start [] rs refl are_alone rows none) in
+        let found : indent_from column (spell ls next) (at start []) ≡ record { rest = z.char ∷ z.rest; position = z.position; value = record { column = column; breaks = breaks (length rs) } } = all_empty column ls next start [] rs refl are rows none ∙ z.found (breaks (length rs)) in
+        let is_here : is_shallow indent p before_text piece next ≡ (nat_lt z.position.col column && nat_le indent z.position.col) =
+        rw (text, first, ← here) (and_comm (nat_le indent z.position.col) (nat_lt z.position.col column)) in
+        elim (cases_Bool (nat_lt z.position.col column && nat_le indent z.position.col)) [
+          | inl e ↦ refuses _ (shallow free (is_here ∙ e)) (found_by ∙ ap after found ∙ rw (e, here) refl)
+          | inr e ↦ reads_it column before_text (spell ls next) piece next z.rest z.char z.position _ (breaks (length rs)) lines_read free (is_here ∙ e) found_by found e (read_to z) position_is (where_is first ∙ sym here)
+              (ap (λ b. lines_read.text ++ tail (chomping_of h.chomping) b lines_read) (closed z _) ∙ empty_value h rs none ∙ rw none refl)
+        ]
 
     pub before_further : Outside column next (after_lines ls start) → IsRead indent p before_text piece next (scanned (spell ls next))
     before_further z = elim (cases_Bool (has_content rs)) [
@@ -129,7 +124,7 @@ module _ (h : defs.Header) (line : List ℕ) (k : Break) (indent : ℕ) (p : Pos
           reads_it column before_text (spell ls next) piece next (f.rest next) f.char f.position _ f.breaks_before lines_read free (rw first (grind arith))
           found_by (f.found next are) (in_position column f.position.col f.in_column) (read_to z) position_is (where_is first)
           (ap (λ b. lines_read.text ++ tail (chomping_of h.chomping) b lines_read) (closed z _) ∙ content_value h false rs (are_full column (texts ls) rs rows) e ∙ rw e refl)
-      | inr e ↦ without_rows e z _ _ refl refl
+      | inr e ↦ without_rows e z
     ]
 
   -- ---- at the end of the text
@@ -150,10 +145,7 @@ module _ (h : defs.Header) (line : List ℕ) (k : Break) (indent : ℕ) (p : Pos
     last_position = after_lines ls start
 
     whole_position : along last last_position ≡ further_position p whole []
-    whole_position = let end_position : position_after p (with_header (spell ls last)) [] ≡ along last (after_lines ls start) = let more : Fits k (spell ls last ++ []) = rw append-nil fits in
-        let are' : AreLines ls (last ++ []) = rw append-nil are in
-        after_chars (indicator_of h.style ∷ line) (put k (spell ls last)) [] p (style_inner h.style line inner) ∙ after_put k (spell ls last) [] (along line (past p)) more ∙ after_spell ls last [] start are'
-        ∙ ap (λ x. position_after (after_lines ls start) x []) (sym (append-nil last)) ∙ after_chars last [] [] (after_lines ls start) last_inner in sym end_position
+    whole_position = piece_position ls last [] (rw append-nil are) (rw append-nil fits) last_inner
 
     at_front : last_position.col ≡ 0
     at_front = lines_front ls start refl
@@ -188,9 +180,6 @@ module _ (h : defs.Header) (line : List ℕ) (k : Break) (indent : ℕ) (p : Pos
     abbrev last_read : Lines
     last_read = written (is_literal_style h.style) column last_row rows_read
 
-    opens : (n : ℕ) → suc column ≤ n → (nat_le column n && nat_lt 0 n) ≡ true
-    opens n h = grind (arith, nat_tests)
-
     pub before_the_end : (r : Row) → IsRow column last r → read_end r
     before_the_end empty_row (no_content spaces le) = elim (cases_Bool (has_content rs)) [
       | inl e ↦ content_by empty_row rows_read (sees_before e)
@@ -202,7 +191,7 @@ module _ (h : defs.Header) (line : List ℕ) (k : Break) (indent : ℕ) (p : Pos
     before_the_end (content_row m) (is_content lead long free) =
         let col : last_position.col + column ≡ column = (let e = at_front in omega (arith, e)) in
         let z = starts column column last last_position col lead long last_inner in
-        let content_text : last_read.text ++ tail (chomping_of h.chomping) (is_open column [] (along last last_position).col) last_read ≡ value_before_end h column rs last last_row = let open_is : is_open column [] (along last last_position).col ≡ true = ap (λ n. nat_le column n && nat_lt 0 n) far ∙ opens (length last) long in
+        let content_text : last_read.text ++ tail (chomping_of h.chomping) (is_open column [] (along last last_position).col) last_read ≡ value_before_end h column rs last last_row = let open_is : is_open column [] (along last last_position).col ≡ true = ap (λ n. nat_le column n && nat_lt 0 n) far ∙ (grind (arith, nat_tests)) in
         rw (open_is, z.is) (last_value h rs z.char z.rest (are_full column (texts ls) rs rows)) in
         content_by last_row last_read (elim (cases_Bool (has_content rs)) [
           | inl e ↦ sees_before e
@@ -219,25 +208,15 @@ module _ (h : defs.Header) (line : List ℕ) (k : Break) (indent : ℕ) (p : Pos
 
 -- ---- a header at the end of the text
 
-no_lines : (indent increment : ℕ) (q : Position)
-    → ((content indent increment [] q).rest ≡ []) × ((content indent increment [] q).position ≡ q)
-unfolding content
-no_lines indent a q = (grind (arith, nat_tests), grind (arith, nat_tests))
-
-nothing_there : (ch : defs.Chomping) (b : List ℕ) → empty_text (chomping_of ch) false b ≡ []
-unfolding empty_text
-nothing_there ch b = grind arith
-
 pub header_alone_is_read : (h : defs.Header) (line : List ℕ) (indent : ℕ) (p : Position) → header_of (indicator_of h.style ∷ line) ≡ Some h → is_in_line line ≡ true
     → IsRead indent p (record { style = h.style; column = 0; text = [] }) (indicator_of h.style ∷ line) [] (block (is_literal_style h.style) indent (indicator_of h.style ∷ line) p)
-unfolding block
+unfolding block content empty_text
 header_alone_is_read h line indent p is inner =
     let q = along line (past p) in
     let i = digit_or_zero h.digit in
     let header_reads_it : header p line (past p) ≡ Ok (read_header h [] q) = ap (λ a. header p a (past p)) (sym (append-nil line)) ∙ header_reads h line [] p is inner refl refl in
     let ends : after_header (is_literal_style h.style) indent p (record { indicators = indicators_of h; broken = false }) (content indent i [] q) ≡ Ok (record { rest = []; position = q; value = record { position = p; text = [] } }) =
-    let none = no_lines indent i q in
-    rw (none.0, none.1, nothing_there h.chomping (content indent i [] q).value.breaks) refl in
+    grind (arith, nat_tests) in
     let position : q ≡ further_position p (indicator_of h.style ∷ line) [] =
     sym (ap (λ x. position_after p x []) (sym (append-nil (indicator_of h.style ∷ line))) ∙ after_chars (indicator_of h.style ∷ line) [] [] p (style_inner h.style line inner)) in
     let where_is : block_position 0 p (indicator_of h.style ∷ line) [] ≡ p = ap (λ o. position_or o p) (header_alone 0 (indicator_of h.style ∷ line) p (style_inner h.style line inner)) in

@@ -1,5 +1,5 @@
 -- What rows leave in the model's buffers is the text that the definitions give them; where content is found after rows, and what ends them.
-use Rattle.proof_lexers.proofs.Common.{[], ap, append-nil, append_assoc, arith, between, between_lines, BlockStyle, Bool, breaks, chomping_of, clip, content_row, empty_after, empty_row, empty_text, false, has_content, if◌then◌else◌, is_blank, is_literal_style, keep, length, Lines, List, nothing_before_end, nothing_before_text, refl, Row, starts_blank, strip, suc, sym, tail, text_after, text_of, true, with_content, zero, ℕ, ◌++◌, ◌+◌, ◌||◌, ◌∙◌, ◌∷◌, ◌≡◌, drop, indent_from, is_further_text, is_in_line, is_some, list_all, None, Option, Position, row_of, rows_of, Some, ◌≤◌, and_parts, nat_tests, cases_Bool, eqb-true, inl, inr, is_break, is_document_marker, is_outside, lt-ltb, nat_lt, ne_eqb, not, not-true, Ok, past, past_spaces, without_spaces, ◌&&◌, ◌==◌, are_marks, is_nul, same_blank, same_break, same_marker, subst}
+use Rattle.proof_lexers.proofs.Common.{[], ap, append-nil, append_assoc, arith, between, between_lines, BlockStyle, Bool, breaks, chomping_of, clip, content_row, empty_after, empty_row, empty_text, false, has_content, if◌then◌else◌, is_blank, is_literal_style, keep, length, Lines, List, nothing_before_end, nothing_before_text, refl, Row, starts_blank, strip, suc, sym, tail, text_after, text_of, true, with_content, zero, ℕ, ◌++◌, ◌+◌, ◌||◌, ◌∙◌, ◌∷◌, ◌≡◌, drop, indent_from, is_further_text, is_in_line, is_some, list_all, None, Option, Position, row_of, rows_of, Some, ◌≤◌, and_parts, nat_tests, cases_Bool, eqb-true, inl, inr, is_break, is_outside, lt-ltb, nat_lt, ne_eqb, not, not-true, Ok, past, past_spaces, without_spaces, ◌&&◌, ◌==◌, are_marks, is_nul, same_blank, same_break, same_marker}
 use Rattle.defs_text.specs.BlockScalar as defs
 use Rattle.proof_lexers.proofs.Fold.{more_breaks}
 use Rattle.proof_lexers.proofs.Blocks.Rows.{after_line, after_lines, after_row, after_rows, AreLines, at, Break, break_ends, empty_passes, first_of, first_row, front, is_content, IsRow, Line, no_content, put, scan, spell, starts, texts, through}
@@ -43,12 +43,8 @@ module _ (s : BlockStyle) where
   text_goes (empty_row ∷ rs) t l n b full e = grind (arith, more_breaks, text_goes rs t l (suc n) b full e)
   text_goes (content_row [] ∷ rs) t l n b full e = absurd full
   text_goes (content_row (c ∷ m) ∷ rs) t l n b full e =
-      let gap = between_lines s n (starts_blank l || starts_blank (c ∷ m)) in
-      let same : between (is_literal_style s) (after_content t n b) (is_blank c) ≡ gap = (grind arith) ∙ ap (λ k. between_lines s n (k || is_blank c)) e ∙ ap (λ k. between_lines s n (starts_blank l || k)) (sym (same_blank c)) in
-      let here = λ (g : List ℕ). rows_after rs (after_content ((t ++ g) ++ c ∷ m) 0 (is_blank c)) in
-      subst (λ g. Holds (here g) (t ++ text_after s l n (content_row (c ∷ m) ∷ rs)) (empty_after 0 rs)) (sym same)
-      (subst (λ u. Holds (here gap) u (empty_after 0 rs)) (ap (λ y. y ++ text_after s (c ∷ m) 0 rs) (append_assoc t gap (c ∷ m)) ∙ append_assoc t (gap ++ c ∷ m) _)
-      (text_goes rs ((t ++ gap) ++ c ∷ m) (c ∷ m) 0 (is_blank c) full (sym (same_blank c))))
+      let more = text_goes rs ((t ++ between_lines s n (starts_blank l || is_blank c)) ++ c ∷ m) (c ∷ m) 0 (is_blank c) full (sym (same_blank c)) in
+      grind (arith, same_blank, append_assoc, more)
 
   first_goes : (rs : List Row) (n k : ℕ) → AreFull rs → has_content rs ≡ true → Holds (rows_after rs (after_empty n)) (breaks n ++ text_of s rs) (empty_after k rs)
   unfolding between
@@ -111,13 +107,9 @@ pub last_value : (h : defs.Header) (rs : List Row) (c : ℕ) (m : List ℕ) → 
     ≡ with_content h 0 (rs ++ content_row (c ∷ m) ∷ [])
 unfolding tail
 last_value h rs c m full =
-    let all = rs ++ content_row (c ∷ m) ∷ [] in
-    let x = after_row (is_literal_style h.style) (content_row (c ∷ m)) (after_rows (is_literal_style h.style) rs (after_empty 0)) in
-    let z = first_goes h.style all 0 0 (more_rows rs c m full).0 (more_rows rs c m full).1 in
+    let z = first_goes h.style (rs ++ content_row (c ∷ m) ∷ []) 0 0 (more_rows rs c m full).0 (more_rows rs c m full).1 in
     let more = rows_more (is_literal_style h.style) rs (content_row (c ∷ m)) (after_empty 0) in
-    let text : x.text ≡ text_of h.style all = ap (λ (l : Lines). l.text) (sym more) ∙ z.text_is in
-    let none : breaks (empty_after 0 all) ≡ [] = sym z.breaks_are ∙ ap (λ (l : Lines). l.breaks) more in
-    ap (λ t. t ++ tail (chomping_of h.chomping) true (record x { broken = false })) text ∙ ap (λ t. text_of h.style all ++ t) (grind arith)
+    grind (arith, z, more)
 
 -- ---- content is never empty
 
@@ -217,21 +209,17 @@ here_outside column c r p e b le none = grind arith
 
 pub outside : (n column : ℕ) (r : List ℕ) (p : Position) → p.col + n ≡ column → is_outside n r ≡ true → Outside column r p
 unfolding begins
-outside zero column r p col h = cc
-outside (suc n) column [] p col h = cc
 outside (suc n) column (c ∷ r) p col h = elim (cases_Bool (c == 32)) [
   | inl e ↦ space_outside column c r p e (lt-ltb p.col column (omega (arith, col))) (outside n column r (past p) (omega (arith, col)) (rw e at h))
   | inr e ↦
       let q = and_parts (not (classes.is_break c)) (not (is_nul c)) (rw e at h) in
       here_outside column c r p e (sym (same_break c) ∙ not-true _ q.0) (omega (arith, col)) (grind (arith, ne_eqb))
 ]
-
-marked : (r : List ℕ) (p : Position) → p.col ≡ 0 → is_document_marker r ≡ true → Outside 0 r p
-unfolding begins are_marks is_break
-marked a p col h = grind (arith, same_marker, begins, here_outside)
+outside n column r p col h = cc
 
 pub further_outside : (column : ℕ) (r : List ℕ) (p : Position) → p.col ≡ 0 → is_further_text column r ≡ true → Outside column r p
-further_outside zero r p col h = marked r p col h
+unfolding begins are_marks is_break
+further_outside zero r p col h = grind (arith, same_marker, begins, here_outside)
 further_outside (suc n) r p col h = outside (suc n) (suc n) r p (omega (arith, col)) h
 
 pub further_stops : (literal : Bool) (column : ℕ) (r : List ℕ) (p : Position) (x : Lines) → Outside column r p → scan literal column r (front p x) ≡ Ok (record { rest = without_spaces r; position = past_spaces p r; value = x })

@@ -1,14 +1,14 @@
 -- Directives are read as their lines say, and no other text is.
-use Rattle.proof_lexers.proofs.Common.{[], after, after_declaration, after_major, after_value, after_version, and_then, ap, append-nil, append_assoc, arith, At, begins_prefix, begins_with, blanks, by_comment, by_declaration, by_name, by_octets, by_version, cases_Bool, codes, declaration_by, decoded, Directive, directive, directive_of, DirectivesAreRead, DirectivesEndAsTheirTextSays, eqb-true, Err, false, Fault, first_break, further, handle_and_rest, has_no_break, if◌then◌else◌, inl, inr, is_alpha, is_alphanumeric, is_at_gap, is_blank, is_flow, is_handle, is_rest_of_line, is_same, is_tag, is_uri, is_uri_mark, IsDirectiveRefusal, IsNoDeclaration, IsNoVersion, kind, leading, length, length-append, List, long_major, long_minor, name, next_line, no_major, no_minor, no_name, no_point, no_prefix, None, not-false, not-true, number, number_of, Ok, open_name, past, Position, prefix, prefix_after, Problem, problem_of, Read, reads, refl, refuses, reserved, Result, skip_while, slice_index, Some, suc, sym, tag, tag_declaration, tag_value, token_of, true, unknown, UriFault, value, version, version_of, version_value, with_minor, with_prefix, ℕ, ◌++◌, ◌+◌, ◌==◌, ◌||◌, ◌∙◌, ◌∷◌, ◌≡◌, nat_tests, CommentNotSeparated, DirectiveEnd, DirectiveName, DirectiveNameEnd, GlobalTagCharacter, TagDirectiveEnd, TagDirectiveHandle, TagStart, VersionDot, VersionNumber, VersionTooLong, is_blank_or_end, is_nul, is_decimal_digit, is_letter, same_blank, same_alpha, same_tag, same_place, before_end, skipped, span_cut}
+use Rattle.proof_lexers.proofs.Common.{[], is_empty, Option, after, after_declaration, after_major, after_value, after_version, and_then, ap, append-nil, append_assoc, arith, At, begins_prefix, begins_with, blanks, by_comment, by_declaration, by_name, by_octets, by_version, cases_Bool, codes, declaration_by, decoded, Directive, directive, directive_of, DirectivesAreRead, DirectivesEndAsTheirTextSays, eqb-true, Err, false, Fault, first_break, further, handle_and_rest, has_no_break, if◌then◌else◌, inl, inr, is_alpha, is_alphanumeric, is_at_gap, is_blank, is_flow, is_handle, is_rest_of_line, is_same, is_tag, is_uri, is_uri_mark, IsDirectiveRefusal, IsNoDeclaration, IsNoVersion, kind, leading, length, length-append, List, long_major, long_minor, name, next_line, no_major, no_minor, no_name, no_point, no_prefix, None, not-false, not-true, number, number_of, Ok, open_name, past, Position, prefix, prefix_after, Problem, problem_of, Read, reads, refl, refuses, reserved, Result, skip_while, slice_index, Some, suc, sym, tag, tag_declaration, tag_value, token_of, true, unknown, UriFault, value, version, version_of, version_value, with_minor, with_prefix, ℕ, ◌++◌, ◌+◌, ◌==◌, ◌||◌, ◌∙◌, ◌∷◌, ◌≡◌, nat_tests, CommentNotSeparated, DirectiveEnd, DirectiveName, DirectiveNameEnd, GlobalTagCharacter, TagDirectiveEnd, TagDirectiveHandle, TagStart, VersionDot, VersionNumber, VersionTooLong, is_blank_or_end, is_nul, is_decimal_digit, is_letter, same_blank, same_alpha, same_tag, same_place, before_end, skipped, span_cut}
 use Rattle.defs_token.specs.Token.{Tok}
 use Rattle.defs_text.specs.Classes as classes
 use Rattle.defs_text.specs.Directives as defs
 use Rattle.model_scanner.specs.Directive.{after_name}
-use Rattle.proof_lexers.specs.DirectiveEnds.{ends_line, after_line, no_mark, goes_on, whole_directive, no_directive}
+use Rattle.proof_lexers.specs.DirectiveEnds.{ends_line, after_line, no_mark, goes_on, IsVersionBefore, whole_directive, no_directive}
 use Rattle.proof_lexers.proofs.Separation.Positions.{position_append, position_in_line}
 use Rattle.proof_lexers.proofs.Properties.Uris.{uris_are_read}
-use Rattle.proof_lexers.proofs.RestOfLine.{first_line, in_line, line_skipped}
-use Rattle.proof_lexers.proofs.Directives.Values.{none_at_end, no_break_after, ended, comment, text, line_ends, spells_name, kind_is, gap_is, missing, long, found, number_sees, not_at_end, handle_sees}
+use Rattle.proof_lexers.proofs.RestOfLine.{first_line, in_line, line_skipped, no_break_after, none_at_end}
+use Rattle.proof_lexers.proofs.Directives.Values.{ended, comment, text, line_ends, spells_name, kind_is, gap_is, number_by, number_is, not_at_end, handle_sees}
 use Rattle.proof_lexers.proofs.Directives.Values as values
 
 pub same_text : (a b : List ℕ) → is_same a b ≡ true → a ≡ b
@@ -20,6 +20,14 @@ no_tag_at_end : (n : List ℕ) → ends_line n ≡ true → is_tag (slice_index 
 unfolding is_tag is_uri is_alphanumeric is_uri_mark is_flow classes.is_tag classes.is_uri is_decimal_digit is_letter classes.is_flow
 no_tag_at_end [] h = refl
 no_tag_at_end (c ∷ n) h = sym (same_tag c) ∙ none_at_end classes.is_tag refl refl (c ∷ n) h
+
+-- why digits that are no number make a text no version
+no_major_number : (a : List ℕ) → number_of (leading is_decimal_digit a) ≡ None → IsNoVersion a (if is_empty (leading is_decimal_digit a) then VersionNumber else VersionTooLong)
+no_major_number a e = grind (arith, no_major, long_major)
+
+no_minor_number : (a : List ℕ) (v : ℕ) (r : List ℕ) → number_of (leading is_decimal_digit a) ≡ Some v → after is_decimal_digit a ≡ 46 ∷ r → number_of (leading is_decimal_digit r) ≡ None
+    → IsNoVersion a (if is_empty (leading is_decimal_digit r) then VersionNumber else VersionTooLong)
+no_minor_number a v r is point e = grind (arith, no_minor v r is point, long_minor v r is point)
 
 -- How the scan of a line ends, which stands after a `%` and before the line's end: it is a directive, and read as it; or it is none, and refused.
 data Told (start : Position) (l n : List ℕ) (x : Result (Read Tok) Fault) : Type 0 where
@@ -34,12 +42,9 @@ module _ (start : Position) (l n : List ℕ) (line : has_no_break l ≡ true) (e
   unfolding classes.is_break
   finish before m d p cut position says by_hash by_other = elim (line_ends start p m n (no_break_after before m (ap has_no_break (sym cut) ∙ line)) ends) [
     | ended is e ↦ rw e (is_directive d (says ∙ rw is refl) (ap (λ q. Ok (record { rest = next_line n; position = q; value = token_of d })) (grind (arith, nat_tests, length-append, further, first_break, same_place, position_in_line, position_append))))
-    | comment begins none e ↦ rw (e, position) (fails _ (says ∙ rw none refl) (glued m refl begins) refl)
+    | comment begins none e ↦ rw (e, position) (fails (At CommentNotSeparated (further (suc (length before)) start)) (says ∙ rw none refl) (grind (arith, by_hash, begins)) refl)
     | text none begins e ↦ rw e (fails (At DirectiveEnd start) (says ∙ rw none refl) (by_other none begins) refl)
   ]
-    where
-      glued : (k : List ℕ) → m ≡ k → begins_with 35 k ≡ true → IsDirectiveRefusal start l (At CommentNotSeparated (further (suc (length before)) start))
-      glued a e b = grind arith
 
   -- ---- words
 
@@ -77,38 +82,27 @@ module _ (start : Position) (l n : List ℕ) (line : has_no_break l ≡ true) (e
     version_refused why x none reason e = fails (At why start) (says_version ∙ none) (by_version why (record { is_name = word; is_whole = gap }) reason) e
 
     -- after the minor number
-    version_end : (s minor : List ℕ) (v w : ℕ) → after is_decimal_digit said ≡ 46 ∷ s → leading is_decimal_digit s ≡ minor → number_of major ≡ Some v → number_of minor ≡ Some w
-        → Told start l n (after_value start (record { rest = after is_decimal_digit s ++ n; position = further (length minor) (past (further (length major) said_position)); value = Tok.version_directive v w }))
-    version_end s minor v w point lead is is_w =
-        finish before rest (defs.version v w) _ cut position (says_version ∙ rw (point, lead, is, is_w) refl)
-        (λ k e. by_comment before k (cut ∙ ap (λ r. before ++ r) e) (record { major = v; minor = w; point = s; is_version = record { is_name = word; is_whole = gap }; has_point = point; is_major = is; is_minor = ap number_of lead ∙ is_w; is_before = e }))
-        (λ none begins. after_version rest (record { major = v; minor = w; point = s; is_version = record { is_name = word; is_whole = gap }; has_point = point; is_major = is; is_minor = ap number_of lead ∙ is_w; is_before = refl }) none begins)
-      where
-        rest : List ℕ
-        rest = after is_decimal_digit s
-
-        before : List ℕ
-        before = leading classes.is_alpha l ++ (leading classes.is_blank after_word ++ (major ++ 46 ∷ minor))
-
-        tail : said ≡ major ++ (46 ∷ (minor ++ rest))
-        tail = span_cut is_decimal_digit said ∙ ap (λ r. major ++ r) (point ∙ ap (λ r. 46 ∷ r) (span_cut is_decimal_digit s ∙ ap (λ r. r ++ rest) lead))
-
-        cut : l ≡ before ++ rest
-        cut = grind (arith, from_word, tail, append_assoc)
-
-        position : further (length minor) (past (further (length major) said_position)) ≡ further (suc (length before)) start
-        position = grind (arith, length-append, same_place)
+    version_end : (s : List ℕ) (v w : ℕ) → after is_decimal_digit said ≡ 46 ∷ s → number_of major ≡ Some v → number_of (leading is_decimal_digit s) ≡ Some w
+        → Told start l n (after_value start (record { rest = after is_decimal_digit s ++ n; position = further (length (leading is_decimal_digit s)) (past (further (length major) said_position)); value = Tok.version_directive v w }))
+    version_end s v w point is is_w =
+        let rest = after is_decimal_digit s in
+        let before = leading classes.is_alpha l ++ (leading classes.is_blank after_word ++ (major ++ 46 ∷ leading is_decimal_digit s)) in
+        let tail : said ≡ major ++ (46 ∷ s) = span_cut is_decimal_digit said ∙ ap (λ r. major ++ r) point in
+        let last = span_cut is_decimal_digit s in
+        let cut : l ≡ before ++ rest = grind (arith, from_word, tail, last, append_assoc) in
+        let is_before : (r : List ℕ) → rest ≡ r → IsVersionBefore l r =
+        λ r e. record { major = v; minor = w; point = s; is_version = record { is_name = word; is_whole = gap }; has_point = point; is_major = is; is_minor = is_w; is_before = e } in
+        finish before rest (defs.version v w) _ cut (grind (arith, length-append, same_place)) (says_version ∙ rw (point, is, is_w) refl)
+        (λ k e. by_comment before k (cut ∙ ap (λ r. before ++ r) e) (is_before (35 ∷ k) e)) (λ none begins. after_version rest (is_before rest refl) none begins)
 
     minor_read : (s : List ℕ) (v : ℕ) → after is_decimal_digit said ≡ 46 ∷ s → number_of major ≡ Some v
         → Told start l n (and_then (and_then (number start (s ++ n) (past (further (length major) said_position))) (λ k. Ok (with_minor v k))) (λ t. after_value start t))
-    minor_read s v point is = elim (number_sees start (past (further (length major) said_position)) s n ends) [
-      | missing none without e ↦ rw e (version_refused VersionNumber _ (no_version without) (no_minor v s is point none) refl)
-      | long much without e ↦ rw e (version_refused VersionTooLong _ (no_version without) (long_minor v s is point much) refl)
-      | found w is_w e ↦ rw e (version_end s (leading is_decimal_digit s) v w point refl is is_w)
-    ]
+    minor_read s v point is = rw (number_is start (past (further (length major) said_position)) s n ends) (by (number_of (leading is_decimal_digit s)) refl)
       where
-        no_version : number_of (leading is_decimal_digit s) ≡ None → version_of said ≡ None
-        no_version without = rw (point, is, without) (grind arith)
+        by : (o : Option ℕ) → number_of (leading is_decimal_digit s) ≡ o
+            → Told start l n (and_then (and_then (number_by start (past (further (length major) said_position)) (leading is_decimal_digit s) (after is_decimal_digit s ++ n) o) (λ k. Ok (with_minor v k))) (λ t. after_value start t))
+        by None e = version_refused _ _ (rw (point, is, e) (grind arith)) (no_minor_number said v s is point e) refl
+        by (Some w) e = version_end s v w point is e
 
     point_read : (r : List ℕ) (v : ℕ) → after is_decimal_digit said ≡ r → number_of major ≡ Some v
         → Told start l n (and_then (after_major start (record { rest = r ++ n; position = further (length major) said_position; value = v })) (λ t. after_value start t))
@@ -122,11 +116,11 @@ module _ (start : Position) (l n : List ℕ) (line : has_no_break l ≡ true) (e
 
     versions : Told start l n (and_then (value start version (after_word ++ n) word_position) (λ t. after_value start t))
     unfolding version_value
-    versions = rw (blanks_skipped after_word word_position) (elim (number_sees start said_position said n ends) [
-      | missing none without e ↦ rw e (version_refused VersionNumber _ (rw without (grind (arith, after))) (no_major none) refl)
-      | long much without e ↦ rw e (version_refused VersionTooLong _ (rw without (grind (arith, after))) (long_major much) refl)
-      | found v is e ↦ rw e (point_read (after is_decimal_digit said) v refl is)
-    ])
+    versions = rw (blanks_skipped after_word word_position, number_is start said_position said n ends) (by (number_of major) refl)
+      where
+        by : (o : Option ℕ) → number_of major ≡ o → Told start l n (and_then (and_then (number_by start said_position major (after is_decimal_digit said ++ n) o) (λ k. after_major start k)) (λ t. after_value start t))
+        by None e = version_refused _ _ (rw e (grind (arith, after))) (no_major_number said e) refl
+        by (Some v) e = point_read (after is_decimal_digit said) v refl e
 
   -- ---- declarations
 
@@ -172,21 +166,12 @@ module _ (start : Position) (l n : List ℕ) (line : has_no_break l ≡ true) (e
           → Told start l n (after_value start (record { rest = after_prefix ++ n; position = further (length prefix_text) prefix_position; value = Tok.tag_directive handle_is cs }))
       unfolding directive_of is_blank_or_end classes.is_blank classes.is_break is_nul
       declaration_end cs begins means apart =
-          finish before after_prefix (tag_declaration handle_is cs) _ cut position ((rw (word, gap) refl) ∙ declares cs begins means)
+          let before = leading classes.is_alpha l ++ (leading classes.is_blank after_word ++ (handle_is ++ (leading classes.is_blank after_handle ++ prefix_text))) in
+          let tail : after_handle ≡ leading classes.is_blank after_handle ++ (prefix_text ++ after_prefix) =
+          span_cut classes.is_blank after_handle ∙ ap (λ r. leading classes.is_blank after_handle ++ r) (span_cut classes.is_uri from_prefix) in
+          finish before after_prefix (tag_declaration handle_is cs) _ (grind (arith, from_word, spelled, tail, append_assoc, handle_is)) (grind (arith, length-append, same_place)) ((rw (word, gap) refl) ∙ declares cs begins means)
           (λ k e. absurd (cc (sym (ap is_at_gap e) ∙ apart)))
           (λ none begins_no. after_declaration after_prefix (record { prefix = cs; is_declaration = record { is_name = word; is_whole = gap }; has_handle = is; has_prefix = begins; is_prefix = means; is_before = refl; is_apart = apart }) none)
-        where
-          before : List ℕ
-          before = leading classes.is_alpha l ++ (leading classes.is_blank after_word ++ (handle_is ++ (leading classes.is_blank after_handle ++ prefix_text)))
-
-          tail : said ≡ handle_is ++ (leading classes.is_blank after_handle ++ (prefix_text ++ after_prefix))
-          tail = spelled ∙ ap (λ r. handle_is ++ r) (span_cut classes.is_blank after_handle ∙ ap (λ r. leading classes.is_blank after_handle ++ r) (span_cut classes.is_uri from_prefix))
-
-          cut : l ≡ before ++ after_prefix
-          cut = grind (arith, from_word, tail, append_assoc, handle_is)
-
-          position : further (length prefix_text) prefix_position ≡ further (suc (length before)) start
-          position = grind (arith, length-append, same_place)
 
       -- what the scan of the prefix leaves, by what its characters mean
       abbrev prefix_result : Result (List ℕ) UriFault → Result (Read (List ℕ)) Fault

@@ -1,28 +1,13 @@
 -- Parts of a directive's line, as the model reads them: words, numbers, a handle, and what may stand after its value.
-use Rattle.proof_lexers.proofs.Common.{[], after, all_of, and_parts, ap, append_assoc, arith, At, begins_with_mark, both_ways, cases_Bool, decimal_value, eqb-true, Err, false, Fault, further, handle, handle_and_rest, handle_end, if◌then◌else◌, inl, inr, is_empty, is_handle, is_marked_name, is_same, leading, length, length-append, List, name_and_mark, nat_le, ne_eqb, None, number, number_of, Ok, past, Position, Read, refl, Result, slice_index, Some, sym, true, ℕ, ◌++◌, ◌==◌, ◌∙◌, ◌∷◌, ◌≡◌, nat_tests, and_assoc, and_then, begins_with, Bool, codes, Digits, directive_break, drop, first_break, has_no_break, is_alpha, is_alphanumeric, is_at_gap, is_blank, is_blank_or_breakz, is_break, is_rest_of_line, kind, line_end, next_line, not, or_cases, position_after, run, space, Stop, tag, unknown, version, Whitespace, Yes, ◌&&◌, ◌*◌, ◌+◌, ◌-◌, ◌≤◌, CommentNotSeparated, DirectiveEnd, TagDirectiveHandle, TagStart, VersionNumber, VersionTooLong, is_decimal_digit, is_letter, same_break, same_gap, same_alpha, same_place, all_leading, before_end, begins_in, span_cut, one_further}
+use Rattle.proof_lexers.proofs.Common.{[], after, all_of, and_parts, ap, append_assoc, arith, At, begins_with_mark, both_ways, cases_Bool, decimal_value, eqb-true, Err, false, Fault, further, handle, handle_and_rest, handle_end, if◌then◌else◌, inl, inr, is_empty, is_handle, is_marked_name, is_same, leading, length, length-append, List, nat_le, ne_eqb, None, number, number_of, Ok, Option, past, Position, Read, refl, Result, slice_index, Some, sym, true, ℕ, ◌++◌, ◌==◌, ◌∙◌, ◌∷◌, ◌≡◌, nat_tests, and_assoc, begins_with, Bool, codes, Digits, directive_break, drop, first_break, has_no_break, is_alpha, is_alphanumeric, is_at_gap, is_blank, is_blank_or_breakz, is_break, is_rest_of_line, kind, line_end, next_line, not, position_after, run, Stop, tag, unknown, version, ◌&&◌, ◌*◌, ◌+◌, ◌-◌, ◌≤◌, CommentNotSeparated, DirectiveEnd, TagDirectiveHandle, TagStart, VersionNumber, VersionTooLong, is_decimal_digit, is_letter, same_break, same_gap, same_alpha, same_place, all_leading, before_end, span_cut, one_further}
 use Rattle.defs_text.specs.Classes as classes
 use Rattle.proof_lexers.specs.DirectiveEnds.{ends_line}
 use Rattle.proof_lexers.proofs.Properties.Tags.{word}
 use Rattle.yaml_chars.specs.Class.{is_digit}
 use Rattle.model_scanner.specs.Directive.{digit_turn}
-use Rattle.proof_lexers.proofs.RestOfLine.{Rest, rest_of_line}
+use Rattle.proof_lexers.proofs.RestOfLine.{none_at_end, rest_of_line}
 use Rattle.proof_lexers.proofs.Plain.Turns.{same_feed, in_line_position, line_position}
 use Rattle.proof_lexers.proofs.Blocks.Positions.{feed_past}
-
--- ---- classes at a line's end
-
-no_class_at : (class : ℕ → Bool) → class 10 ≡ false → class 13 ≡ false → (c : ℕ) → classes.is_break c ≡ true → class c ≡ false
-unfolding classes.is_break
-no_class_at class lf cr c h = elim (or_cases (c == 10) (c == 13) h) [ inl e ↦ rw (eqb-true c 10 e) lf | inr e ↦ rw (eqb-true c 13 e) cr ]
-
--- a class without breaks does not go on after a line
-pub none_at_end : (class : ℕ → Bool) → class 10 ≡ false → class 13 ≡ false → (n : List ℕ) → ends_line n ≡ true → begins_in class n ≡ false
-none_at_end class lf cr [] h = refl
-none_at_end class lf cr (c ∷ n) h = no_class_at class lf cr c h
-
-pub no_break_after : (a b : List ℕ) → has_no_break (a ++ b) ≡ true → has_no_break b ≡ true
-no_break_after [] b h = h
-no_break_after (c ∷ a) b h = no_break_after a b (and_parts (not (classes.is_break c)) (has_no_break (a ++ b)) h).1
 
 -- ---- the rest of a line
 
@@ -35,13 +20,9 @@ pub data LineEnds (start p : Position) (m n : List ℕ) (x : Result (Read (Unit 
 -- how the end of a directive's line is read
 pub line_ends : (start p : Position) (m n : List ℕ) → has_no_break m ≡ true → ends_line n ≡ true → LineEnds start p m n (line_end start (m ++ n) p)
 unfolding line_end directive_break
-line_ends start p m n h k = told (space Yes (m ++ n) p) (rest_of_line m n p h k)
-  where
-    go : Result (Read Whitespace) Fault → Result (Read (Unit {0})) Fault
-    go x = and_then x (λ (w : Read Whitespace). directive_break start w.rest w.position)
-
-    told : (x : Result (Read Whitespace) Fault) → Rest m n p x → LineEnds start p m n (go x)
-    told x a = grind (arith, ended, go, same_break, same_feed, line_position, past, eqb-true, feed_past, in_line_position, start, further, p, comment, begins_with, text)
+line_ends start p m n h k =
+    let rest = rest_of_line m n p h k in
+    grind (arith, rest, ended, same_break, same_feed, line_position, past, eqb-true, feed_past, in_line_position, start, further, p, comment, begins_with, text)
 
 -- ---- numbers
 
@@ -57,13 +38,18 @@ unfolding is_decimal_digit is_digit
 digits_run start [] p v k few = grind arith
 digits_run start (c ∷ a) p v k few = grind (arith, nat_tests, one_further, digits_run start a (past p) (v * 10 + (c - 48)) (k + 1))
 
--- what the scan of a version's number leaves
-abbrev pub number_read : (start p : Position) → (a : List ℕ) → Result (Read ℕ) Fault
-number_read start p a =
-    (if is_empty (leading is_decimal_digit a) then Err (At VersionNumber start) else
-    (if nat_le (length (leading is_decimal_digit a)) 9
-    then Ok (record { rest = after is_decimal_digit a; position = further (length (leading is_decimal_digit a)) p; value = decimal_value 0 (leading is_decimal_digit a) })
-    else Err (At VersionTooLong start)))
+-- what the scan of a version's number is, by the digits that stand there, what is left after them, and the number that they are
+abbrev pub number_by : (start p : Position) → (digits rest : List ℕ) → Option ℕ → Result (Read ℕ) Fault
+number_by start p w rest None = Err (At (if is_empty w then VersionNumber else VersionTooLong) start)
+number_by start p w rest (Some v) = Ok (record { rest = rest; position = further (length w) p; value = v })
+
+pub number_is : (start p : Position) (b n : List ℕ) → ends_line n ≡ true
+    → number start (b ++ n) p ≡ number_by start p (leading is_decimal_digit b) (after is_decimal_digit b ++ n) (number_of (leading is_decimal_digit b))
+unfolding is_decimal_digit number
+number_is start p b n h =
+    let all : number start (b ++ n) p ≡ number_by start p (leading is_decimal_digit (b ++ n)) (after is_decimal_digit (b ++ n)) (number_of (leading is_decimal_digit (b ++ n))) = grind (arith, digits_run, after, further) in
+    let q = before_end is_decimal_digit b n (none_at_end is_decimal_digit refl refl n h) in
+    rw (all, q.0, q.1) refl
 
 -- ---- names
 
@@ -75,7 +61,7 @@ spells (c ∷ w) a = (slice_index a 0 == c) && spells w (drop 1 a)
 first_at_end : (n : List ℕ) → ends_line n ≡ true → is_alpha (slice_index n 0) ≡ false
 unfolding is_alpha is_alphanumeric classes.is_alpha is_decimal_digit is_letter
 first_at_end [] h = refl
-first_at_end (c ∷ n) h = sym (same_alpha c) ∙ no_class_at classes.is_alpha refl refl c h
+first_at_end (c ∷ n) h = sym (same_alpha c) ∙ none_at_end classes.is_alpha refl refl (c ∷ n) h
 
 distinct : (x d : ℕ) → is_alpha x ≡ false → classes.is_alpha d ≡ true → (x == d) ≡ false
 distinct x d h k = ne_eqb x d (λ same. both_ways (is_alpha x) h (ap is_alpha same ∙ sym (same_alpha d) ∙ k))
@@ -86,50 +72,16 @@ spells_name [] (c ∷ l) n h k = grind (arith, same_alpha)
 spells_name (d ∷ w) [] n h k = grind (arith, distinct, first_at_end)
 spells_name (d ∷ w) (c ∷ l) n h k = grind (arith, same_alpha, distinct, spells_name w l n)
 
-version_spelled : (a : List ℕ) → ((slice_index a 0 == 89) && (slice_index a 1 == 65) && (slice_index a 2 == 77) && (slice_index a 3 == 76) && not (is_alpha (slice_index a 4))) ≡ spells (codes "YAML") a
-version_spelled b = grind (arith, and_assoc)
-
-declaration_spelled : (a : List ℕ) → ((slice_index a 0 == 84) && (slice_index a 1 == 65) && (slice_index a 2 == 71) && not (is_alpha (slice_index a 3))) ≡ spells (codes "TAG") a
-declaration_spelled b = grind (arith, and_assoc)
-
 -- the kind of a directive by its name
 pub kind_is : (l n : List ℕ) → ends_line n ≡ true
     → kind (l ++ n) ≡ (if is_same (leading classes.is_alpha l) (codes "YAML") then version else (if is_same (leading classes.is_alpha l) (codes "TAG") then tag else unknown))
 unfolding kind classes.is_alpha is_decimal_digit is_letter
-kind_is l n h =
-    let first = version_spelled (l ++ n) ∙ spells_name (codes "YAML") l n refl h in
-    let second = declaration_spelled (l ++ n) ∙ spells_name (codes "TAG") l n refl h in
-    rw (first, second) refl
+kind_is l n h = let first = spells_name (codes "YAML") l n refl h in let second = spells_name (codes "TAG") l n refl h in grind (arith, and_assoc, first, second)
 
 -- whether a blank, a break or the end stands after part of a line
 pub gap_is : (m n : List ℕ) → ends_line n ≡ true → is_blank_or_breakz (slice_index (m ++ n) 0) ≡ is_at_gap m
 unfolding is_blank is_break classes.is_break
 gap_is a n h = grind (arith, eqb-true, same_gap)
-
--- ---- a version's number
-
--- What the scan of a number sees in a line: no digit; more than nine; or the number that it is.
-pub data NumberSees (start p : Position) (b n : List ℕ) (x : Result (Read ℕ) Fault) : Type 0 where
-  missing : leading is_decimal_digit b ≡ [] → number_of (leading is_decimal_digit b) ≡ None → x ≡ Err (At VersionNumber start) → NumberSees start p b n x
-  long : nat_le (length (leading is_decimal_digit b)) 9 ≡ false → number_of (leading is_decimal_digit b) ≡ None → x ≡ Err (At VersionTooLong start) → NumberSees start p b n x
-  found : (value : ℕ) → number_of (leading is_decimal_digit b) ≡ Some value
-      → x ≡ Ok (record { rest = after is_decimal_digit b ++ n; position = further (length (leading is_decimal_digit b)) p; value = value }) → NumberSees start p b n x
-
-digit_by : (start p : Position) (b n w r : List ℕ) → leading is_decimal_digit b ≡ w
-    → NumberSees start p b n (if is_empty w then Err (At VersionNumber start) else (if nat_le (length w) 9 then Ok (record { rest = after is_decimal_digit b ++ n; position = further (length w) p; value = decimal_value 0 w }) else Err (At VersionTooLong start)))
-digit_by start p b n [] r e = missing e (rw e refl) refl
-digit_by start p b n (c ∷ w) r e = elim (cases_Bool (nat_le (length (c ∷ w)) 9)) [
-  | inl f ↦ rw f (found (decimal_value 0 (c ∷ w)) (rw (e, f) refl) (rw e refl))
-  | inr f ↦ rw f (long (rw e f) (rw (e, f) refl) refl)
-]
-
-pub number_sees : (start p : Position) (b n : List ℕ) → ends_line n ≡ true → NumberSees start p b n (number start (b ++ n) p)
-unfolding is_decimal_digit number
-number_sees start p b n h =
-    let number_is_read : number start (b ++ n) p ≡ number_read start p (b ++ n) = grind (arith, digits_run, after, further) in
-    let none : begins_in is_decimal_digit n ≡ false = none_at_end is_decimal_digit refl refl n h in
-    let q = before_end is_decimal_digit b n none in
-    rw (number_is_read, q.0, q.1) (digit_by start p b n (leading is_decimal_digit b) [] refl)
 
 -- ---- a handle
 
@@ -156,12 +108,9 @@ pub not_at_end : (k : ℕ) → (0 == k) ≡ false → (10 == k) ≡ false → (1
 not_at_end k nul lf cr [] h = nul
 not_at_end k nul lf cr (c ∷ n) h = none_at_end (λ d. d == k) lf cr (c ∷ n) h
 
-no_second_mark : (w s : List ℕ) → begins_with_mark s ≡ false → name_and_mark (33 ∷ []) w s ≡ (33 ∷ w, s)
-no_second_mark w a h = grind arith
-
 -- a name without a second mark is no handle
 pub no_handle : (c : ℕ) (w r : List ℕ) → leading classes.is_alpha r ≡ c ∷ w → begins_with_mark (after classes.is_alpha r) ≡ false → is_handle (handle_and_rest (33 ∷ r)).0 ≡ false
-no_handle c w r lead none = rw (lead, no_second_mark (c ∷ w) (after classes.is_alpha r) none) ((marked c w (ap (all_of classes.is_alpha) (sym lead) ∙ all_leading classes.is_alpha r)).0)
+no_handle c w r lead none = let alone = (marked c w (ap (all_of classes.is_alpha) (sym lead) ∙ all_leading classes.is_alpha r)).0 in grind (arith, alone)
 
 module _ (start p : Position) (r n : List ℕ) (ends : ends_line n ≡ true) where
   -- none stands there

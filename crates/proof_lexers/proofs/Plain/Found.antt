@@ -55,8 +55,7 @@ begins_break (c ∷ r) = is_break c
 pub feed_breaks : (c : ℕ) (gap rest : List ℕ) → is_before_line_feed c (gap ++ rest) ≡ true → begins_break rest ≡ false → has_break gap ≡ true
 unfolding is_break
 feed_breaks c [] [] h ends = cc
-feed_breaks c [] (d ∷ r) h ends = grind arith
-feed_breaks c (d ∷ gap) rest h ends = grind arith
+feed_breaks c gap rest h ends = grind arith
 
 module _ (ctx : Context) (start : Position) where
   -- The text after a position in a scalar has a TAB at a line's start and content after it; or, after such a TAB, it is content.

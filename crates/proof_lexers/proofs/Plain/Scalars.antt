@@ -1,12 +1,12 @@
 -- Plain scalars are read as their values, and no other text is.
-use Rattle.proof_lexers.proofs.Common.{[], and_parts, ap, arith, At, at_dash, begins_left, begins_solid, Bool, by_column, by_dash, by_tab, cases_Bool, collection_of, Context, EndsAs, false, Fault, Folded, goes_on, goes_over, has_document_marker, has_no_nul, HasTab, inl, inr, is_indented, is_shallow, is_white, IsPlainRead, IsPlainRefusal, joined, List, nat_lt, nat_tests, not-true, nothing, or_parts, Plain, plain, plain_from, plain_value, PlainScalarsAreRead, PlainScansEndAsTheirTextSays, Position, position_after, Read, reads, refl, refuses, Result, Some, stand_after, stops, suc, sym, true, whole_plain, with_char, ℕ, ◌&&◌, ◌++◌, ◌+◌, ◌∙◌, ◌∷◌, ◌≡◌, after_blank, append-nil, at_marker, can_be_plain, ends_at_colon, ends_plain, eqb-true, is_apart, is_blank, is_break, not, Ok, on_line, slice_index, Stand, tabs, ◌==◌, ◌||◌, FlowIndentation, PlainDashInFlow, PlainTab, is_nul, same_break, same_blank}
+use Rattle.proof_lexers.proofs.Common.{[], and_parts, ap, arith, At, at_dash, begins_left, Bool, by_column, by_dash, by_tab, cases_Bool, collection_of, Context, EndsAs, false, Fault, Folded, goes_over, has_no_nul, HasTab, inl, inr, is_indented, is_shallow, is_white, IsPlainRead, IsPlainRefusal, joined, List, nat_lt, nat_tests, not-true, nothing, or_parts, Plain, plain, plain_value, PlainScalarsAreRead, PlainScansEndAsTheirTextSays, Position, position_after, Read, reads, refl, refuses, Result, Some, stand_after, stops, suc, sym, true, whole_plain, with_char, ℕ, ◌&&◌, ◌++◌, ◌+◌, ◌∙◌, ◌∷◌, ◌≡◌, after_blank, append-nil, at_marker, can_be_plain, ends_at_colon, ends_plain, eqb-true, is_apart, is_blank, is_break, not, Ok, on_line, slice_index, Stand, tabs, ◌==◌, ◌||◌, FlowIndentation, PlainDashInFlow, PlainTab, is_nul, same_break, same_blank}
 use Rattle.defs_token.specs.Plain as defs
 use Rattle.model_scanner.specs.Machine as machine
-use Rattle.model_scanner.specs.Plain.{inside, first, starts, between}
+use Rattle.model_scanner.specs.Plain.{inside, starts, between}
 use Rattle.proof_lexers.specs.PlainEnds.{IsScalarRead, just}
 use Rattle.proof_lexers.proofs.Ends.{ends_also}
 use Rattle.proof_row.proofs.Plains.{plains}
-use Rattle.proof_lexers.proofs.Plain.Turns.{after_blanks, after_more, after_tab, after_text, as_deep, at_feed, at_line, at_tabs, blank_step, break_step, can_be, content_char, content_step, dash, dash_parts, dash_untabbed, dashed, ends_comment, ends_over, Fails, fails, flow_untabbed, Found, found, found_here, in_line, in_line_position, in_text, line_is, no_lead, no_line, off_margin, Outcome, outcome, past_content, same_left, scan, Scans, solid_first, stopped, tab, Tabbed, tabbed, went}
+use Rattle.proof_lexers.proofs.Plain.Turns.{after_blanks, after_tab, after_text, as_deep, at_feed, at_line, at_tabs, blank_step, break_step, can_be, content_char, content_step, dash, dash_parts, dash_untabbed, dashed, ends_comment, ends_over, Fails, fails, flow_untabbed, Found, found, found_here, in_line, in_line_position, in_text, line_is, no_lead, no_line, off_margin, Outcome, outcome, past_content, same_left, scan, Scans, solid_first, stopped, tab, Tabbed, tabbed, went}
 use Rattle.proof_lexers.proofs.Plain.Values.{no_markers, value_is}
 use Rattle.defs_text.specs.Classes as classes
 use Rattle.proof_lexers.proofs.Separation.Separations.{no_hash}
@@ -136,12 +136,6 @@ module _ (ctx : Context) (start : Position) (c : ℕ) (a : List ℕ) (white : is
   break : classes.is_break c ≡ false
   break = (or_parts (classes.is_blank c) (classes.is_break c) white).1
 
-  abbrev read_first : Folded
-  read_first = with_char c (joined nothing)
-
-  no_marker : (more next : List ℕ) → goes_on ctx.flow (collection_of ctx.indent) defs.inside more next ≡ true → has_document_marker (c ∷ more) ≡ false
-  no_marker more next h = rw (break, no_markers ctx.flow (collection_of ctx.indent) defs.inside more next h) refl
-
   after_first : (more rest : List ℕ) → position_after (machine.past start) more rest ≡ position_after start (c ∷ more) rest
   after_first more rest = ap (λ q. position_after q more rest) (sym (in_line_position c (more ++ rest) start (rw break refl)))
 
@@ -165,19 +159,13 @@ module _ (ctx : Context) (start : Position) (c : ℕ) (a : List ℕ) (white : is
       by_tab deep (record { before = c ∷ before; blanks = blanks; rest = rest; column = column; is_text = ap (λ r. c ∷ r) cut; is_over = goes; is_at = stand_is before ∙ line; is_left = less; are_blanks = are; is_token = solid })
   refusal deep f (tabbed (after_tab blanks rest no_tab cut are solid)) = cc
 
-  ended : begins_left ctx start ≡ false → (x : Result (Read Plain) Fault) → Found ctx start false defs.inside (machine.past start) read_first a x → EndsAs (IsPlainRead ctx start (c ∷ a)) (IsPlainRefusal ctx start (c ∷ a)) x
+  ended : begins_left ctx start ≡ false → (x : Result (Read Plain) Fault) → Found ctx start false defs.inside (machine.past start) (with_char c (joined nothing)) a x → EndsAs (IsPlainRead ctx start (c ∷ a)) (IsPlainRefusal ctx start (c ∷ a)) x
   ended deep x (found more gap rest cut goes solid stop gaps ends is) =
       let content = solid_first ctx start c more white solid in
-      let stopping : stops ctx.flow (collection_of ctx.indent) defs.inside (gap ++ rest) ≡ true = inside_too more stop in
-      reads _ (whole_plain (c ∷ more) gap rest _ (ap (λ r. c ∷ r) cut) (rw (goes, content, stopping) refl) gaps ends (value_is c more (no_marker more (gap ++ rest) goes) content))
+      let stopping : stops ctx.flow (collection_of ctx.indent) defs.inside (gap ++ rest) ≡ true = grind (arith, stop) in
+      reads _ (whole_plain (c ∷ more) gap rest _ (ap (λ r. c ∷ r) cut) (rw (goes, content, stopping) refl) gaps ends (value_is c more (rw (break, no_markers ctx.flow (collection_of ctx.indent) defs.inside more (gap ++ rest) goes) refl) content))
       (is ∙ same_left ctx start rest _ _ _ _ _ _ (after_first (more ++ gap) rest) (ap (λ u. (after_text more u).text) (content_char ctx start c more nothing break blank)) (no_lead ctx start c more gap nothing))
-    where
-      inside_too : (more : List ℕ) → stops ctx.flow (collection_of ctx.indent) (after_more defs.inside more) (gap ++ rest) ≡ true → stops ctx.flow (collection_of ctx.indent) defs.inside (gap ++ rest) ≡ true
-      inside_too a h = grind arith
   ended deep x (fails f why is) = refuses f (refusal deep f why) is
-
-  begun : begins_left ctx start ≡ false → has_no_nul a ≡ true → is_indented ctx start ≡ true → EndsAs (IsPlainRead ctx start (c ∷ a)) (IsPlainRefusal ctx start (c ∷ a)) (plain_from ctx start (c ∷ a) (record { mode = first; position = start; folded = nothing }))
-  begun left full indented = ended left _ (scans ctx start a full inside defs.inside (machine.past start) read_first (in_line (c ∷ []) refl (off_margin start.col) (deep ctx start indented)))
 
   started : (column at : Bool) → (ctx.flow && nat_lt start.col ctx.indent) ≡ column → at_dash ctx.flow (c ∷ a) ≡ at → has_no_nul a ≡ true → is_indented ctx start ≡ true → EndsAs (IsPlainRead ctx start (c ∷ a)) (IsPlainRefusal ctx start (c ∷ a)) (plain ctx (c ∷ a) start)
   unfolding plain starts
@@ -185,7 +173,8 @@ module _ (ctx : Context) (start : Position) (c : ℕ) (a : List ℕ) (white : is
   started false true e f full indented =
       let q = dash_parts ctx start ctx.flow c a f in
       refuses (At PlainDashInFlow start) (by_dash [] a e (λ t. flow_untabbed ctx start a defs.inside q.0 q.2 (tab_later t)) q.0 (ap (λ d. d ∷ a) q.1) q.2 refl refl) (rw (e, f) refl)
-  started false false e f full indented = rw (e, f) (begun e full indented)
+  started false false e f full indented =
+      rw (e, f) (ended e _ (scans ctx start a full inside defs.inside (machine.past start) (with_char c (joined nothing)) (in_line (c ∷ []) refl (off_margin start.col) (deep ctx start indented))))
 
 pub scans_end : PlainScansEndAsTheirTextSays
 scans_end ctx [] p full solid indented = cc
@@ -195,7 +184,7 @@ scans_end ctx (c ∷ a) p full solid indented =
 -- ---- the whole of a plain scalar
 
 pub scalars_read : PlainScalarsAreRead
-scalars_read ctx piece next value p full solid indented whole is = ends_also by (λ f why. why) (scans_end ctx (piece ++ next) p full (begins piece solid) indented)
+scalars_read ctx piece next value p full solid indented whole is = ends_also by (λ f why. why) (scans_end ctx (piece ++ next) p full (grind arith) indented)
   where
     by : (r : Read Plain) → IsPlainRead ctx p (piece ++ next) r → IsScalarRead p piece next value r
     by r (whole_plain u gap rest text cut other gaps ends has) =
@@ -203,6 +192,3 @@ scalars_read ctx piece next value p full solid indented whole is = ends_also by 
         let same : Some text ≡ Some value = sym has ∙ ap plain_value (sym z.0) ∙ is in
         let value_is : text ≡ value = cc in
         rw (sym z.0, value_is) (just gap rest z.1 gaps ends)
-
-    begins : (piece : List ℕ) → begins_solid piece ≡ true → begins_solid (piece ++ next) ≡ true
-    begins a h = grind arith

@@ -90,28 +90,24 @@ module _ (ctx : Context) (start : Position) where
   pub break_step : (c : ℕ) (a : List ℕ) (u : Bool) (m : Mode) (s : Stand) (p : Position) (t : Folded) (x : Result (Read Plain) Fault) → is_break c ≡ true → Scans a
       → x ≡ plain_from ctx start a (at_break c a (record { mode = m; position = p; folded = t })) → Found ctx start u s p t (c ∷ a) x
   unfolding classes.is_break classes.is_blank
-  break_step c a u m s p t x e ih is = elim (cases_Bool (is_cr_lf c a)) [
-    | inl f ↦
-        let z = feeds a f in
-        let g : is_before_line_feed c a ≡ true = sym (same_feed c a) ∙ f in
-        gap_step c a u between s (on_line 0) p (past p) t t x white (rw breaks refl) (in_line_position c a p (rw g (and_false (classes.is_break c)))) (rw (breaks, g) refl) (λ b r k. cc) moves ih (at_feed 0 z.0 z.1) (rw f at is)
-    | inr f ↦
-        let g : is_before_line_feed c a ≡ false = sym (same_feed c a) ∙ f in
-        gap_step c a u between s (on_line 0) p (past_break p) t (with_break t) x white (rw breaks refl) (line_position c a p (rw (breaks, g) refl)) (rw (breaks, g) refl) (λ b r k. cc) moves ih (at_line 0 refl (elim (cases_Bool t.leading) [ inl e ↦ rw e refl | inr e ↦ rw e refl ])) (rw f at is)
-  ]
+  break_step c a u m s p t x e ih is =
+      let breaks : classes.is_break c ≡ true = same_break c ∙ e in
+      let white : is_white c ≡ true = rw breaks (or_true (classes.is_blank c)) in
+      let moves : Moves ctx start c a u false s =
+      record { begins = λ k i l h. absurd (grind (arith, (ap classes.is_blank i ∙ tab_blank))); goes_further = λ i b. absurd (grind (arith, b)); is_no_token = λ i. rw white refl } in
+      elim (cases_Bool (is_cr_lf c a)) [
+        | inl f ↦
+            let z = feeds a f in
+            let g : is_before_line_feed c a ≡ true = sym (same_feed c a) ∙ f in
+            gap_step c a u between s (on_line 0) p (past p) t t x white (rw breaks refl) (in_line_position c a p (rw g (and_false (classes.is_break c)))) (rw (breaks, g) refl) (λ b r k. cc) moves ih (at_feed 0 z.0 z.1) (rw f at is)
+        | inr f ↦
+            let g : is_before_line_feed c a ≡ false = sym (same_feed c a) ∙ f in
+            gap_step c a u between s (on_line 0) p (past_break p) t (with_break t) x white (rw breaks refl) (line_position c a p (rw (breaks, g) refl)) (rw (breaks, g) refl) (λ b r k. cc) moves ih (at_line 0 refl (elim (cases_Bool t.leading) [ inl e ↦ rw e refl | inr e ↦ rw e refl ])) (rw f at is)
+      ]
     where
-      breaks : classes.is_break c ≡ true
-      breaks = same_break c ∙ e
-
-      white : is_white c ≡ true
-      white = rw breaks (or_true (classes.is_blank c))
-
       feeds : (b : List ℕ) → is_cr_lf c b ≡ true → (d : List ℕ) × (b ≡ 10 ∷ d)
       feeds [] h = let no : false ≡ true = sym (and_false (c == 13)) ∙ h in cc
       feeds (d ∷ b) h = let q = and_parts (c == 13) (d == 10) h in (b, ap (λ k. k ∷ b) (eqb-true d 10 q.1))
-
-      moves : Moves ctx start c a u false s
-      moves = record { begins = λ k i l h. absurd (grind (arith, breaks, (ap classes.is_blank i ∙ tab_blank))); goes_further = λ i b. absurd (grind (arith, breaks, b)); is_no_token = λ i. rw white refl }
 
   -- blanks
   pub blank_step : (c : ℕ) (a : List ℕ) (u : Bool) (m n : Mode) (s next : Stand) (p : Position) (t : Folded) (x : Result (Read Plain) Fault) → is_break c ≡ false → is_blank c ≡ true → defs.past_blank s ≡ next

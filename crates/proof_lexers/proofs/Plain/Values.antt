@@ -1,5 +1,5 @@
 -- The buffers after a plain scalar have its value, and no line of it begins with a document marker.
-use Rattle.proof_lexers.proofs.Common.{[], after_element, after_elements, and_parts, ap, append-nil, are_marks, arith, begins_with_marker, blank, Bool, break_further, cases_Bool, content, drop, Element, elements, ends_with_content, eqb-true, false, Folded, goes_on, has_document_marker, if◌then◌else◌, inl, inr, is_before_line_feed, is_blank_or_end, joined, line_break, List, nat_tests, nothing, on_line, Option, or-true, plain_element, plain_value, refl, Some, Spelled, Stand, suc, sym, true, with_break, zero, ℕ, ◌∙◌, ◌∷◌, ◌≡◌}
+use Rattle.proof_lexers.proofs.Common.{[], after_element, after_elements, and_parts, ap, append-nil, are_marks, arith, begins_with_marker, blank, Bool, break_further, cases_Bool, content, drop, Element, elements, ends_with_content, eqb-true, false, Folded, goes_on, has_document_marker, if◌then◌else◌, inl, inr, is_before_line_feed, is_blank_or_end, joined, line_break, List, nat_tests, nothing, on_line, Option, or-true, plain_element, plain_value, refl, Some, Stand, suc, sym, true, with_break, zero, ℕ, ◌∙◌, ◌∷◌, ◌≡◌}
 use Rattle.defs_text.specs.Classes.{is_blank, is_break}
 use Rattle.defs_token.specs.Plain.{past}
 use Rattle.proof_lexers.proofs.Fold.{buffers_join}
@@ -13,10 +13,7 @@ record Elements (n : ℕ) (a : List ℕ) : Type 0 where
   are : elements plain_element n a ≡ Some all
   same : (t : Folded) → after_elements all t ≡ after_text (drop n a) t
 
-abbrev spelled : Element → ℕ → Spelled
-spelled e k = record { element = e; further = k }
-
-one_more : (c : ℕ) (a : List ℕ) (e : Element) (k : ℕ) → plain_element c a ≡ Some (spelled e k) → ((t : Folded) → after_text (drop k a) (after_element e t) ≡ after_text (c ∷ a) t) → Elements k a → Elements 0 (c ∷ a)
+one_more : (c : ℕ) (a : List ℕ) (e : Element) (k : ℕ) → plain_element c a ≡ Some (record { element = e; further = k }) → ((t : Folded) → after_text (drop k a) (after_element e t) ≡ after_text (c ∷ a) t) → Elements k a → Elements 0 (c ∷ a)
 one_more c a e k is same z = record { all = e ∷ z.all; are = rw (is, z.are) refl; same = λ t. z.same (after_element e t) ∙ same t }
 
 feed_text : (b : List ℕ) (t : Folded) → after_text b (with_break t) ≡ after_text (10 ∷ b) t
@@ -34,10 +31,9 @@ first_element c a others = elim (cases_Bool (is_break c)) [
 ]
 
 elements_of : (n : ℕ) (a : List ℕ) → Elements n a
-elements_of zero [] = record { all = []; are = refl; same = λ t. refl }
-elements_of (suc n) [] = record { all = []; are = refl; same = λ t. refl }
 elements_of (suc n) (c ∷ a) = let z = elements_of n a in record { all = z.all; are = z.are; same = z.same }
 elements_of zero (c ∷ a) = first_element c a (λ k. elements_of k a)
+elements_of n a = record { all = []; are = refl; same = λ t. refl }
 
 -- after content
 joined_solid : (c : ℕ) (r : List ℕ) (t : Folded) → ends_with_content c r ≡ true → (joined (after_text (c ∷ r) t)).text ≡ (after_text (c ∷ r) t).text

@@ -4,13 +4,9 @@ use Rattle.model_scanner.specs.Anchor.{some_name, anchor_name}
 use Rattle.defs_token.specs.Piece.{goes_on_with_name}
 use Rattle.proof_lexers.specs.NameEnds.{named}
 
-same_name : (c : ℕ) → is_anchor_name c ≡ is_anchor c
-unfolding is_anchor_name is_anchor
-same_name c = rw (same_gap c, same_flow c) refl
-
 read_by : (c : ℕ) (text : List ℕ) (p : Position) → anchor_name (c ∷ text) p ≡ some_name p (record { rest = after is_anchor_name text; position = further (length (leading is_anchor_name text)) (past p); value = leading is_anchor_name text })
-unfolding anchor_name
-read_by c text p = ap (some_name p) (taken is_anchor_name is_anchor same_name text (past p) [])
+unfolding anchor_name is_anchor_name is_anchor
+read_by c text p = ap (some_name p) (taken is_anchor_name is_anchor (λ c. rw (same_gap c, same_flow c) refl) text (past p) [])
 
 pub names_are_read : NamesAreRead
 names_are_read c a rest p h e = grind (arith, leading_all, read_by, same_place)

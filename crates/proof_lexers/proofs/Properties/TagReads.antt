@@ -1,21 +1,18 @@
--- Each tag is read as it is written.
-use Rattle.proof_lexers.proofs.Common.{[], after, after_class, after_name, after_tag, all_of, and_parts, and_then, ap, append_assoc, Bool, cases_Bool, codes, decoded, eqb-true, Err, false, further, inl, inr, is_empty, is_same, is_tag, leading, length, length-append, List, may_follow, named, None, Ok, or_cases, past, Position, read_tag, refl, Result, shorthand, slice_index, Some, sym, tag_end, tag_of_class, TagsAreRead, true, uri, uri_character, UriFault, verbatim, ℕ, ◌&&◌, ◌++◌, ◌==◌, ◌∙◌, ◌∷◌, ◌≡◌, arith, is_blank_or_end, is_decimal_digit, is_letter, all_leading, before_end, begins_in, leading_all, span_cut}
+-- Each tag is read as it is written: a text begins with one tag at most, and is refused only where it begins with none.
+use Rattle.proof_lexers.proofs.Common.{[], after, after_tag, Fault, Position, Read, all_of, and_parts, ap, append_assoc, at_start, Bool, cases_Bool, codes, decoded, eqb-true, Err, false, inl, inr, is_empty, is_nul, is_same, IsTagRefusal, leading, leading_none, List, local_goes_on, local_octets, may_follow, no_suffix, None, Ok, Problem, reads, refl, refuses, Result, Some, sym, suffix_goes_on, suffix_octets, tag_of_class, TagsAreRead, true, uri_character, UriFault, verbatim_goes_on, verbatim_octets, whole_tag, written_tag, ℕ, ◌++◌, ◌==◌, ◌∙◌, ◌∷◌, ◌≡◌, arith, is_blank_or_end, is_decimal_digit, is_letter, all_leading, before_end, begins_in, leading_all, span_cut}
+use Rattle.proof_lexers.specs.TagEnds.{unclosed}
 use Rattle.defs_text.specs.Classes as classes
 use Rattle.defs_text.specs.Tags as defs
-use Rattle.model_scanner.specs.Tag.{tag}
-use Rattle.proof_row.proofs.Texts.{gaps, flows}
-use Rattle.proof_lexers.proofs.Properties.Uris.{uris_are_read}
+use Rattle.model_scanner.specs.Tag.{Tag}
 use Rattle.proof_lexers.proofs.Directives.Lines.{same_text}
-use Rattle.proof_lexers.proofs.Properties.Tags.{word, same_end, close_is_no_uri, closed_position, local_position, named_position, alpha_starts, decoded_some, same_empty, decoded_word}
+use Rattle.proof_row.proofs.TagEnds.{alpha_goes_on, goes_on, tag_goes_on, tags}
+use Rattle.proof_lexers.proofs.Properties.Tags.{alpha_starts, close_is_no_uri, tags_end}
 
--- what follows a tag is of no class that has none of these ten characters
-follower : (class : ℕ → Bool) (flow : Bool) (rest : List ℕ) → may_follow flow rest ≡ true → class 32 ≡ false → class 9 ≡ false → class 10 ≡ false → class 13 ≡ false → class 0 ≡ false
-    → class 44 ≡ false → class 91 ≡ false → class 93 ≡ false → class 123 ≡ false → class 125 ≡ false → begins_in class rest ≡ false
-follower class flow [] h space tab feed carriage nul comma bracket bracketed brace braced = refl
-follower class flow (c ∷ r) h space tab feed carriage nul comma bracket bracketed brace braced = elim (or_cases (is_blank_or_end c) (flow && classes.is_flow c) h) [
-  | inl e ↦ gaps (λ d. class d ≡ false) c e space tab feed carriage nul
-  | inr e ↦ flows (λ d. class d ≡ false) c (and_parts flow (classes.is_flow c) e).1 comma bracket bracketed brace braced
-]
+-- what may follow a tag is of no class of characters that a tag goes on with
+follower : (class : ℕ → Bool) → ((c : ℕ) → class c ≡ true → goes_on c ≡ true) → (flow : Bool) (rest : List ℕ) → may_follow flow rest ≡ true
+    → begins_in class rest ≡ false
+follower class f flow [] h = refl
+follower class f flow (c ∷ r) h = grind (arith, f c)
 
 -- a tag whose suffix is written so
 of_class : (class : ℕ → Bool) (h t : List ℕ) (g : defs.Tag) → tag_of_class class h t ≡ Some g → (all_of class t ≡ true) × (decoded t ≡ Ok g.suffix) × (g.handle ≡ h)
@@ -30,85 +27,91 @@ tags_after : (a b : List ℕ) → all_of classes.is_tag (a ++ b) ≡ true → al
 tags_after [] b h = h
 tags_after (c ∷ a) b h = tags_after a b (and_parts (classes.is_tag c) (all_of classes.is_tag (a ++ b)) h).1
 
-module _ (flow : Bool) (rest : List ℕ) (g : defs.Tag) (p : Position) (follows : may_follow flow rest ≡ true) where
-  mark_ends : begins_in (λ c. c == 33) rest ≡ false
-  mark_ends = follower (λ c. c == 33) flow rest follows refl refl refl refl refl refl refl refl refl refl
+module _ (flow : Bool) (rest : List ℕ) (follows : may_follow flow rest ≡ true) where
+  ends_at : (k : ℕ) → goes_on k ≡ true → begins_in (λ c. c == k) rest ≡ false
+  ends_at k h = follower (λ c. c == k) (λ c e. rw (eqb-true c k e) h) flow rest follows
 
-  -- no mark and no angle bracket stands after a text that begins with none
-  none_after : (a : List ℕ) (k : ℕ) → begins_in (λ c. c == k) a ≡ false → begins_in (λ c. c == k) rest ≡ false → (0 == k) ≡ false → (slice_index (a ++ rest) 0 == k) ≡ false
-  none_after (c ∷ a) k h e z = h
-  none_after [] k h e z = at_end rest e
-    where
-      at_end : (r : List ℕ) → begins_in (λ c. c == k) r ≡ false → (slice_index r 0 == k) ≡ false
-      at_end r h = grind arith
+  ends_alpha : begins_in classes.is_alpha rest ≡ false
+  ends_alpha = follower classes.is_alpha alpha_goes_on flow rest follows
 
-  suffix_of : (q : Position) (l before cs : List ℕ) → all_of classes.is_tag l ≡ true → decoded l ≡ Ok cs → uri is_tag p (l ++ rest) q before ≡ Ok (record { rest = rest; position = further (length l) q; value = before ++ cs })
-  unfolding classes.is_tag classes.is_uri is_decimal_digit is_letter classes.is_flow
-  suffix_of q l before cs all means = let z = leading_all classes.is_tag l rest all (follower classes.is_tag flow rest follows refl refl refl refl refl refl refl refl refl refl) in (uris_are_read p (l ++ rest) q before).1 ∙ ap (after_class classes.is_tag p q (l ++ rest) before) (ap decoded z.0 ∙ means) ∙ rw (z.0, z.1) refl
+  ends_tag : begins_in classes.is_tag rest ≡ false
+  ends_tag = follower classes.is_tag tag_goes_on flow rest follows
 
-  abbrev Reads : List ℕ → Type 0
-  Reads piece = tag flow (33 ∷ (piece ++ rest)) p ≡ Ok (after_tag p (33 ∷ piece) rest g.handle g.suffix)
+  -- A text that begins with a verbatim tag; or with one that has a name or none, and a suffix after a second mark or no other mark.
+  data Begins (a : List ℕ) : Type 0 where
+    verbatim_tag : (b cs : List ℕ) → a ≡ 60 ∷ b → decoded (leading classes.is_uri b) ≡ Ok cs → after classes.is_uri b ≡ 62 ∷ rest → Begins a
+    named_tag : (b cs : List ℕ) → begins_in (λ c. c == 60) a ≡ false → after classes.is_alpha a ≡ 33 ∷ b
+        → is_empty (leading classes.is_tag b) ≡ false → decoded (leading classes.is_tag b) ≡ Ok cs → after classes.is_tag b ≡ rest
+        → Begins a
+    local_tag : (b cs : List ℕ) → begins_in (λ c. c == 60) a ≡ false → after classes.is_alpha a ≡ b → begins_in (λ c. c == 33) b ≡ false
+        → decoded (leading classes.is_tag b) ≡ Ok cs → after classes.is_tag b ≡ rest → Begins a
 
-  -- verbatim tags
-  verbatim_read : (b : List ℕ) → defs.verbatim b ≡ Some g → Reads (60 ∷ b)
-  unfolding tag verbatim
-  verbatim_read b h = elim (cases_Bool (is_same (after classes.is_uri b) (codes ">"))) [
+  verbatim_begins : (b : List ℕ) (g : defs.Tag) → defs.verbatim b ≡ Some g → Begins (60 ∷ (b ++ rest))
+  verbatim_begins b g h = elim (cases_Bool (is_same (after classes.is_uri b) (codes ">"))) [
     | inl e ↦
-        let u = leading classes.is_uri b in
-        let k = of_class classes.is_uri [] u g (rw e at h) in
-        let z = leading_all classes.is_uri u (62 ∷ rest) k.0 close_is_no_uri in
-        rw ((span_cut classes.is_uri b ∙ ap (λ r. u ++ r) (same_text (after classes.is_uri b) (codes ">") e)), append_assoc u (62 ∷ []) rest, (uris_are_read p (u ++ 62 ∷ rest) (past (past p)) []).0, z.0, k.1, z.0, z.1, same_end flow rest, follows, k.2) (ap (λ q. Ok (read_tag rest q [] g.suffix)) (closed_position p (length u) (length (u ++ 62 ∷ [])) (length-append u (62 ∷ []))))
+        let k = of_class classes.is_uri [] (leading classes.is_uri b) g (rw e at h) in
+        let z = leading_all classes.is_uri (leading classes.is_uri b) (62 ∷ rest) k.0 close_is_no_uri in
+        let cut : b ++ rest ≡ leading classes.is_uri b ++ 62 ∷ rest =
+        ap (λ x. x ++ rest) (span_cut classes.is_uri b ∙ ap (λ x. leading classes.is_uri b ++ x) (same_text (after classes.is_uri b) (codes ">") e)) ∙ append_assoc (leading classes.is_uri b) (62 ∷ []) rest in
+        verbatim_tag (b ++ rest) g.suffix refl (rw (cut, z.0) k.1) (rw cut z.1)
     | inr e ↦ let no : None ≡ Some g = rw e at h in cc
   ]
 
-  -- ---- shorthands
-
-  abbrev ReadsOn : (name m : List ℕ) → Type 0
-  ReadsOn name m = and_then (after_name p name (m ++ rest) (further (length name) (past p))) (λ r. tag_end flow p r) ≡ Ok (after_tag p (33 ∷ (name ++ m)) rest g.handle g.suffix)
-
-  -- after a name and a second mark
-  named_read : (name m : List ℕ) → defs.begins_with_mark m ≡ true → defs.named name m ≡ Some g → ReadsOn name m
-  unfolding named
-  named_read name (x ∷ c ∷ t) mark h =
-      let k = of_class classes.is_tag (codes "!" ++ name ++ codes "!") (c ∷ t) g h in
-      let some : is_empty g.suffix ≡ false = decoded_some c t g.suffix k.1 in
+  named_begins : (a m : List ℕ) (g : defs.Tag) → begins_in (λ c. c == 60) (a ++ rest) ≡ false
+      → after classes.is_alpha (a ++ rest) ≡ m ++ rest → defs.begins_with_mark m ≡ true
+      → defs.named (leading classes.is_alpha a) m ≡ Some g → Begins (a ++ rest)
+  named_begins a (x ∷ d ∷ s) g e f mark h =
+      let k = of_class classes.is_tag (codes "!" ++ leading classes.is_alpha a ++ codes "!") (d ∷ s) g h in
+      let z = leading_all classes.is_tag (d ∷ s) rest k.0 ends_tag in
       let second : x ≡ 33 = eqb-true x 33 mark in
-      rw (second, suffix_of (past (further (length name) (past p))) (c ∷ t) [] g.suffix k.0 k.1, some, same_end flow rest, follows, k.2, named_position p (length name) (length (c ∷ t)) (length (name ++ 33 ∷ c ∷ t)) (length-append name (33 ∷ c ∷ t))) refl
-  named_read name _ mark h = cc
+      named_tag (d ∷ (s ++ rest)) g.suffix e (rw second at f) (rw z.0 refl) (rw z.0 k.1) z.1
+  named_begins a _ g e f mark h = cc
 
-  -- after a name and no mark
-  local_read : (name m : List ℕ) → all_of classes.is_alpha name ≡ true → defs.begins_with_mark m ≡ false → is_empty (name ++ m) ≡ false → tag_of_class classes.is_tag (codes "!") (name ++ m) ≡ Some g → ReadsOn name m
-  local_read name m all unmarked some h = by (decoded m) refl (of_class classes.is_tag (codes "!") (name ++ m) g h)
+  local_begins : (a m : List ℕ) (g : defs.Tag) → begins_in (λ c. c == 60) (a ++ rest) ≡ false
+      → after classes.is_alpha (a ++ rest) ≡ m ++ rest → a ≡ leading classes.is_alpha a ++ m → defs.begins_with_mark m ≡ false
+      → (all_of classes.is_tag a ≡ true) × (decoded a ≡ Ok g.suffix) × (g.handle ≡ codes "!") → Begins (a ++ rest)
+  unfolding is_blank_or_end classes.is_blank classes.is_break is_nul classes.is_flow
+  local_begins a m g e f cut mark k =
+      by (decoded m) refl (leading_all classes.is_tag m rest (tags_after (leading classes.is_alpha a) m (rw (← cut) k.0)) ends_tag)
     where
-      by : (d : Result (List ℕ) UriFault) → decoded m ≡ d → (all_of classes.is_tag (name ++ m) ≡ true) × (decoded (name ++ m) ≡ Ok g.suffix) × (g.handle ≡ codes "!") → ReadsOn name m
-      by (Err f) e k = absurd (cc (k.1, word_fails name m f all e))
-      by (Ok cs) e k =
-          let whole : name ++ cs ≡ g.suffix = cc (k.1, decoded_word name m cs all e) in
-          rw (none_after m 33 (cc) mark_ends refl, suffix_of (further (length name) (past p)) m name cs (tags_after name m k.0) e, same_empty name m cs e ∙ some, same_end flow rest, follows, whole, k.2, local_position p (length name) (length m) (length (name ++ m)) (length-append name m)) refl
+      by : (d : Result (List ℕ) UriFault) → decoded m ≡ d
+          → (leading classes.is_tag (m ++ rest) ≡ m) × (after classes.is_tag (m ++ rest) ≡ rest) → Begins (a ++ rest)
+      by (Ok cs) i z = local_tag (m ++ rest) cs e f (let no = ends_at 33 refl in grind (arith, no)) (rw z.0 i) z.1
+      by (Err j) i z = absurd (cc (k.1, cut, word_fails (leading classes.is_alpha a) m j (all_leading classes.is_alpha a) i))
 
-  -- a text that begins no verbatim tag
-  shorthand_here : (a : List ℕ) → begins_in (λ c. c == 60) a ≡ false → tag flow (33 ∷ (a ++ rest)) p
-      ≡ and_then (after_name p (leading classes.is_alpha a) (after classes.is_alpha a ++ rest) (further (length (leading classes.is_alpha a)) (past p))) (λ r. tag_end flow p r)
-  unfolding tag shorthand classes.is_alpha is_decimal_digit is_letter
-  shorthand_here a e = let z = before_end classes.is_alpha a rest (follower classes.is_alpha flow rest follows refl refl refl refl refl refl refl refl refl refl) in rw (none_after a 60 e (follower (λ c. c == 60) flow rest follows refl refl refl refl refl refl refl refl refl refl) refl, word (a ++ rest) (past p) [], z.0, z.1) refl
+  tag_begins : (a : List ℕ) (g : defs.Tag) → written_tag (33 ∷ a) ≡ Some g → Begins (a ++ rest)
+  unfolding is_blank_or_end classes.is_blank classes.is_break is_nul classes.is_flow
+  tag_begins [] g h = local_tag rest [] (ends_at 60 refl) (leading_none classes.is_alpha rest ends_alpha).1 (ends_at 33 refl) (ap decoded (leading_none classes.is_tag rest ends_tag).0) (leading_none classes.is_tag rest ends_tag).1
+  tag_begins (c ∷ a) g h = elim (cases_Bool (c == 60)) [
+    | inl e ↦ rw (eqb-true c 60 e) (verbatim_begins a g (rw e at h))
+    | inr e ↦ let z = before_end classes.is_alpha (c ∷ a) rest ends_alpha in elim (cases_Bool (defs.begins_with_mark (after classes.is_alpha (c ∷ a)))) [
+      | inl f ↦ named_begins (c ∷ a) (after classes.is_alpha (c ∷ a)) g e z.1 f (rw (e, f) at h)
+      | inr f ↦ local_begins (c ∷ a) (after classes.is_alpha (c ∷ a)) g e z.1 (span_cut classes.is_alpha (c ∷ a)) f (of_class classes.is_tag (codes "!") (c ∷ a) g (rw (e, f) at h))
+    ]
+  ]
 
-  shorthand_read : (a : List ℕ) → begins_in (λ c. c == 60) a ≡ false → defs.shorthand a ≡ Some g → Reads a
-  shorthand_read [] e h =
-      let same : record { handle = []; suffix = codes "!" } ≡ g = cc in
-      shorthand_here [] e ∙ rw (← same, none_after [] 33 refl mark_ends refl, suffix_of (further 0 (past p)) [] [] [] refl refl, same_end flow rest, follows, local_position p 0 0 0 refl) refl
-  shorthand_read (c ∷ t) e h =
-      let name = leading classes.is_alpha (c ∷ t) in
-      let m = after classes.is_alpha (c ∷ t) in
-      let cut : c ∷ t ≡ name ++ m = span_cut classes.is_alpha (c ∷ t) in
-      let on : ReadsOn name m = elim (cases_Bool (defs.begins_with_mark m)) [
-        | inl i ↦ named_read name m i (rw i at h)
-        | inr i ↦ local_read name m (all_leading classes.is_alpha (c ∷ t)) i (ap is_empty (sym cut)) (ap (tag_of_class classes.is_tag (codes "!")) (sym cut) ∙ (rw i at h))
-      ] in
-      shorthand_here (c ∷ t) e ∙ on ∙ ap (λ l. Ok (after_tag p (33 ∷ l) rest g.handle g.suffix)) (sym cut)
+  -- it has no reason to be refused
+  unrefused : (a : List ℕ) (why : Problem) → IsTagRefusal flow a why → Begins a → ⊥
+  unfolding classes.is_alpha is_decimal_digit is_letter
+  unrefused a _ (verbatim_octets r f cut e) z = grind arith
+  unrefused a _ (unclosed r u cut e f) z = grind arith
+  unrefused a _ (verbatim_goes_on r u more cut e f g) z = grind (arith, follows)
+  unrefused a _ (suffix_octets name r f cut all e) z = let y = leading_all classes.is_alpha name (33 ∷ r) all refl in grind (arith, y)
+  unrefused a _ (no_suffix name r cut all e) z = let y = leading_all classes.is_alpha name (33 ∷ r) all refl in grind (arith, y)
+  unrefused a _ (suffix_goes_on name r s cut all e f g) z = let y = leading_all classes.is_alpha name (33 ∷ r) all refl in grind (arith, y, follows)
+  unrefused a _ (local_octets f b m e) z = grind arith
+  unrefused a _ (local_goes_on s b m e g) z = grind (arith, follows)
+
+same_read : (p : Position) (piece rest q y : List ℕ) (g k : defs.Tag) → (33 ∷ piece ≡ 33 ∷ q) × (rest ≡ y) → Some g ≡ Some k
+    → ◌≡◌ {A = Result (Read Tag) Fault} (Ok (after_tag p (33 ∷ q) y k.handle k.suffix)) (Ok (after_tag p (33 ∷ piece) rest g.handle g.suffix))
+same_read p piece rest q y g k e h = let tag_is : g ≡ k = cc in let piece_is : piece ≡ q = cc in rw (piece_is, e.1, tag_is) refl
 
 pub tags_are_read : TagsAreRead
-tags_are_read flow [] rest handle suffix p h follows = shorthand_read flow rest (record { handle = handle; suffix = suffix }) p follows [] refl h
-tags_are_read flow (c ∷ t) rest handle suffix p h follows = elim (cases_Bool (c == 60)) [
-  | inl e ↦ let angle : c ≡ 60 = eqb-true c 60 e in rw angle (verbatim_read flow rest (record { handle = handle; suffix = suffix }) p follows t (rw e at h))
-  | inr e ↦ shorthand_read flow rest (record { handle = handle; suffix = suffix }) p follows (c ∷ t) e (rw e at h)
+tags_are_read flow piece rest handle suffix p h follows = elim (tags_end flow (piece ++ rest) p) [
+  | reads r (whole_tag q y i s cut is k) e ↦
+      let g : defs.Tag = record { handle = handle; suffix = suffix } in
+      let other : defs.Tag = record { handle = i; suffix = s } in
+      let same = tags flow (33 ∷ piece) (33 ∷ q) rest y (g, h, follows) (other, is, k) (ap (λ x. 33 ∷ x) cut) in
+      e ∙ same_read p piece rest q y g other same (sym h ∙ ap written_tag same.0 ∙ is)
+  | refuses f (at_start why reason) e ↦ absurd (unrefused flow rest follows (piece ++ rest) why reason (tag_begins flow rest follows piece _ h))
 ]

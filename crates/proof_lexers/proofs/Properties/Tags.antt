@@ -1,5 +1,5 @@
 -- Tags are read as what is written, and no other text is.
-use Rattle.proof_lexers.proofs.Common.{[], after, after_class, after_name, all_of, and_parts, and_then, ap, append_assoc, arith, at_start, begins_with, Bool, cases_Bool, codes, decoded, ends_tag, EndsAs, eqb-true, Err, false, Fault, further, if◌then◌else◌, inl, inr, is_alpha, is_empty, IsTagFault, IsTagRead, IsTagRefusal, leading, length, length-append, List, local, local_goes_on, local_octets, may_follow, named, nat_tests, no_suffix, Ok, past, Position, Read, read_tag, reads, refl, refuses, Result, shorthand, slice_index, Some, some_suffix, suc, suffix_goes_on, suffix_octets, sym, tag_end, tag_of_class, TagsEndAsTheirTextSays, take_while, true, uri_character, UriFault, verbatim, verbatim_end, verbatim_goes_on, verbatim_octets, whole_tag, written_tag, ℕ, ◌++◌, ◌+◌, ◌==◌, ◌∙◌, ◌∷◌, ◌≡◌, TagEnd, is_decimal_digit, is_letter, same_gap, same_flow, same_alpha, same_place, begins_in, ends_after, taken}
+use Rattle.proof_lexers.proofs.Common.{[], after, after_class, after_name, all_of, and_parts, and_then, ap, append_assoc, arith, at_start, begins_with, Bool, cases_Bool, codes, decoded, ends_tag, EndsAs, eqb-true, Err, false, Fault, further, if◌then◌else◌, inl, inr, is_alpha, is_empty, IsTagFault, IsTagRead, IsTagRefusal, leading, length, length-append, List, local, local_goes_on, local_octets, may_follow, named, nat_tests, no_suffix, Ok, past, Position, Read, read_tag, reads, refl, refuses, Result, shorthand, slice_index, Some, some_suffix, suc, suffix_goes_on, suffix_octets, sym, tag_end, tag_of_class, TagsEndAsTheirTextSays, take_while, true, uri_character, UriFault, verbatim, verbatim_end, verbatim_goes_on, verbatim_octets, whole_tag, written_tag, ℕ, ◌++◌, ◌==◌, ◌∙◌, ◌∷◌, ◌≡◌, TagEnd, is_decimal_digit, is_letter, same_gap, same_flow, same_alpha, same_place, begins_in, ends_after, taken}
 use Rattle.defs_text.specs.Classes as classes
 use Rattle.defs_text.specs.Tags as defs
 use Rattle.model_scanner.specs.Tag.{Tag, tag}
@@ -36,9 +36,6 @@ pub close_is_no_uri : classes.is_uri 62 ≡ false
 unfolding classes.is_uri is_decimal_digit is_letter
 close_is_no_uri = refl
 
-pub closed_position : (p : Position) (n m : ℕ) → m ≡ n + 1 → past (further n (past (past p))) ≡ further (suc (suc m)) p
-closed_position p n m e = same_place p (suc (suc m)) (omega (arith, e)) (omega (arith, e))
-
 module _ (flow : Bool) (start : Position) (b : List ℕ) where
   abbrev written : List ℕ
   written = leading classes.is_uri b
@@ -50,7 +47,7 @@ module _ (flow : Bool) (start : Position) (b : List ℕ) where
     | inl f ↦
         let same : c ≡ 62 = eqb-true c 62 f in
         let cut : b ≡ (written ++ 62 ∷ []) ++ r = span_cut classes.is_uri b ∙ ap (λ k. written ++ k) (e ∙ ap (λ d. d ∷ r) same) ∙ sym (append_assoc written (62 ∷ []) r) in
-        rw f (ended flow start (60 ∷ b) (60 ∷ (written ++ 62 ∷ [])) r [] cs _ (ap (λ k. 60 ∷ k) cut) verbatim_written (closed_position start (length written) _ (length-append written (62 ∷ [])))
+        rw f (ended flow start (60 ∷ b) (60 ∷ (written ++ 62 ∷ [])) r [] cs _ (ap (λ k. 60 ∷ k) cut) verbatim_written (let long = length-append written (62 ∷ []) in same_place start (length (33 ∷ 60 ∷ (written ++ 62 ∷ []))) (omega (arith, long)) (omega (arith, long)))
         (verbatim_goes_on b cs r refl is (e ∙ ap (λ d. d ∷ r) same)))
     | inr f ↦ refuses _ (at_start _ (unclosed b cs refl is (ap (begins_with 62) e ∙ f))) (rw f refl)
   ]
@@ -59,10 +56,6 @@ module _ (flow : Bool) (start : Position) (b : List ℕ) where
       → Ends flow start (60 ∷ b) (and_then (and_then (after_class classes.is_uri start (past (past start)) b [] d) (λ (r : Read (List ℕ)). verbatim_end start r.value r.rest r.position)) (λ t. tag_end flow start t))
   verbatim_by (Err f) e = refuses _ (at_start _ (verbatim_octets b f refl e)) refl
   verbatim_by (Ok cs) e = closing cs (after classes.is_uri b) e refl
-
-  verbatims : Ends flow start (60 ∷ b) (tag flow (33 ∷ 60 ∷ b) start)
-  unfolding tag verbatim
-  verbatims = rw ((uris_are_read start b (past (past start)) []).0) (verbatim_by (decoded written) refl)
 
 -- ---- a shorthand
 
@@ -107,94 +100,75 @@ no_mark : (r : List ℕ) → all_of classes.is_tag r ≡ true → (defs.begins_w
 no_mark [] h = (refl, refl)
 no_mark (c ∷ r) h = let q = and_parts (classes.is_tag c) (all_of classes.is_tag r) h in ((tag_starts c q.0).1, (tag_starts c q.0).0)
 
-nil_parts : (a b : List ℕ) → is_empty (a ++ b) ≡ true → (a ≡ []) × (b ≡ [])
-nil_parts [] b h = grind arith
-nil_parts (c ∷ a) b h = cc
+empty_is : (a : List ℕ) → is_empty a ≡ true → a ≡ []
+empty_is a h = grind arith
 
 pub same_empty : (name l cs : List ℕ) → decoded l ≡ Ok cs → is_empty (name ++ cs) ≡ is_empty (name ++ l)
 same_empty [] [] cs e = let none : [] ≡ cs = cc in rw (← none) refl
 same_empty [] (c ∷ l) cs e = decoded_some c l cs e
 same_empty (d ∷ name) l cs e = refl
 
-pub local_position : (p : Position) (n m k : ℕ) → k ≡ n + m → further m (further n (past p)) ≡ further (suc k) p
-local_position p n m k e = same_place p (suc k) (omega (arith, e)) (omega (arith, e))
-
-pub named_position : (p : Position) (n m k : ℕ) → k ≡ n + suc m → further m (past (further n (past p))) ≡ further (suc k) p
-named_position p n m k e = same_place p (suc k) (omega (arith, e)) (omega (arith, e))
-
 module _ (flow : Bool) (start : Position) (text name : List ℕ) (all : all_of classes.is_alpha name ≡ true) where
   -- after a name and a second mark
-  suffix_by : (s l rest : List ℕ) (d : Result (List ℕ) UriFault) → text ≡ name ++ 33 ∷ (l ++ rest) → leading classes.is_tag s ≡ l → s ≡ l ++ rest → after classes.is_tag s ≡ rest → decoded l ≡ d
+  suffix_by : (s : List ℕ) (d : Result (List ℕ) UriFault) → text ≡ name ++ 33 ∷ s → decoded (leading classes.is_tag s) ≡ d
       → Ends flow start text (and_then (and_then (after_class classes.is_tag start (past (further (length name) (past start))) s [] d) (λ r. some_suffix start name r)) (λ t. tag_end flow start t))
   unfolding classes.is_alpha is_decimal_digit is_letter
-  suffix_by s l rest (Err f) cut lead same b e = refuses _ (at_start _ (suffix_octets name s f (cut ∙ ap (λ r. name ++ 33 ∷ r) (sym same)) all (ap decoded lead ∙ e))) refl
-  suffix_by s [] rest (Ok cs) cut lead same b e =
-      let none : [] ≡ cs = cc in
-      rw (← none) (refuses _ (at_start _ (no_suffix name rest cut all (ap (leading classes.is_tag) (sym same) ∙ lead))) refl)
-  suffix_by s (c ∷ l) rest (Ok cs) cut lead same b e =
-      let some : is_empty cs ≡ false = decoded_some c l cs e in
-      let tags : all_of classes.is_tag (c ∷ l) ≡ true = ap (all_of classes.is_tag) (sym lead) ∙ all_leading classes.is_tag s in
-      rw (some, b, lead) (ended flow start text (name ++ 33 ∷ c ∷ l) rest ((33 ∷ name) ++ 33 ∷ []) cs _ (cut ∙ sym (append_assoc name (33 ∷ c ∷ l) rest)) (grind (arith, leading_all, refl, is_shorthand, shorthand_by, some_text))
-      (named_position start (length name) (length (c ∷ l)) (length (name ++ 33 ∷ c ∷ l)) (length-append name (33 ∷ c ∷ l)))
-      (λ g. suffix_goes_on name s cs (cut ∙ ap (λ r. name ++ 33 ∷ r) (sym same)) all (ap is_empty lead) (ap decoded lead ∙ e) (ap (may_follow flow) b ∙ g)))
+  suffix_by s (Err f) cut e = refuses _ (at_start _ (suffix_octets name s f cut all e)) refl
+  suffix_by s (Ok cs) cut e =
+      let l = leading classes.is_tag s in
+      let same : is_empty cs ≡ is_empty l = same_empty [] l cs e in
+      let tags = all_leading classes.is_tag s in
+      elim (cases_Bool (is_empty cs)) [
+        | inl f ↦ rw f (refuses _ (at_start _ (no_suffix name s cut all (empty_is l (sym same ∙ f)))) refl)
+        | inr f ↦ rw f (ended flow start text (name ++ 33 ∷ l) (after classes.is_tag s) ((33 ∷ name) ++ 33 ∷ []) cs _
+            (cut ∙ ap (λ r. name ++ 33 ∷ r) (span_cut classes.is_tag s) ∙ sym (append_assoc name (33 ∷ l) (after classes.is_tag s))) (grind (arith, leading_all, refl, is_shorthand, shorthand_by, some_text))
+            (let long = length-append name (33 ∷ l) in same_place start (suc (length (name ++ 33 ∷ l))) (omega (arith, long)) (omega (arith, long))) (λ g. suffix_goes_on name s cs cut all (sym same ∙ f) e g))
+      ]
 
   -- after a word and no mark
-  local_by : (m l rest : List ℕ) (d : Result (List ℕ) UriFault) → text ≡ name ++ (l ++ rest) → after classes.is_alpha text ≡ m → begins_with 60 text ≡ false → defs.begins_with_mark m ≡ false → begins_in classes.is_alpha l ≡ false → leading classes.is_tag m ≡ l → after classes.is_tag m ≡ rest → decoded l ≡ d
+  local_by : (m : List ℕ) (d : Result (List ℕ) UriFault) → text ≡ name ++ m → after classes.is_alpha text ≡ m → begins_with 60 text ≡ false → defs.begins_with_mark m ≡ false → begins_in classes.is_alpha (leading classes.is_tag m) ≡ false → decoded (leading classes.is_tag m) ≡ d
       → Ends flow start text (and_then (and_then (after_class classes.is_tag start (further (length name) (past start)) m name d) (λ r. Ok (local r))) (λ t. tag_end flow start t))
-  local_by m l rest (Err f) cut ends not_verbatim unmarked begins lead b e = refuses _ (at_start _ (local_octets f not_verbatim (ap defs.begins_with_mark ends ∙ unmarked) (ap (λ r. decoded (leading classes.is_tag r)) ends ∙ (ap decoded lead ∙ e)))) refl
-  local_by m l rest (Ok cs) cut ends not_verbatim unmarked begins lead b e = by (is_empty (name ++ l)) refl
-    where
-      goes : may_follow flow rest ≡ false → IsTagRefusal flow text TagEnd
-      goes g = grind (arith, nat_tests, local_goes_on)
-
-      by : (none : Bool) → is_empty (name ++ l) ≡ none → Ends flow start text (tag_end flow start (local (record { rest = after classes.is_tag m; position = further (length (leading classes.is_tag m)) (further (length name) (past start)); value = name ++ cs })))
-      by true f =
-          let parts = nil_parts name l f in
-          let zeros : 0 ≡ length name + length l = rw (parts.0, parts.1) refl in
-          let here : text ≡ rest = cut ∙ rw (parts.0, parts.1) refl in
-          let none : is_empty (name ++ cs) ≡ true = same_empty name l cs e ∙ f in
-          rw (none, b, lead) (ended flow start text [] rest [] (33 ∷ []) _ here refl (local_position start (length name) (length l) 0 zeros) goes)
-      by false f =
-          let some : is_empty (name ++ cs) ≡ false = same_empty name l cs e ∙ f in
-          let tags : all_of classes.is_tag l ≡ true = ap (all_of classes.is_tag) (sym lead) ∙ all_leading classes.is_tag m in
-          rw (some, b, lead) (ended flow start text (name ++ l) rest (33 ∷ []) (name ++ cs) _ (cut ∙ sym (append_assoc name l rest)) (grind (arith, leading_all, no_mark, is_shorthand, shorthand_by, all_tag, decoded_word))
-          (local_position start (length name) (length l) (length (name ++ l)) (length-append name l)) goes)
+  local_by m (Err f) cut ends not_verbatim unmarked begins e = refuses _ (at_start _ (local_octets f not_verbatim (ap defs.begins_with_mark ends ∙ unmarked) (ap (λ r. decoded (leading classes.is_tag r)) ends ∙ e))) refl
+  local_by m (Ok cs) cut ends not_verbatim unmarked begins e =
+      let l = leading classes.is_tag m in
+      let rest = after classes.is_tag m in
+      let same : is_empty (name ++ cs) ≡ is_empty (name ++ l) = same_empty name l cs e in
+      let tags = all_leading classes.is_tag m in
+      let here : text ≡ (name ++ l) ++ rest = cut ∙ ap (λ r. name ++ r) (span_cut classes.is_tag m) ∙ sym (append_assoc name l rest) in
+      let long = length-append name l in
+      let place : further (length l) (further (length name) (past start)) ≡ further (suc (length (name ++ l))) start = same_place start (suc (length (name ++ l))) (omega (arith, long)) (omega (arith, long)) in
+      let goes = λ (g : may_follow flow rest ≡ false).
+      local_goes_on cs not_verbatim (ap defs.begins_with_mark ends ∙ unmarked) (ap (λ r. decoded (leading classes.is_tag r)) ends ∙ e) (ap (λ r. may_follow flow (after classes.is_tag r)) ends ∙ g) in
+      elim (cases_Bool (is_empty (name ++ cs))) [
+        | inl f ↦ rw f (ended flow start text (name ++ l) rest [] (33 ∷ []) _ here (rw (empty_is (name ++ l) (sym same ∙ f)) refl) place goes)
+        | inr f ↦ let some = sym same ∙ f in
+            rw f (ended flow start text (name ++ l) rest (33 ∷ []) (name ++ cs) _ here (grind (arith, leading_all, no_mark, is_shorthand, shorthand_by, all_tag, decoded_word)) place goes)
+      ]
 
   from_mark : (s : List ℕ) → text ≡ name ++ 33 ∷ s → Ends flow start text (and_then (after_name start name (33 ∷ s) (further (length name) (past start))) (λ t. tag_end flow start t))
   unfolding named
-  from_mark s cut =
-      rw ((uris_are_read start s (past (further (length name) (past start))) []).1)
-      (suffix_by s (leading classes.is_tag s) (after classes.is_tag s) (decoded (leading classes.is_tag s)) (cut ∙ ap (λ r. name ++ 33 ∷ r) (span_cut classes.is_tag s)) refl (span_cut classes.is_tag s) refl refl)
+  from_mark s cut = rw ((uris_are_read start s (past (further (length name) (past start))) []).1) (suffix_by s (decoded (leading classes.is_tag s)) cut refl)
 
   from_word : (m : List ℕ) → text ≡ name ++ m → after classes.is_alpha text ≡ m → begins_with 60 text ≡ false → begins_in classes.is_alpha m ≡ false → (slice_index m 0 == 33) ≡ false → Ends flow start text (and_then (after_name start name m (further (length name) (past start))) (λ t. tag_end flow start t))
   from_word m cut ends not_verbatim begins unmarked =
-      rw (unmarked, (uris_are_read start m (further (length name) (past start)) name).1)
-      (local_by m (leading classes.is_tag m) (after classes.is_tag m) (decoded (leading classes.is_tag m)) (cut ∙ ap (λ r. name ++ r) (span_cut classes.is_tag m)) ends not_verbatim (no_mark_at m unmarked) (grind arith) refl refl refl)
-    where
-      no_mark_at : (r : List ℕ) → (slice_index r 0 == 33) ≡ false → defs.begins_with_mark r ≡ false
-      no_mark_at a h = grind arith
+      rw (unmarked, (uris_are_read start m (further (length name) (past start)) name).1) (local_by m (decoded (leading classes.is_tag m)) cut ends not_verbatim (grind arith) (grind arith) refl)
 
 shorthand_from : (flow : Bool) (start : Position) (a m : List ℕ) → begins_with 60 a ≡ false → after classes.is_alpha a ≡ m
     → Ends flow start a (and_then (after_name start (leading classes.is_alpha a) m (further (length (leading classes.is_alpha a)) (past start))) (λ t. tag_end flow start t))
 shorthand_from flow start a [] not_verbatim e = from_word flow start a (leading classes.is_alpha a) (all_leading classes.is_alpha a) [] (span_cut classes.is_alpha a ∙ ap (λ r. leading classes.is_alpha a ++ r) e) e not_verbatim refl refl
-shorthand_from flow start a (c ∷ s) not_verbatim e = elim (cases_Bool (c == 33)) [
+shorthand_from flow start a (c ∷ s) not_verbatim e = let cut = span_cut classes.is_alpha a ∙ ap (λ r. leading classes.is_alpha a ++ r) e in elim (cases_Bool (c == 33)) [
   | inl f ↦ let same : c ≡ 33 = eqb-true c 33 f in rw same (from_mark flow start a (leading classes.is_alpha a) (all_leading classes.is_alpha a) s (cut ∙ ap (λ d. leading classes.is_alpha a ++ d ∷ s) same))
   | inr f ↦ from_word flow start a (leading classes.is_alpha a) (all_leading classes.is_alpha a) (c ∷ s) cut e not_verbatim (ap (begins_in classes.is_alpha) (sym e) ∙ ends_after classes.is_alpha a) f
 ]
-  where
-    cut : a ≡ leading classes.is_alpha a ++ c ∷ s
-    cut = span_cut classes.is_alpha a ∙ ap (λ r. leading classes.is_alpha a ++ r) e
 
 shorthands : (flow : Bool) (start : Position) (a : List ℕ) → (slice_index a 0 == 60) ≡ false → Ends flow start a (tag flow (33 ∷ a) start)
 unfolding tag shorthand
-shorthands flow start a e = rw (e, word a (past start) []) (shorthand_from flow start a (after classes.is_alpha a) (no_angle a e) refl)
-  where
-    no_angle : (r : List ℕ) → (slice_index r 0 == 60) ≡ false → begins_with 60 r ≡ false
-    no_angle a h = grind arith
+shorthands flow start a e = rw (e, word a (past start) []) (shorthand_from flow start a (after classes.is_alpha a) (grind arith) refl)
 
 pub tags_end : TagsEndAsTheirTextSays
+unfolding tag verbatim
 tags_end flow [] p = shorthands flow p [] refl
 tags_end flow (c ∷ b) p = elim (cases_Bool (c == 60)) [
-  | inl e ↦ let same : c ≡ 60 = eqb-true c 60 e in rw same (verbatims flow p b)
+  | inl e ↦ rw (eqb-true c 60 e, (uris_are_read p b (past (past p)) []).0) (verbatim_by flow p b (decoded (leading classes.is_uri b)) refl)
   | inr e ↦ shorthands flow p (c ∷ b) e
 ]

@@ -26,9 +26,8 @@ same_lead start p n t = grind (arith, both, nat_tests, same_between)
 -- ---- what an escape means
 
 after_some : (n : ℕ) (r : List ℕ) → decoded_after n r ≡ decoded_after 0 (drop n r)
-after_some zero r = refl
-after_some (suc n) [] = refl
 after_some (suc n) (c ∷ r) = after_some n r
+after_some n r = refl
 
 -- a code that is completed, and what the text after it means
 abbrev completed : (least : ℕ) → Result ℕ UriFault → Result (List ℕ) UriFault → Result (List ℕ) UriFault
@@ -92,10 +91,6 @@ module _ (test class : ℕ → Bool) (start : Position) (same : (c : ℕ) → cl
   Trails left = (code least : ℕ) (a : List ℕ) (p : Position) (t : List ℕ) → ((n : ℕ) → Plain (drop n a))
       → trails_from test start left code least a p t ≡ answer a p t (completed least (trails left code (leading class a)) (decoded_after 0 (drop (3 * left) (leading class a))))
 
-  -- a code that is completed
-  whole_code : (code least : ℕ) (a : List ℕ) (p : Position) (t : List ℕ) → Plain a → trails_from test start 0 code least a p t ≡ answer a p t (completed least (Ok code) (decoded (leading class a)))
-  whole_code code least a p t here = grind (arith, same_code, with_code, class)
-
   -- an octet more of a code
   next_octet : (left code least x y n : ℕ) (b : List ℕ) (p : Position) (t : List ℕ) → Trails left → ((k : ℕ) → Plain (drop k b)) → class x ≡ true → class y ≡ true → octet_at (37 ∷ x ∷ y ∷ leading class b) ≡ Some n
       → octet_from test start (trail left code least) n b (past (past (past p))) t
@@ -114,19 +109,15 @@ module _ (test class : ℕ → Bool) (start : Position) (same : (c : ℕ) → cl
       rw (cut, e, f, three_off) (here ∙ next_octet left code least x y n b p t others (λ k. subst (λ (l : List ℕ). Plain (drop (suc (suc k)) l)) cut (plains (suc (suc (suc k))))) e f known)
   after_percent left code least a p t others plains (no_octets oc is) = is ∙ rw oc refl
 
-  no_percent : (c : ℕ) (l : List ℕ) (b : Bool) → (c == 37) ≡ false → octet_at (if b then c ∷ l else []) ≡ None
-  unfolding octet_at
-  no_percent c l a e = grind arith
-
   trailing : (left : ℕ) → Trails left
   unfolding octet_at
-  trailing zero code least a p t plains = whole_code code least a p t (plains 0)
+  trailing zero code least a p t plains = grind (arith, same_code, with_code, class, plains 0)
   trailing (suc left) code least [] p t plains = refl
   trailing (suc left) code least (c ∷ a) p t plains = elim (cases_Bool (c == 37)) [
     | inl e ↦
         let is_percent : c ≡ 37 = eqb-true c 37 e in
         rw (is_percent, leads) (after_percent left code least a p t (trailing left) (subst (λ (d : ℕ). (k : ℕ) → Plain (drop k (d ∷ a))) is_percent plains) (octets_at (trail left code least) a (past p) t))
-    | inr e ↦ rw (e, no_percent c (leading class a) (class c) e) refl
+    | inr e ↦ rw e (grind (arith, e))
   ]
 
   -- ---- the whole text
@@ -165,20 +156,13 @@ module _ (test class : ℕ → Bool) (start : Position) (same : (c : ℕ) → cl
       rw (tested, e, e) (nothing_read (c ∷ a) p t)
 
   all_read : (n : ℕ) (a : List ℕ) (p : Position) (t : List ℕ) → scan (drop n a) p t ≡ answer (drop n a) p t (decoded (leading class (drop n a)))
-  all_read zero [] p t = nothing_read [] p t
-  all_read (suc n) [] p t = nothing_read [] p t
   all_read (suc n) (c ∷ a) p t = all_read n a p t
   all_read zero (c ∷ a) p t = first_by c a (λ n. all_read n a) (class c) (c == 37) refl refl p t
-
-hex_is_uri : (c : ℕ) → is_digit c 16 ≡ true → is_uri c ≡ true
-unfolding is_uri is_alphanumeric is_uri_mark
-hex_is_uri c h = grind (arith, nat_tests)
-
-hex_is_tag : (c : ℕ) → is_digit c 16 ≡ true → is_tag c ≡ true
-unfolding is_tag is_uri is_alphanumeric is_uri_mark is_flow
-hex_is_tag c h = grind (arith, nat_tests)
+  all_read n a p t = nothing_read [] p t
 
 pub uris_are_read : UrisAreRead
 unfolding is_uri is_alphanumeric is_uri_mark is_flow is_tag
-uris_are_read start text p before =
-    (all_read is_uri classes.is_uri start same_uri refl hex_is_uri 0 text p before, all_read is_tag classes.is_tag start same_tag refl hex_is_tag 0 text p before)
+uris_are_read start text p before = (
+  all_read is_uri classes.is_uri start same_uri refl (λ c h. grind (arith, nat_tests)) 0 text p before,
+  all_read is_tag classes.is_tag start same_tag refl (λ c h. grind (arith, nat_tests)) 0 text p before,
+)

@@ -45,15 +45,14 @@ module _ (single : Bool) (ctx : Context) (start : Position) where
   by_step c b r s es m p t h k ready others (is_marked e f) = met_marker (rw e refl) (from_gap c b (b ++ r) s m p t h ready ∙ f)
   by_step c b r s es m p t h k ready others (is_shallow low e) = rw (from_gap c b (b ++ r) s m p t h ready) (was_shallow e)
 
-  by_elements : (c : ℕ) (b r : List ℕ) (s : Spelled) (o : Option (List Element)) (es : List Element) (m : Mode) (p : Position) (t : Folded) → element_of single c b ≡ Some s → elements (element_of single) s.further b ≡ o → put_before s.element o ≡ Some es
-      → Ready single t m → Passes s.further b r → Step single ctx start c b r p t s → Passed single ctx start (scan single ctx start (c ∷ (b ++ r)) m p t) (c ∷ b) r p.col (after_elements es t)
-  by_elements c b r s None es m p t h k e ready others z = cc
-  by_elements c b r s (Some fs) es m p t h k e ready others z = let same : s.element ∷ fs ≡ es = cc in rw (← same) (by_step c b r s fs m p t h k ready others z)
-
   by_element : (c : ℕ) (b r : List ℕ) (o : Option Spelled) (es : List Element) (m : Mode) (p : Position) (t : Folded) → element_of single c b ≡ o → followed o (λ n. elements (element_of single) n b) ≡ Some es
       → Ready single t m → ((n : ℕ) → Passes n b r) → StepOf single ctx start c b r p t o → Passed single ctx start (scan single ctx start (c ∷ (b ++ r)) m p t) (c ∷ b) r p.col (after_elements es t)
   by_element c b r None es m p t h e ready others z = cc
-  by_element c b r (Some s) es m p t h e ready others z = by_elements c b r s (elements (element_of single) s.further b) es m p t h refl e ready (others s.further) z
+  by_element c b r (Some s) es m p t h e ready others z = by (elements (element_of single) s.further b) refl e
+    where
+      by : (o : Option (List Element)) → elements (element_of single) s.further b ≡ o → put_before s.element o ≡ Some es → Passed single ctx start (scan single ctx start (c ∷ (b ++ r)) m p t) (c ∷ b) r p.col (after_elements es t)
+      by None k e = cc
+      by (Some fs) k e = let same : s.element ∷ fs ≡ es = cc in rw (← same) (by_step c b r s fs m p t h k ready (others s.further) z)
 
   no_elements : (r : List ℕ) (es : List Element) (m : Mode) (p : Position) (t : Folded) → is_document_marker r ≡ false → Some [] ≡ Some es → Ready single t m
       → Passed single ctx start (scan single ctx start r m p t) [] r p.col (after_elements es t)
@@ -61,11 +60,10 @@ module _ (single : Bool) (ctx : Context) (start : Position) where
 
   -- what the scan does up to the text after a body's elements
   pub passes : (n : ℕ) (a r : List ℕ) → (slice_index r 0 == 10) ≡ false → is_document_marker r ≡ false → Passes n a r
-  passes zero [] r no_feed still es m p t h ready = no_elements r es m p t still h ready
-  passes (suc n) [] r no_feed still es m p t h ready = no_elements r es m p t still h ready
   passes (suc n) (c ∷ b) r no_feed still es m p t h ready = passes n b r no_feed still es m p t h ready
   passes zero (c ∷ b) r no_feed still es m p t h ready =
       by_element c b r (element_of single c b) es m p t refl h ready (λ n. passes n b r no_feed still) (step single ctx start c b r p t no_feed)
+  passes n a r no_feed still es m p t h ready = no_elements r es m p t still h ready
 
   -- ---- the opening quote
 
@@ -90,21 +88,16 @@ module _ (single : Bool) (ctx : Context) (start : Position) where
   pub through : (P : Result (Read (List ℕ)) Fault → Type 0) (body rest : List ℕ) (es : List Element) → elements (element_of single) 0 body ≡ Some es → (slice_index rest 0 == 10) ≡ false → is_document_marker rest ≡ false
       → ((x : Result (Read (List ℕ)) Fault) → IsShallow ctx start x → P x) → (has_marker body rest ≡ true → P (Err (At QuotedDocumentMarker start)))
       → ((m : Mode) (q : Position) → Ready single (after_elements es nothing) m → has_marker body rest ≡ false → P (scan single ctx start rest m q (after_elements es nothing))) → P (scan single ctx start (body ++ rest) first (past start) nothing)
-  through P body rest es are no_feed still is_low by_mark goes = elim (opens (body ++ rest) (past start) off) [
+  through P body rest es are no_feed still is_low by_mark goes = let off = off_margin start.col 0 in elim (opens (body ++ rest) (past start) off) [
     | not_opened s ↦ is_low _ s
     | opened e ↦ rw e (elim (passes 0 body rest no_feed still es gap (past start) nothing are in_gap) [
-      | passed m q ready none f ↦ rw f (goes m q ready (marks false none))
-      | met_marker meets f ↦ rw f (by_mark (marks true meets))
+      | passed m q ready none f ↦ rw f (goes m q ready (rw off at none))
+      | met_marker meets f ↦ rw f (by_mark (rw off at meets))
       | was_shallow s ↦ is_low _ s
     ])
   ]
-    where
-      off : (start.col + 1 == 0) ≡ false
-      off = off_margin start.col 0
 
-      marks : (b : Bool) → marked_from (start.col + 1) body rest ≡ b → has_marker body rest ≡ b
-      marks b h = rw off at h
-      -- ---- the closing quote
+-- ---- the closing quote
 
 closes : (single : Bool) (ctx : Context) (start : Position) (r : List ℕ) (p : Position) (u : Folded) → ends_before single r ≡ true → scan single ctx start (quote_of single ∷ r) inside p u ≡ Ok (record { rest = r; position = past p; value = u.text })
 unfolding is_break is_blank

@@ -45,9 +45,8 @@ local a c b = grind (arith, nat_tests, escape_local)
 
 -- elements after so many characters are those of the text after them
 pub after_some : (at : ℕ → List ℕ → Option Spelled) (n : ℕ) (b : List ℕ) → elements at n b ≡ elements at 0 (drop n b)
-after_some at zero b = refl
-after_some at (suc n) [] = refl
 after_some at (suc n) (c ∷ b) = after_some at n b
+after_some at n b = refl
 
 pub after_own : (at : ℕ → List ℕ → Option Spelled) (w x : List ℕ) → elements at (length w) (w ++ x) ≡ elements at 0 x
 after_own at [] x = refl

@@ -23,10 +23,9 @@ module _ (single : Bool) where
   by_element c b a es e others z = grind (arith, no_less, elements, single)
 
   pub has_none : (n : ℕ) (a : List ℕ) → HasNone n a
-  has_none zero [] es h = refl
-  has_none (suc n) [] es h = refl
   has_none (suc n) (c ∷ b) es h = has_none n b es h
   has_none zero (c ∷ b) es h = by_element c b (element_of single c b) es h (λ n. has_none n b) (step single outside second c b [] second nothing refl)
+  has_none n a es h = refl
 
 -- ---- document markers
 

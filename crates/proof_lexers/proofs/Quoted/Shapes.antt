@@ -20,12 +20,9 @@ module _ (single : Bool) (c : ℕ) (b : List ℕ) (s : Spelled) (is : element_of
   more : (body rest : List ℕ) → drop s.further b ≡ body ++ rest → HasElements single body → HasElements single (before body)
   more body rest e (es, h) = (s.element ∷ es, rw (own.same body rest e, (ap (λ n. elements (element_of single) n (take s.further b ++ body)) (sym own.fits) ∙ after_own (element_of single) (take s.further b) body), h) refl)
 
-  more_unclosed : HasElements single (drop s.further b) → HasElements single (c ∷ b)
-  more_unclosed (es, h) = (s.element ∷ es, rw (is, after_some (element_of single) s.further b, h) refl)
-
   grown : Shape single (drop s.further b) → Shape single (c ∷ b)
   grown (closed body rest e has ends) = closed (before body) rest (cut body (quote_of single ∷ rest) e) (more body (quote_of single ∷ rest) e has) ends
-  grown (unclosed has) = unclosed (more_unclosed has)
+  grown (unclosed (es, h)) = unclosed (s.element ∷ es, rw (is, after_some (element_of single) s.further b, h) refl)
   grown (badly_escaped body rest double e has bad) = badly_escaped (before body) rest double (cut body (92 ∷ rest) e) (more body (92 ∷ rest) e has) bad
 
 -- ---- no element
@@ -39,23 +36,21 @@ pub no_element : (single : Bool) (c : ℕ) (b : List ℕ) → (c == 0) ≡ false
 unfolding single_quoted_element double_quoted_element is_nul plain_element
 no_element single c b nul h = grind (arith, closing, slash, eqb-true)
 
-none_shape : (single : Bool) (c : ℕ) (b : List ℕ) → NoElement single c b → Shape single (c ∷ b)
-none_shape single c b (closing q ends) = closed [] b (ap (λ x. x ∷ b) q) ([], refl) ends
-none_shape single c b (slash double q bad) = badly_escaped [] b double (ap (λ x. x ∷ b) q) ([], refl) bad
-
 -- ---- every text
 
 shape_by : (single : Bool) (c : ℕ) (b : List ℕ) (o : Option Spelled) → (c == 0) ≡ false → element_of single c b ≡ o → LocalOf (element_of single c) b o → ((n : ℕ) → Shape single (drop n b)) → Shape single (c ∷ b)
-shape_by single c b None nul e z others = none_shape single c b (no_element single c b nul e)
+shape_by single c b None nul e z others = elim (no_element single c b nul e) [
+  | closing q ends ↦ closed [] b (ap (λ x. x ∷ b) q) ([], refl) ends
+  | slash double q bad ↦ badly_escaped [] b double (ap (λ x. x ∷ b) q) ([], refl) bad
+]
 shape_by single c b (Some s) nul e z others = grown single c b s e z (others s.further)
 
 shape_from : (single : Bool) (n : ℕ) (a : List ℕ) → list_all is_some a ≡ true → Shape single (drop n a)
-shape_from single zero [] h = unclosed ([], refl)
-shape_from single (suc n) [] h = unclosed ([], refl)
 shape_from single (suc n) (c ∷ b) h = shape_from single n b ((and_parts (is_some c) (list_all is_some b) h).1)
 shape_from single zero (c ∷ b) h =
     let q = and_parts (is_some c) (list_all is_some b) h in
     shape_by single c b (element_of single c b) (not-true (c == 0) q.0) refl (local single c b) (λ n. shape_from single n b q.1)
+shape_from single n a h = unclosed ([], refl)
 
 pub shape_of : (single : Bool) (a : List ℕ) → list_all is_some a ≡ true → Shape single a
 shape_of single a h = shape_from single 0 a h

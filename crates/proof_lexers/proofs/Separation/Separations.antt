@@ -32,15 +32,6 @@ same_after s rest leading p q k l e f = rw (e, f) refl
 pub stayed : (s : Held) (rest : List ℕ) → ◌≡◌ {A = Result ScannerState Fault} (Ok (record { rest = rest; held = s })) (Ok (after_separation s s.leading [] rest))
 stayed s rest = same_after s rest s.leading s.position s.position s.key_allowed ((not (in_flow s) && false) || s.key_allowed) refl (rw (and-false (not (in_flow s))) refl)
 
--- ---- what a character adds
-
-pub line_allowed : (s : Held) (c : ℕ) (a : List ℕ) → classes.is_break c ≡ true → Allows s c (not (in_flow s) || s.key_allowed) a
-line_allowed s c a e separation rest cut ends = grind (arith, or-true)
-
--- of CR LF the LF is a break
-pub feed_allowed : (s : Held) (c : ℕ) (a : List ℕ) → classes.is_break c ≡ true → is_before_line_feed c a ≡ true → Allows s c s.key_allowed a
-feed_allowed s c a e f separation rest cut ends = rw (e, feed_breaks c separation rest (rw cut at f) ends) refl
-
 -- ---- characters of a separation
 
 pub no_hash : (c : ℕ) → is_blank c ≡ true → (c == 35) ≡ false
@@ -98,16 +89,16 @@ module _ {M : Type 0} (in_comment : M → Bool) (begins : List ℕ → Bool) (no
 
   -- a break, from anywhere
   pub broken : (m n : M) (s : Held) (c : ℕ) (a : List ℕ) → is_break c ≡ true → in_comment n ≡ false → ((b k : Bool) → Keeps m n s c a b k) → WalksOn a → Walks m s (c ∷ a) (go n a (at_break c a s))
-  broken m n s c a e outside keeps ih = elim (cases_Bool (is_before_line_feed c a)) [
-    | inl f ↦ rw (same_feed c a, f) (one_more m n s c a s.leading s.key_allowed (past s.position) (in_line_position c a s.position (rw (breaks, f) refl)) fills (feed_allowed s c a breaks f) (keeps s.leading s.key_allowed) ih)
-    | inr f ↦ rw (same_feed c a, f) (one_more m n s c a true (not (in_flow s) || s.key_allowed) (past_break s.position) (line_position c a s.position (rw (breaks, f) refl)) fills (line_allowed s c a breaks) (keeps true (not (in_flow s) || s.key_allowed)) ih)
-  ]
-    where
-      breaks : classes.is_break c ≡ true
-      breaks = same_break c ∙ e
-
-      fills : Fills m n c
-      fills separation rest h = fills_break (in_comment m) c separation rest e (rw outside at h)
+  broken m n s c a e outside keeps ih =
+      let breaks : classes.is_break c ≡ true = same_break c ∙ e in
+      let fills : Fills m n c = λ separation rest h. fills_break (in_comment m) c separation rest e (rw outside at h) in
+      elim (cases_Bool (is_before_line_feed c a)) [
+        -- of CR LF the LF is a break
+        | inl f ↦ rw (same_feed c a, f) (one_more m n s c a s.leading s.key_allowed (past s.position) (in_line_position c a s.position (rw (breaks, f) refl)) fills
+            (λ separation rest cut ends. rw (breaks, feed_breaks c separation rest (rw cut at f) ends) refl) (keeps s.leading s.key_allowed) ih)
+        | inr f ↦ rw (same_feed c a, f) (one_more m n s c a true (not (in_flow s) || s.key_allowed) (past_break s.position) (line_position c a s.position (rw (breaks, f) refl)) fills
+            (λ separation rest cut ends. grind (arith, or-true)) (keeps true (not (in_flow s) || s.key_allowed)) ih)
+      ]
 
 -- ---- to the next token
 

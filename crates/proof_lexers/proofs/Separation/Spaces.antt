@@ -1,11 +1,11 @@
 -- The blanks and the comment that the model passes in a line are a separation.
-use Rattle.proof_lexers.proofs.Common.{[], after, ap, are_spaces, arith, begins_with, cases_Bool, ends_spaces, EndsAs, eqb-true, false, further, has_break, has_no_break, inl, inr, is_separation, leading, length, length-append, List, not, Ok, Position, reads, refl, refuses, space, spaces, SpacesArePassed, sym, true, Whitespace, ℕ, ◌++◌, ◌==◌, ◌||◌, ◌∙◌, ◌∷◌, ◌≡◌, nat_tests, has, skip_while, same_break, none_further, same_place, span_cut}
+use Rattle.proof_lexers.proofs.Common.{[], after, ap, are_spaces, arith, begins_with, cases_Bool, ends_spaces, EndsAs, eqb-true, false, further, has_break, has_no_break, inl, inr, is_separation, leading, length, length-append, List, not, Ok, Position, reads, refl, refuses, space, spaces, SpacesArePassed, sym, true, Whitespace, ℕ, ◌++◌, ◌==◌, ◌||◌, ◌∙◌, ◌∷◌, ◌≡◌, nat_tests, has, skip_while, none_further, same_place, span_cut}
 use Rattle.defs_text.specs.Classes as classes
 use Rattle.model_scanner.specs.Blanks.{after_spaces, is_line}
 use Rattle.model_scanner.specs.declared.context.SkipTabs.{SkipTabs}
 use Rattle.proof_lexers.specs.DirectiveEnds.{ends_line}
 use Rattle.proof_lexers.specs.Separations.{IsGlued, HasSpaces, glued}
-use Rattle.proof_lexers.proofs.RestOfLine.{break_is_none, first_line, found_in, in_line, is_space, line_skipped, spaces_passed}
+use Rattle.proof_lexers.proofs.RestOfLine.{first_line, found_in, in_line, is_space, line_skipped, spaces_passed}
 use Rattle.proof_lexers.proofs.Separation.Positions.{position_in_line}
 
 no_break_is : (a : List ℕ) → has_break a ≡ not (has_no_break a)
@@ -29,7 +29,8 @@ filled tabs (d ∷ b) c rest h line is = grind (arith, nat_tests, filled tabs b 
 -- a comment goes on to its line's end
 commented : (tabs : SkipTabs) (m n : List ℕ) → has_no_break m ≡ true → ends_line n ≡ true
     → (is_separation true m n ≡ true) × (ends_spaces tabs n ≡ true)
-commented tabs [] n h k = grind (arith, break_is_none, same_break)
+unfolding classes.is_break
+commented tabs [] n h k = grind (arith, nat_tests)
 commented tabs (c ∷ m) n h k = grind (arith, commented tabs m n)
 
 pub spaces_are_passed : SpacesArePassed
