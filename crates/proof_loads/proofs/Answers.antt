@@ -1,12 +1,9 @@
 -- What a load answers of any text, by a parser that is at its start.
-use Rattle.proof_loads.proofs.Common.{[], Answer, AnswersText, ap, append-nil, append_assoc, AreFirst, AreSettled, before_stream, BeginsEvents, BeginsPlaced, Blames, Bool, codes, ComesAfter, EndsSo, Err, ErrorReport, Ev, events_of, Explains, false, Foretells, given, has_end, HasEvents, inl, inr, IsAtStart, IsCause, IsDerived, IsFaultOf, IsOfScanner, IsPlacedStream, IsRefusal, IsStream, length, List, load, load_from, Loads, nested_stream, no_names, no_stream, no_token, None, NoneBegins, Parsed, Position, Raw, raws_of, read, Receives, refl, Refused, Result, ScansIn, Some, subst, sym, TextsAreAnswered, Tok, Token, toks, true, wants_memory, whole, without_positions, ℕ, ◌++◌, ◌∙◌, ◌∷◌, ◌≡◌, IsSound}
+use Rattle.proof_loads.proofs.Common.{[], Answer, AnswersText, ap, append-nil, append_assoc, AreFirst, AreSettled, before_stream, BeginsEvents, BeginsPlaced, Blames, Bool, codes, ComesAfter, EndsSo, Err, ErrorReport, Ev, events_of, Explains, false, Foretells, given, has_end, HasEvents, inl, inr, IsAtStart, IsCause, IsDerived, IsFaultOf, IsOfScanner, IsPlacedStream, IsRefusal, IsStream, length, List, load, load_from, Loads, nested_stream, no_names, no_stream, no_token, None, NoneBegins, Parsed, Position, Raw, raws_of, read, Receives, refl, Refused, Result, ScansIn, Some, subst, sym, TextsAreAnswered, Tok, Token, toks, true, wants_memory, whole, without_positions, ℕ, ◌++◌, ◌∙◌, ◌∷◌, ◌≡◌, IsSound, Loaded, Ending}
 use Rattle.yaml_parser.specs.Settings.{AreAll}
 use Rattle.yaml_parser.proofs.Since.{since_same, names_same}
-use Rattle.defs_event.specs.Push as run
 use Rattle.defs_event.proofs.AllPushed.{all_pushed}
 use Rattle.defs_event.proofs.StreamNests.{stream_nests}
-use Rattle.yaml_parser.specs.Loads as loads
-use Rattle.proof_loads.specs.TextEvents.{faulted, refused}
 use Rattle.proof_loads.proofs.Pulled.{Noted, given_alone, Answered, events, faults, answered, read_given, settings_stay, IsOver, Pushes, pushes, fault_is_reached, end_is_reached, faulted_pushes, PushesAll, ended_within, ended_after, given_append}
 use Rattle.proof_loads.proofs.Texts.{first_tokens, foretells_beginning, if_kept}
 use Rattle.proof_loads.proofs.StreamEnds.{all_tokens}
@@ -49,7 +46,7 @@ blames_steady {f} {settings} {keep_tags} {tokens} {events} all b = record {
 }
 
 -- what a call does with these answers
-abbrev so : List (Answer ErrorReport) → run.Loaded ErrorReport
+abbrev so : List (Answer ErrorReport) → Loaded ErrorReport
 so answers = load_from before_stream true answers
 
 -- ---- after the answers
@@ -139,7 +136,7 @@ module _ (text : List ℕ) (answers : List (Answer ErrorReport)) (p : Parsed) (s
         pushed = ended_after ErrorReport p.given answers n.rest (all_are_pushed p.keep_tags (toks p.scanner.given) p.given (placed_stream p.keep_tags p.scanner.given p.given placed)) n.answers_are;
       }
 
-  well_all : (so answers).ending ≡ run.well → AllGiven answers p
+  well_all : (so answers).ending ≡ Ending.well → AllGiven answers p
   well_all e = by p.ended refl
     where
       by : (b : Bool) → p.ended ≡ b → AllGiven answers p
@@ -150,10 +147,10 @@ module _ (text : List ℕ) (answers : List (Answer ErrorReport)) (p : Parsed) (s
           cc
 
   -- An event that is no document's start never stands between documents.
-  not_misplaced : (q : Position) → (so answers).ending ≡ run.no_document q → ⊥
+  not_misplaced : (q : Position) → (so answers).ending ≡ Ending.no_document q → ⊥
   not_misplaced q e = by p.ended refl
     where
-      not_well : (so answers).ending ≡ run.well → ⊥
+      not_well : (so answers).ending ≡ Ending.well → ⊥
       not_well h = cc
 
       by : (b : Bool) → p.ended ≡ b → ⊥
@@ -188,8 +185,8 @@ module _ (text : List ℕ) (answers : List (Answer ErrorReport)) (p : Parsed) (s
         only = subst (λ ts. Foretells p.keep_tags (toks ts) (events_of es)) follows.tokens (foretells_beginning p.keep_tags (toks p.scanner.given) (read p) es pushed_first.left are follows.only);
       }
 
-never_misplaced : (text : List ℕ) (answers : List (Answer ErrorReport)) (p : Parsed) → ScansIn text p.scanner → p.steady ≡ true → Answered answers p → (q : Position) → (so answers).ending ≡ run.no_document q → (so answers).taken ≡ length answers → ⊥
-never_misplaced text answers p scans steady (events n clear (inl none)) q e taken = let no : run.unfinished ≡ run.no_document q = ap (λ bs. (so bs).ending) (sym none) ∙ e in cc
+never_misplaced : (text : List ℕ) (answers : List (Answer ErrorReport)) (p : Parsed) → ScansIn text p.scanner → p.steady ≡ true → Answered answers p → (q : Position) → (so answers).ending ≡ Ending.no_document q → (so answers).taken ≡ length answers → ⊥
+never_misplaced text answers p scans steady (events n clear (inl none)) q e taken = let no : Ending.unfinished ≡ Ending.no_document q = ap (λ bs. (so bs).ending) (sym none) ∙ e in cc
 never_misplaced text answers p scans steady (events n clear (inr (ahead, sound))) q e taken = not_misplaced text answers p scans steady n ahead sound q e
 never_misplaced text answers p scans steady (faults g first rest are is ahead why) q e taken =
     fault_is_reached ErrorReport before_stream p.given first rest q (ap (λ bs. (so bs).ending) (sym are) ∙ e) (ap (λ bs. (so bs).taken) (sym are) ∙ taken ∙ ap length are)
@@ -202,7 +199,7 @@ pub record FaultTaken {R : Type 0} (takes : Takes R) (keep_tags : Bool) (text : 
 
 -- Before a fault all events that were read are pushed.
 at_fault : {R : Type 0} {takes : Takes R} {r s : R} {text : List ℕ} (answers : List (Answer ErrorReport)) (p : Parsed) → ScansIn text p.scanner → p.steady ≡ true → Answered answers p
-    → (f : ErrorReport) → (so answers).ending ≡ run.faulted f → p.fault ≡ Some f → Receives takes r (so answers).pushed s → FaultTaken takes p.keep_tags text f r s
+    → (f : ErrorReport) → (so answers).ending ≡ Ending.faulted f → p.fault ≡ Some f → Receives takes r (so answers).pushed s → FaultTaken takes p.keep_tags text f r s
 at_fault answers p scans steady (events n clear o) f e kept received = cc
 at_fault {text = text} answers p scans steady (faults g first rest are is ahead why) f e kept received =
     let same : g ≡ f = cc in
@@ -211,31 +208,31 @@ at_fault {text = text} answers p scans steady (faults g first rest are is ahead 
 
 ends_so : {R : Type 0} {takes : Takes R} {r s : R} {text : List ℕ} {result : Result (Unit {0}) ErrorReport} {new : Parsed} (answers : List (Answer ErrorReport)) (p : Parsed)
     → ScansIn text p.scanner → p.steady ≡ true → Answered answers p → (so answers).taken ≡ length answers → EndsSo takes r (so answers) p result new s → AnswersText takes p.keep_tags text r result s
-ends_so answers p scans steady (events n clear (inl none)) taken (loads.well e _ received) = let no : run.unfinished ≡ run.well = ap (λ bs. (so bs).ending) (sym none) ∙ e in cc
-ends_so {takes = takes} {r} {s} {text} answers p scans steady (events n clear (inr (ahead, sound))) taken (loads.well e _ received) =
+ends_so answers p scans steady (events n clear (inl none)) taken (EndsSo.well e _ received) = let no : Ending.unfinished ≡ Ending.well = ap (λ bs. (so bs).ending) (sym none) ∙ e in cc
+ends_so {takes = takes} {r} {s} {text} answers p scans steady (events n clear (inr (ahead, sound))) taken (EndsSo.well e _ received) =
     let all = well_all text answers p scans steady n ahead sound e in
     whole p.given (has_all_events text p scans all.is_whole) (subst (λ es. Receives takes r es s) all.pushed.0 received)
-ends_so answers p scans steady (faults f first rest are kept ahead why) taken (loads.well e clear received) = let no : None ≡ Some f = sym clear ∙ kept in cc
-ends_so answers p scans steady a taken (loads.faulted {f = f} e kept received) = let x = at_fault answers p scans steady a f e kept received in faulted x.events x.why.why x.why.after x.took
-ends_so {text = text} answers p scans steady a taken (loads.misplaced q e received) = absurd (never_misplaced text answers p scans steady a q e taken)
-ends_so answers p scans steady (events n clear (inl none)) taken (loads.refused {es = es} e q pushed _ received takes) = absurd (not_empty es (ap (λ bs. (so bs).pushed) (sym none) ∙ pushed))
+ends_so answers p scans steady (faults f first rest are kept ahead why) taken (EndsSo.well e clear received) = let no : None ≡ Some f = sym clear ∙ kept in cc
+ends_so answers p scans steady a taken (EndsSo.faulted {f = f} e kept received) = let x = at_fault answers p scans steady a f e kept received in AnswersText.faulted x.events x.why.why x.why.after x.took
+ends_so {text = text} answers p scans steady a taken (EndsSo.misplaced q e received) = absurd (never_misplaced text answers p scans steady a q e taken)
+ends_so answers p scans steady (events n clear (inl none)) taken (EndsSo.refused {es = es} e q pushed _ received takes) = absurd (not_empty es (ap (λ bs. (so bs).pushed) (sym none) ∙ pushed))
   where
     not_empty : (xs : List (Ev × Position)) → [] ≡ xs ++ (e, q) ∷ [] → ⊥
     not_empty [] h = cc
     not_empty (x ∷ xs) h = cc
-ends_so {text = text} answers p scans steady (events n clear (inr (ahead, sound))) taken (loads.refused {es = es} e q pushed _ received takes) =
-    refused es e q (begins_text text answers p scans steady n ahead sound (es ++ (e, q) ∷ []) pushed) received takes
-ends_so answers p scans steady (faults f first rest are kept ahead why) taken (loads.refused e q pushed clear received takes) = let no : None ≡ Some f = sym clear ∙ kept in cc
+ends_so {text = text} answers p scans steady (events n clear (inr (ahead, sound))) taken (EndsSo.refused {es = es} e q pushed _ received takes) =
+    AnswersText.refused es e q (begins_text text answers p scans steady n ahead sound (es ++ (e, q) ∷ []) pushed) received takes
+ends_so answers p scans steady (faults f first rest are kept ahead why) taken (EndsSo.refused e q pushed clear received takes) = let no : None ≡ Some f = sym clear ∙ kept in cc
 
 fault_ends : {R : Type 0} {takes : Takes R} {r s : R} {text : List ℕ} {f : ErrorReport} {new : Parsed} (answers : List (Answer ErrorReport)) (p : Parsed)
     → ScansIn text p.scanner → p.steady ≡ true → Answered answers p → (so answers).taken ≡ length answers → EndsSo takes r (so answers) p (Err f) new s → new.fault ≡ Some f → FaultTaken takes p.keep_tags text f r s
-fault_ends answers p scans steady a taken (loads.faulted {f = f} e kept received) h = at_fault answers p scans steady a f e kept received
-fault_ends {text = text} answers p scans steady a taken (loads.misplaced q e received) h = absurd (never_misplaced text answers p scans steady a q e taken)
-fault_ends {f = f} answers p scans steady a taken (loads.refused e q pushed clear received takes) h = let no : None ≡ Some f = sym clear ∙ h in cc
+fault_ends answers p scans steady a taken (EndsSo.faulted {f = f} e kept received) h = at_fault answers p scans steady a f e kept received
+fault_ends {text = text} answers p scans steady a taken (EndsSo.misplaced q e received) h = absurd (never_misplaced text answers p scans steady a q e taken)
+fault_ends {f = f} answers p scans steady a taken (EndsSo.refused e q pushed clear received takes) h = let no : None ≡ Some f = sym clear ∙ h in cc
 
-scanner_stays : {R : Type 0} {takes : Takes R} {r s : R} {l : run.Loaded ErrorReport} {p new : Parsed} {result : Result (Unit {0}) ErrorReport}
+scanner_stays : {R : Type 0} {takes : Takes R} {r s : R} {l : Loaded ErrorReport} {p new : Parsed} {result : Result (Unit {0}) ErrorReport}
     → EndsSo takes r l p result new s → new.scanner ≡ p.scanner
-scanner_stays (loads.misplaced q e received) = refl
+scanner_stays (EndsSo.misplaced q e received) = refl
 scanner_stays e = refl
 
 -- what holds after the answers of a load from the start on

@@ -1,9 +1,9 @@
 -- After the first events of a stream, no open node's anchor is finished: anchors are numbered as they come.
-use Rattle.proof_loads.proofs.Common.{[], AliasesInsideTheirNodeAreBadValues, ap, are_allowed, arith, array, at_work, bad_value, Bool, Ev, events_of, hash, if◌then◌else◌, inl, inr, IsOpen, items_of, List, Loader, loader_after, map, named, Names, names_after, ne_eqb, new_loader, no_names, None, noted, number, Opened, opened_mapping, opened_sequence, Option, option_map, out_of_nesting, pairs_of, perhaps_resolved, Position, Raw, reads, refl, refused, repeats, resolved_event, Some, Step, subst, suc, Tree, under_name, Unfinished, with_anchor, with_event, with_event_at, with_events, with_mapping_end, with_root, with_sequence_end, with_start, with_tree, ℕ, ◌++◌, ◌<◌, ◌∷◌, ◌≡◌, ◌≤◌, ◌⊎◌}
+use Rattle.proof_loads.proofs.Common.{[], AliasesInsideTheirNodeAreBadValues, ap, are_allowed, arith, at_work, bad_value, Bool, Ev, events_of, hash, if◌then◌else◌, inl, inr, IsOpen, items_of, List, Loader, loader_after, map, named, Names, names_after, ne_eqb, new_loader, no_names, None, noted, Opened, opened_mapping, opened_sequence, Option, option_map, out_of_nesting, pairs_of, perhaps_resolved, Position, Raw, reads, refl, refused, repeats, resolved_event, Some, subst, suc, Tree, under_name, Unfinished, with_anchor, with_event, with_event_at, with_events, with_mapping_end, with_root, with_sequence_end, with_start, with_tree, ℕ, ◌++◌, ◌<◌, ◌∷◌, ◌≡◌, ◌≤◌, ◌⊎◌}
 use Rattle.defs_tree.specs.Pairs.{has_key, insert}
 use Rattle.defs_event.specs.Scalar.{scalar_tree}
 use Rattle.defs_event.specs.Anchors.{Anchors, aliased, finished}
-use Rattle.defs_event.specs.Unfinished.{with_node}
+use Rattle.defs_event.specs.Unfinished.{Step, with_node}
 use Rattle.defs_event.proofs.NameLemmas.{both_some}
 
 -- ---- numbers of anchors
@@ -60,7 +60,7 @@ of_node m a t u outer f =
     (finishes m a t u.anchors (numbers outer) (f.held a (inl refl)).0 f.sorted.0 (record { fresh = f.fresh; held = λ n o. f.held n (inr o); sorted = f.sorted.1 }))
 
 of_sequence_end : (m : ℕ) (u : Unfinished) (opened : List Opened) → Fits m u.anchors (numbers opened) → OfStep m (with_sequence_end u opened)
-of_sequence_end m u (opened_sequence a ts ∷ outer) f = of_node m a (array (items_of ts)) u outer f
+of_sequence_end m u (opened_sequence a ts ∷ outer) f = of_node m a (Tree.array (items_of ts)) u outer f
 of_sequence_end m u opened f = tt
 
 of_mapping_end : (m : ℕ) (u : Unfinished) (opened : List Opened) → Fits m u.anchors (numbers opened) → OfStep m (with_mapping_end u opened)
@@ -108,7 +108,7 @@ OfSome P None = Unit {0}
 OfSome P (Some x) = P x
 
 numbered : (keep_tags : Bool) (s : Names) (r : Raw) → OfSome (Follows s.count (names_after keep_tags s r).count) (resolved_event s r)
-numbered keep_tags s r = grind (arith, are_allowed, option_map, under_name, with_anchor, number, perhaps_resolved)
+numbered keep_tags s r = grind (arith, are_allowed, option_map, under_name, with_anchor, perhaps_resolved)
 
 -- ---- loaders
 

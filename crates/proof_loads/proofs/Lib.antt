@@ -27,5 +27,4 @@ pub mod Settled
 pub mod Spelled
 pub mod StreamEnds
 pub mod Texts
-mod TokensCommon
 pub mod TokensInTurn

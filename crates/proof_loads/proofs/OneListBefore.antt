@@ -1,22 +1,17 @@
 -- Tokens that are settled stay; a text has one fault, and the events before it are one list.
-use Rattle.proof_loads.proofs.Common.{[], AgreeAt, ap, append-nil, append_assoc, AreBehind, AreFirst, AreSettled, arith, BeginsPlaced, BeginsWith, Blames, Bool, both_ways, ComesAfter, EndsInAnchor, Err, ErrorReport, Ev, events_of, false, Fault, fetch, fits, HasPlacedTo, here, inl, inr, is_of_names, IsFaultOf, IsReached, IsRefusal, IsStream, Key, length, length-append, List, map-append, named, no_names, no_stream, no_token, NoneBegins, one_run, OneListOfEventsBefore, OneListOfPulledEventsBefore, OneListOfPushedEventsBefore, Option, Position, Problem, problem_of, Raw, Reaches, read, refl, ScannerState, SettledTokensStay, StandsAt, start, stood, stream_by, subst, sym, there, to_next, Tok, Token, toks, true, wants_memory, ℕ, ◌++◌, ◌+◌, ◌∙◌, ◌∷◌, ◌≡◌, ◌⊎◌, list_any}
-use Rattle.std.proofs.lemmas.List.{same_from_push}
+use Rattle.proof_loads.proofs.Common.{[], AgreeAt, ap, append-nil, append_assoc, AreBehind, AreFirst, AreSettled, arith, BeginsPlaced, BeginsWith, Blames, Bool, both_ways, ComesAfter, EndsInAnchor, Err, ErrorReport, Ev, events_of, false, Fault, fetch, fits, HasPlacedTo, here, inl, inr, is_of_names, IsFaultOf, IsReached, IsRefusal, IsStream, Key, length, length-append, List, map-append, named, no_names, no_stream, no_token, NoneBegins, one_run, OneListOfEventsBefore, OneListOfPushedEventsBefore, Option, Position, Problem, problem_of, Raw, Reaches, refl, ScannerState, StandsAt, start, stood, stream_by, subst, sym, there, to_next, Tok, Token, toks, true, wants_memory, ℕ, ◌++◌, ◌+◌, ◌∙◌, ◌∷◌, ◌≡◌, ◌⊎◌, list_any, same_from_push, At, one_fault}
 use Rattle.model_scanner.proofs.Given.{KeysFrom, reached}
 use Rattle.yaml_scanner.specs.Waits.{comes_before}
 use Rattle.yaml_tokens.specs.Problem.{fault_of}
-use Rattle.yaml_tokens.specs.declared.problem.Fault.TheVariants.{At}
-use Rattle.yaml_tokens.specs.declared.problem.Problem.TheVariants as problem
 use Rattle.model_parser.specs.declared.kind.Kind.{Kind}
-use Rattle.model_parser.specs.declared.kind.Kind.TheVariants as kind
 use Rattle.model_parser.specs.Kinds.{kind_of}
-use Rattle.model_scanner.proofs.Runs as runs
 use Rattle.model_parser.proofs.OnePlacing.{AreSame, one_stream, same_events, one_list_so_far}
 use Rattle.model_scanner.specs.Document.{fetch_stream_start}
 use Rattle.yaml_parser.specs.Apart.{StandsBefore}
 use Rattle.yaml_parser.proofs.Holding.{many}
 use Rattle.yaml_parser.proofs.Positions.{stood_raws, stood_positions}
 use Rattle.proof_loads.proofs.Texts.{same_beginning}
-use Rattle.proof_loads.proofs.Answers.{FaultAfter, fault_after, fault_taken, placed_stream, Takes}
+use Rattle.proof_loads.proofs.Answers.{FaultAfter, fault_taken, placed_stream, Takes}
 
 keys_from : (n : ℕ) (ks : List (Option Key)) → AreBehind n ks → KeysFrom n ks
 keys_from n [] b = tt
@@ -33,28 +28,25 @@ stays given t u (there going e run) b k =
     let s = reached given t u (there going e run) (record { stood = record { more = b.more; tokens = b.whole; keys = keys_from (length given) t.held.keys (k going) } }) in
     record { begins = record { more = s.stood.more; whole = s.stood.tokens }; keys = λ _. s.stood.keys }
 
-pub settled_stay : SettledTokensStay
-settled_stay text given r later run = (stays given r.last later run r.begins r.behind).begins
+-- ---- beginnings of lists
 
--- ---- of two lists that begin a third, one begins the other
+pub one_begins : (xs ys us vs : List Token) → xs ++ us ≡ ys ++ vs → BeginsWith xs ys ⊎ BeginsWith ys xs
+one_begins [] ys us vs e = inl (record { more = ys; whole = refl })
+one_begins (x ∷ xs) [] us vs e = inr (record { more = x ∷ xs; whole = refl })
+one_begins (x ∷ xs) (y ∷ ys) us vs e = elim (one_begins xs ys us vs cc) [
+  | inl d ↦ inl (record { more = d.more; whole = cc (d.whole) })
+  | inr d ↦ inr (record { more = d.more; whole = cc (d.whole) })
+]
 
-pub one_begins : (xs ys zs : List Token) → BeginsWith xs zs → BeginsWith ys zs → BeginsWith xs ys ⊎ BeginsWith ys xs
-one_begins [] ys zs b c = inl (record { more = ys; whole = refl })
-one_begins (x ∷ xs) [] zs b c = inr (record { more = x ∷ xs; whole = refl })
-one_begins (x ∷ xs) (y ∷ ys) zs b c =
-    let e : x ∷ (xs ++ b.more) ≡ y ∷ (ys ++ c.more) = sym b.whole ∙ c.whole in
-    let first : x ≡ y = cc in
-    let rest : xs ++ b.more ≡ ys ++ c.more = cc in
-    elim (one_begins xs ys (xs ++ b.more) (record { more = b.more; whole = refl }) (record { more = c.more; whole = rest })) [
-      | inl d ↦ inl (record { more = d.more; whole = cc (d.whole) })
-      | inr d ↦ inr (record { more = d.more; whole = cc (d.whole) })
-    ]
+-- of two lists that begin a third, one begins the other
+of_one : {xs ys zs : List Token} → BeginsWith xs zs → BeginsWith ys zs → BeginsWith xs ys ⊎ BeginsWith ys xs
+of_one {xs} {ys} b c = one_begins xs ys b.more c.more (sym b.whole ∙ c.whole)
 
 -- Settled tokens of one text, at any two points: one list begins the other.
 pub settled_agree : (text : List ℕ) (xs ys : List Token) → IsReached text xs → IsReached text ys → BeginsWith xs ys ⊎ BeginsWith ys xs
 settled_agree text xs ys r s = elim (one_run r.run s.run) [
-  | inl run ↦ one_begins xs ys s.last.held.tokens (stays xs r.last s.last run r.begins r.behind).begins s.begins
-  | inr run ↦ one_begins xs ys r.last.held.tokens r.begins (stays ys s.last r.last run s.begins s.behind).begins
+  | inl run ↦ of_one (stays xs r.last s.last run r.begins r.behind).begins s.begins
+  | inr run ↦ of_one r.begins (stays ys s.last r.last run s.begins s.behind).begins
 ]
 
 -- ---- where a text is refused
@@ -69,7 +61,7 @@ none_comes n m (x ∷ ks) k = grind (arith, none_comes n m ks)
 
 -- All settled tokens begin with those that are settled anywhere.
 pub settled_first : (text : List ℕ) (all given : List Token) → AreSettled text all → IsReached text given → BeginsWith given all
-settled_first text all given s r = elim (one_begins given all last.held.tokens there_too.begins s.begins) [ inl b ↦ b | inr b ↦ no_more b.more b.whole ]
+settled_first text all given s r = elim (of_one there_too.begins s.begins) [ inl b ↦ b | inr b ↦ no_more b.more b.whole ]
   where
     last : ScannerState
     last = s.refused.last
@@ -94,7 +86,7 @@ settled_first text all given s r = elim (one_begins given all last.held.tokens t
 
 pub one_refusal : (text : List ℕ) (f g : ErrorReport) → IsRefusal text f → IsRefusal text g → f.memory ≡ false → f ≡ g
 one_refusal text f g r s m =
-    let same : r.fault ≡ s.fault = runs.one_fault text r.fault s.fault r.refused s.refused in
+    let same : r.fault ≡ s.fault = one_fault text r.fault s.fault r.refused s.refused in
     let none : (fault_of r.fault r.position).memory ≡ false = ap (λ x. x.memory) (sym r.shown) ∙ m in
     let placed : fault_of r.fault r.position ≡ fault_of r.fault s.position = grind (arith, none) in
     r.shown ∙ placed ∙ ap (λ e. fault_of e s.position) same ∙ sym s.shown
@@ -103,10 +95,10 @@ one_refusal text f g r s m =
 
 -- the kind of a token says which problem of names it may have
 abbrev name_problem : Kind → Problem
-name_problem kind.VersionDirective = problem.SecondVersion
-name_problem kind.TagDirective = problem.RepeatedHandle
-name_problem kind.Alias = problem.UnknownAnchor
-name_problem _ = problem.UndeclaredHandle
+name_problem Kind.VersionDirective = Problem.SecondVersion
+name_problem Kind.TagDirective = Problem.RepeatedHandle
+name_problem Kind.Alias = Problem.UnknownAnchor
+name_problem _ = Problem.UndeclaredHandle
 
 fits_name : (p : Problem) (k : Kind) → is_of_names p ≡ true → fits p k ≡ true → p ≡ name_problem k
 fits_name p k n f = grind arith
@@ -263,14 +255,10 @@ pub one_list_before : OneListOfEventsBefore
 one_list_before keep_tags text f g xs ys x y m n a b = rw (come_before x xs m a, come_before y ys n b) (one_cause keep_tags text f g x y m n).1
 
 -- the same of two parsers
-agree_before : (k c : Bool) (text : List ℕ) (f g : ErrorReport) (es fs : List (Ev × Position)) → k ≡ c → FaultAfter k text f es → FaultAfter c text g fs → f.memory ≡ false → g.memory ≡ false → AgreeAt es fs
+pub agree_before : (k c : Bool) (text : List ℕ) (f g : ErrorReport) (es fs : List (Ev × Position)) → k ≡ c → FaultAfter k text f es → FaultAfter c text g fs → f.memory ≡ false → g.memory ≡ false → AgreeAt es fs
 agree_before k c text f g es fs same x y m n =
     let z = subst (λ b. FaultAfter b text f es) same x in
     one_list_before c text f g es fs z.why y.why m n z.after y.after
-
-pub one_pulled_list_before : OneListOfPulledEventsBefore
-one_pulled_list_before p q text f g setting steady other_steady scans scanned why other m n =
-    agree_before p.keep_tags q.keep_tags text f g (read p) (read q) setting (fault_after text p f scans steady why) (fault_after text q g scanned other_steady other) m n
 
 pub one_pushed_list_before : {R S : Type 0} (takes : Takes R) (others : Takes S)
     → OneListOfPushedEventsBefore takes others

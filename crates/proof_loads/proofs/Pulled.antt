@@ -1,8 +1,6 @@
 -- Runs of `load` with `multi` over answers, whatever they are. The calls of a parser from its start on: what it answered and has given.
-use Rattle.proof_loads.proofs.Common.{[], Answer, ap, append-nil, append_assoc, arith, before_stream, between, Bool, Ending, ErrorReport, Ev, event, Explains, false, fault, faulted, given, GivesEvent, has_end, IfSome, inl, inr, inside, is_stream_end, IsAtStart, KeepsSettings, length, length-append, List, load_from, Loaded, no_call, no_document, None, one_call, Option, Parsed, Position, PullsAll, read_so, refl, Some, Standing, subst, sym, true, unfinished, well, ◌++◌, ◌||◌, ◌∙◌, ◌∷◌, ◌≡◌, ◌⊎◌, IsSound, or_right}
-use Rattle.std.specs.Prelude.{drop}
+use Rattle.proof_loads.proofs.Common.{[], Answer, ap, append-nil, append_assoc, arith, before_stream, between, Bool, Ending, ErrorReport, Ev, event, Explains, false, fault, faulted, given, GivesEvent, has_end, IfSome, inl, inr, is_stream_end, IsAtStart, KeepsSettings, length, length-append, List, load_from, Loaded, no_call, no_document, None, one_call, Option, Parsed, Position, PullsAll, read_so, refl, Some, Standing, subst, sym, true, unfinished, well, ◌++◌, ◌||◌, ◌∙◌, ◌∷◌, ◌≡◌, ◌⊎◌, IsSound, or_right, drop, or_false}
 use Rattle.std.proofs.Math.Bool.{or_assoc}
-use Rattle.proof_lexers.proofs.Bridges.{or_false}
 
 -- The call has come to its end.
 abbrev pub IsOver : {F : Type 0} → Ending F → Type 0
@@ -12,7 +10,7 @@ IsOver _ = Unit {0}
 -- After its end a call takes nothing.
 over_is_over : (F : Type 0) (s : Standing) (xs ys : List (Answer F)) → IsOver (load_from s true xs).ending → load_from s true (xs ++ ys) ≡ load_from s true xs
 over_is_over F s [] ys h = absurd h
-over_is_over F s (a ∷ xs) ys h = grind (arith, over_is_over F between xs ys, over_is_over F inside xs ys)
+over_is_over F s (a ∷ xs) ys h = grind (arith, over_is_over F between xs ys, over_is_over F Standing.inside xs ys)
 
 -- Of these events some are pushed, and then some are left.
 pub record Pushes {F : Type 0} (l : Loaded F) (es : List (Ev × Position)) : Type 0 where
@@ -22,7 +20,7 @@ pub record Pushes {F : Type 0} (l : Loaded F) (es : List (Ev × Position)) : Typ
 first_pushed : (F : Type 0) (s : Standing) (es : List (Ev × Position))
     → es ≡ (load_from s true (given F es)).pushed ++ drop (length (load_from s true (given F es)).pushed) es
 first_pushed F s [] = refl
-first_pushed F s (e ∷ es) = grind (arith, first_pushed F between es, first_pushed F inside es)
+first_pushed F s (e ∷ es) = grind (arith, first_pushed F between es, first_pushed F Standing.inside es)
 
 pub pushes : (F : Type 0) (s : Standing) (es : List (Ev × Position)) → Pushes (load_from s true (given F es)) es
 pushes F s es = record { left = drop (length (load_from s true (given F es)).pushed) es; whole = first_pushed F s es }
@@ -32,12 +30,12 @@ pub fault_is_reached : (F : Type 0) (s : Standing) (es : List (Ev × Position)) 
     → (load_from s true (given F es ++ fault f ∷ rest)).taken ≡ length (given F es ++ fault f ∷ rest) → ⊥
 fault_is_reached F s [] f rest p h n = cc
 fault_is_reached F s (e ∷ es) f rest p h n =
-    grind (arith, length-append, fault_is_reached F between es f rest p, fault_is_reached F inside es f rest p)
+    grind (arith, length-append, fault_is_reached F between es f rest p, fault_is_reached F Standing.inside es f rest p)
 
 -- A call that has ended well took the stream's end.
 pub end_is_reached : (F : Type 0) (s : Standing) (es : List (Ev × Position)) → (load_from s true (given F es)).ending ≡ well → has_end es ≡ true
 end_is_reached F s [] h = cc
-end_is_reached F s (e ∷ es) h = grind (arith, or_right, end_is_reached F between es, end_is_reached F inside es)
+end_is_reached F s (e ∷ es) h = grind (arith, or_right, end_is_reached F between es, end_is_reached F Standing.inside es)
 
 -- ---- against a whole stream
 
@@ -64,7 +62,7 @@ given_append F (e ∷ es) fs = ap (λ bs. event e.0 e.1 ∷ bs) (given_append F 
 pub faulted_pushes : (F : Type 0) (s : Standing) (es : List (Ev × Position)) (f g : F) (rest : List (Answer F)) → (load_from s true (given F es ++ fault g ∷ rest)).ending ≡ faulted f
     → (load_from s true (given F es ++ fault g ∷ rest)).pushed ≡ es
 faulted_pushes F s [] f g rest h = refl
-faulted_pushes F s (e ∷ es) f g rest h = grind (arith, faulted_pushes F between es f g rest, faulted_pushes F inside es f g rest)
+faulted_pushes F s (e ∷ es) f g rest h = grind (arith, faulted_pushes F between es f g rest, faulted_pushes F Standing.inside es f g rest)
 
 pub settings_stay : {p q : Parsed} {answers : List (Answer ErrorReport)} → PullsAll p answers q → KeepsSettings p q
 settings_stay no_call = record { keep_tags = refl; steady = refl }

@@ -41,11 +41,7 @@ row_keeps h t w (Some (takes ps)) k = or_right _ _ (kept h t ps w k)
 row_keeps h t w (Some (leaves ps)) k = kept h t ps w k
 
 after : (g : Goal) (h : Held) (t : Tok) (w : Works) {r : Row Goal Raw} → row_of (cases g) t ≡ Some r → (is_last g || has_last w) ≡ true → after_row h t w (Some r) ≡ true
-after g h t w {r} q k = subst (λ o. after_row h t w o ≡ true) q (by (is_last g) refl k)
-  where
-    by : (b : Bool) → is_last g ≡ b → (b || has_last w) ≡ true → after_row h t w (row_of (cases g) t) ≡ true
-    by true e k = grind arith
-    by false e k = row_keeps h t w (row_of (cases g) t) k
+after g h t w {r} q k = subst (λ o. after_row h t w o ≡ true) q (grind (arith, row_keeps))
 
 -- the stream's end is among the tokens
 ends_at : (w : Works) (ts : List Tok) (es : List Raw) → Derives grammar w ts es → has_last w ≡ true → list_any is_stream_end ts ≡ true

@@ -1,6 +1,6 @@
 -- A parser somewhere in a text that means trees, and two of them.
 use Rattle.std.proofs.Math.Seq.{take-append_seam}
-use Rattle.proof_loads.proofs.Common.{[], length-map, ap, append_assoc, AreFirst, Bool, ErrorReport, Ev, events_of, EventsOfReadTextsAreRead, Follows, Foretells, foretold_are_not_refused, IfSome, inl, inr, IsStream, length, List, map-append, Means, nested_stream, Option, Parsed, Position, read, ReadAs, ReadTextsAreNotRefused, ReadTextsHaveNoFaultButMemory, ReadTextsHaveOneListOfEvents, ReadTextsHaveTheirTrees, refl, Scanned, ScansIn, Some, streams_are_loaded, streams_are_not_cut, subst, sym, Tok, Token, toks, Tree, true, ℕ, ◌++◌, ◌∙◌, ◌≡◌, take}
+use Rattle.proof_loads.proofs.Common.{length-map, ap, append_assoc, AreFirst, Bool, ErrorReport, Ev, events_of, EventsOfReadTextsAreRead, Follows, Foretells, foretold_are_not_refused, IfSome, inl, inr, IsStream, length, List, map-append, Means, nested_stream, Option, Parsed, Position, read, ReadAs, ReadTextsAreNotRefused, ReadTextsHaveNoFaultButMemory, ReadTextsHaveOneListOfEvents, ReadTextsHaveTheirTrees, refl, Scanned, ScansIn, Some, streams_are_loaded, streams_are_not_cut, subst, sym, Tok, Token, toks, Tree, true, ℕ, ◌++◌, ◌∙◌, ◌≡◌, take}
 
 -- The tokens handed out, with some more, are read as the trees.
 pub record GoesOn (keep_tags : Bool) (given : List Token) (trees : List Tree) : Type 0 where

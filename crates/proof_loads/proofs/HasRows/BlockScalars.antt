@@ -1,11 +1,9 @@
 -- Literal and folded blocks have rows: the pieces that they are, before what stands after them.
-use Rattle.proof_loads.proofs.TokensCommon.{[], and_false, another, ap, append-nil, append_assoc, are_empty, AreEmptyLines, arith, begins_with, block_may_end, block_read, block_scalar, BlockStyle, Bool, collection_of, column_by, comment_line, content_row, empty_line, empty_row, false, feed, free, full, GapLine, gives_block_scalar, has_content, indented_lines, indicator_of, innermost, is_at_end, is_blank, is_break, is_empty, is_further_text, is_in_line, is_nul, is_separation, is_waiting, IsGap, Line, line_past, List, map, map-append, nat_tests, None, not, Position, position_after, refl, Row, row_of, rows_of, Some, spaces, spell_append, spell_ending, spell_gap, spell_gap_line, spell_line, spell_lines, split, split_spell, starts_with_tab, Style, subst, suc, sym, texts, texts_append, Tok, true, value_before_end, value_before_text, ℕ, ◌++◌, ◌<◌, ◌∙◌, ◌∷◌, ◌≡◌, tab}
+use Rattle.proof_loads.proofs.Common.{[], and_false, another, ap, append-nil, append_assoc, are_empty, AreEmptyLines, arith, begins_with, block_may_end, block_read, block_scalar, BlockStyle, Bool, collection_of, column_by, comment_line, content_row, empty_line, empty_row, false, feed, free, full, GapLine, has_content, indented_lines, indicator_of, innermost, is_at_end, is_blank, is_break, is_empty, is_further_text, is_in_line, is_nul, is_separation, IsGap, Line, List, map, map-append, nat_tests, None, not, Position, position_after, refl, Row, row_of, rows_of, Some, spaces, spell_append, spell_ending, spell_gap, spell_gap_line, spell_line, spell_lines, split, split_spell, starts_with_tab, Style, subst, suc, sym, texts, texts_append, Tok, true, value_before_end, value_before_text, ℕ, ◌++◌, ◌<◌, ◌∙◌, ◌∷◌, ◌≡◌, tab, zero}
 use Rattle.proof_lexers.proofs.Blocks.Written as written
 use Rattle.proof_lexers.proofs.Blocks.Written.{spell}
 use Rattle.proof_lexers.proofs.Blocks.Positions.{spell_more}
-use Rattle.proof_loads.proofs.BlockLines.{line_of, lines_at, empties, texts_are, spelt_feeds, spelt_more, Last, last_of, row_by, row_spaces, content_append, header_by, text_value, spaces_value, last_value, header_line, block_text, header_inner, IsInside, AreEach, AreBlockLines, tab_more, in_column_with, text_body, end_body, is_block, each_more, each_split, are_each, header_none, content_last}
-use Rattle.proof_loads.proofs.BlockLines as scans
-use Rattle.defs_token.specs.Key
+use Rattle.proof_loads.proofs.BlockLines.{line_of, lines_at, empties, texts_are, spelt_feeds, spelt_more, Last, last_of, row_by, row_spaces, content_append, header_by, text_value, spaces_value, last_value, header_line, block_text, header_inner, IsInside, AreEach, AreBlockLines, tab_more, in_column_with, header_is, is_block, each_more, each_split, are_each, header_none, content_last, outside}
 use Rattle.proof_loads.proofs.HasRows.Nodes.{none_ends, Parts, From, outside_reads, Reads, at, HasNone}
 use Rattle.proof_loads.proofs.HasRows.Json.{column_is}
 use Rattle.proof_loads.proofs.HasRows.Trails.{over_break, ending_parts, here_gap, Trail, next, marker, end, marker_text, trail_text, BeginsContent, content_first, IsTrail, IsLow, After, Here}
@@ -29,18 +27,15 @@ abbrev pub token_of : BlockStyle → List ℕ → Tok
 token_of BlockStyle.literal text = Tok.scalar Style.literal text
 token_of BlockStyle.folded text = Tok.scalar Style.folded text
 
-block_line : (must : Bool) (here : Position) (bs : List ℕ) (l : Key.Line) → must ≡ false → is_waiting l ≡ false → line_past must here bs gives_block_scalar false l ≡ Some (record { line = free; blocks = bs })
-block_line must a bs b e h = grind arith
-
 module _ (bs piece text whole more_text : List ℕ) (tokens : List Tok) (parts : Parts bs whole (piece ++ more_text)) where
   piece_reads : (s : BlockStyle) → IsBlockPiece bs s text piece more_text → ((p : Position) (awaits : Bool) → Reads (at (position_after p piece more_text) bs awaits block_scalar free []) more_text tokens)
       → From another bs [] whole (token_of s text ∷ tokens)
   piece_reads BlockStyle.literal z rest =
       outside_reads bs piece (Tok.scalar Style.literal text) whole more_text tokens parts z.none (λ s e. refl) free refl refl (λ p awaits l there. rw (none_ends bs _ there, column_is bs, z.read) (z.some, (refl, (z.column, refl, refl)))) z.may
-      (λ must here l no line. block_line must here bs l no line) (λ deeper here colon l. refl) (λ here awaits there. rest here awaits)
+      (λ must here l no line. grind arith) (λ deeper here colon l. refl) (λ here awaits there. rest here awaits)
   piece_reads BlockStyle.folded z rest =
       outside_reads bs piece (Tok.scalar Style.folded text) whole more_text tokens parts z.none (λ s e. refl) free refl refl (λ p awaits l there. rw (none_ends bs _ there, column_is bs, z.read) (z.some, (refl, (z.column, refl, refl)))) z.may
-      (λ must here l no line. block_line must here bs l no line) (λ deeper here colon l. refl) (λ here awaits there. rest here awaits)
+      (λ must here l no line. grind arith) (λ deeper here colon l. refl) (λ here awaits there. rest here awaits)
 
 -- ---- what stands after a block
 
@@ -82,11 +77,15 @@ Follows column (end g) = column ≡ 0 → AreEmptyLines g
 further_at : (column n : ℕ) (r : List ℕ) → n < column → BeginsContent r → Next column (spaces n r)
 unfolding is_blank is_break is_nul
 further_at column n r low (content_first c x blank break hash nul) =
-    let z : scans.is_further c ≡ true = grind (arith, nat_tests) in
-    at_text (spaces n (c ∷ x)) (scans.not_at_end n c x z) (left column n c x low z) (scans.spaces_tab n c x z)
+    at_text (spaces n (c ∷ x)) (starts n).0 (left column low) (starts n).1
   where
-    left : (column n c : ℕ) (x : List ℕ) → n < column → scans.is_further c ≡ true → is_further_text column (spaces n (c ∷ x)) ≡ true
-    left column n c x h e = grind (arith, nat_tests, suc, scans.outside)
+    starts : (n : ℕ) → (is_at_end (spaces n (c ∷ x)) ≡ false) × (begins_with tab (spaces n (c ∷ x)) ≡ false)
+    starts zero = (grind (arith, nat_tests), grind (arith, nat_tests))
+    starts (suc n) = (refl, refl)
+
+    left : (column : ℕ) → n < column → is_further_text column (spaces n (c ∷ x)) ≡ true
+    left zero h = absurd (omega (arith, h))
+    left (suc m) h = outside (suc m) n c x h blank break nul
 
 pub nested_follows : (c column : ℕ) (bs : List ℕ) (t : Trail) → c < column → IsTrail t → IsLow t (c ∷ bs) → Follows column t
 unfolding is_blank is_break is_nul
@@ -118,10 +117,10 @@ module _ (s : BlockStyle) (i column : ℕ) (strips : Bool) (text : List ℕ) (ls
       → value_before_end (header_by s strips) column (map row_by ms) l r ≡ text → IsBlockPiece bs s text (spell (header ∷ lines_at column ms) l) []
   ends_so ms l r more each row inner none lines value =
       let z = are_each column ms l each none in
-      let body = end_body s i column strips (texts (lines_at column ms)) l _ r (ap (column_by None (collection_of i)) lines ∙ (in_column more).0) (ap starts_with_tab lines ∙ (in_column more).1) z.0 row in
       record {
         column = column;
-        read = rw (same, split_spell (header ∷ lines_at column ms) l (header_inner s strips, tt, z.1) inner) (body ∙ ap (λ t. Some (is_block s i column strips t)) value);
+        read = rw (same, split_spell (header ∷ lines_at column ms) l (header_inner s strips, tt, z.1) inner, header_is s strips, ap (column_by None (collection_of i)) lines ∙ (in_column more).0, ap starts_with_tab lines ∙ (in_column more).1, z.0, row)
+            (ap (λ t. Some (is_block s i column strips t)) value);
         may = refl;
         none = header_none s strips (spell (lines_at column ms) l) z.2;
         some = refl;
@@ -159,8 +158,8 @@ module _ (s : BlockStyle) (i column : ℕ) (strips : Bool) (text : List ℕ) (ls
     block_piece more_text (at_text further some_text is_further tabless) =
         let value = text_value s strips (map row_by ls) n some ∙ h.value in
         let known = in_column (texts (lines_at column (empties n))) in
-        let body = text_body s i column strips (texts (lines_at column all_lines)) more_text _ (ap (column_by None (collection_of i)) all_texts ∙ known.0) some_text is_further (ap starts_with_tab all_texts ∙ known.1) all_rows ∙ ap (λ t. Some (is_block s i column strips t)) value in
-        let read : block_read (innermost bs) piece more_text ≡ Some (is_block s i column strips text) = rw (same, is_split, some_text) body in
+        let read : block_read (innermost bs) piece more_text ≡ Some (is_block s i column strips text) =
+        rw (same, is_split, some_text, header_is s strips, ap (column_by None (collection_of i)) all_texts ∙ known.0, some_text, is_further, ap starts_with_tab all_texts ∙ known.1, all_rows) (ap (λ t. Some (is_block s i column strips t)) value) in
         let content = not_all_empty column (texts (lines_at column all_lines)) _ all_rows (rw (content_append, some) refl) in
         record { column = column; read = read; may = rw (read, is_split, content, tabless, some_text, and_false (is_empty (texts (lines_at column all_lines)))) refl; none = header_none s strips (spell (lines_at column all_lines) []) (are_each column all_lines [] each refl).2; some = refl }
 

@@ -1,10 +1,8 @@
 -- Rows from an account on, given from their last step to their first. A text that has a row has the row's tokens by the scanner's model.
-use Rattle.proof_loads.proofs.TokensCommon.{[], Account, account_past, another, ap, append_assoc, begins_free_line, Bool, Colon, ends_with_stream, Entry, false, Fault, first_account, first_position, free, has_no_nul, HasTokens, HasToks, is_in_flow, is_renewed, is_separation, is_waiting, IsRefused, IsRowFrom, IsShown, line_past_separation, List, map-append, may_stand, not_refused, on_one_line, one_list, past_piece, Position, position_after, Previous, put, refl, Site, site_at, Some, spelled, Step, stream_position, subst, sym, Tok, Token, tokens_before, tokens_from, tokens_of_row, toks, true, up_to_nul, ℕ, ◌++◌, ◌∙◌, ◌∷◌, ◌≡◌}
-use Rattle.defs_token.specs.Key.{Line}
+use Rattle.proof_loads.proofs.Common.{[], Account, account_past, another, ap, append_assoc, begins_free_line, Bool, Colon, ends_with_stream, Entry, false, Fault, first_account, first_position, free, has_no_nul, HasTokens, HasToks, is_in_flow, is_renewed, is_separation, is_waiting, IsRefused, IsRowFrom, IsShown, line_past_separation, List, map-append, may_stand, not_refused, on_one_line, one_list, past_piece, Position, position_after, Previous, put, refl, Site, site_at, Some, spelled, Step, stream_position, subst, sym, Tok, Token, tokens_before, tokens_from, tokens_of_row, toks, true, up_to_nul, ℕ, ◌++◌, ◌∙◌, ◌∷◌, ◌≡◌, clean_up_to_end, texts_with_a_row_are_read, map}
+pub use Rattle.defs_token.specs.Key.{Line}
 use Rattle.proof_loads.proofs.Nul.{HasNone, both, whole}
 use Rattle.defs_token.specs.Step.{Row}
-use Rattle.proof_row.proofs.Pieces.{clean_up_to_end}
-use Rattle.proof_scanner.proofs.Complete.{texts_with_a_row_are_read}
 
 -- From an account on a text has a row, with these tokens.
 pub record Reads (a : Account) (text : List ℕ) (tokens : List Tok) : Type 0 where
@@ -60,8 +58,7 @@ has_tokens text tokens z =
 
 -- the ends of block collections, before other tokens
 abbrev pub ended : List ℕ → List Tok → List Tok
-ended [] o = o
-ended (n ∷ bs) o = Tok.block_end ∷ ended bs o
+ended bs o = map (λ n. Tok.block_end) bs ++ o
 
 -- the end of a text
 pub read_end : (p : Position) (bs : List ℕ) (awaits : Bool) (before : Previous) (l : Line) (last : List ℕ) → is_waiting l ≡ false → is_separation false last [] ≡ true → HasNone last → Reads (at p bs awaits before l []) last (ended bs (Tok.stream_end ∷ []))

@@ -1,5 +1,5 @@
 -- Bodies of flow scalars on one line, and their values: strings of JSON texts, and texts in quotes as layouts write them.
-use Rattle.proof_loads.proofs.TokensCommon.{[], and_parts, ap, append_assoc, are_pieces, arith, body_value, Bool, character_of, content, digit_value, double, double_quoted_element, double_quoted_value, doubled, Element, elements, eqb-true, escape, escaped_code, false, flat_map, four_digits, further_lines_stand, has_document_marker, has_no_break, hexadecimal_digit, if◌then◌else◌, is_blank, is_break, is_character_code, is_digit, is_hex_digit, is_line_character, is_nul, is_piece, is_surrogate, is_unescaped, IsLineText, itself, letter_of, List, list_all, ltb-true, nat_lt, nat_tests, not, not-true, numeric_escape, or_parts, Option, Piece, plain_element, quote_of, quoted_lines_fit, Quotes, refl, short, Short, single, single_quoted_element, single_quoted_value, Some, spell_pieces, spell_string, Spelled, style_of, sym, Tok, true, unescaped, unicode, value_by, without_last, written_character, written_escapes, ℕ, ◌%◌, ◌*◌, ◌++◌, ◌+◌, ◌/◌, ◌<◌, ◌==◌, ◌||◌, ◌∙◌, ◌∷◌, ◌≡◌}
+use Rattle.proof_loads.proofs.Common.{[], and_parts, ap, append_assoc, are_pieces, arith, body_value, Bool, character_of, content, digit_value, double, double_quoted_element, double_quoted_value, doubled, Element, elements, eqb-true, escape, escaped_code, false, flat_map, four_digits, further_lines_stand, has_document_marker, has_no_break, hexadecimal_digit, if◌then◌else◌, is_blank, is_break, is_character_code, is_digit, is_hex_digit, is_line_character, is_nul, is_piece, is_surrogate, is_unescaped, IsLineText, itself, letter_of, List, list_all, ltb-true, nat_lt, nat_tests, not, not-true, numeric_escape, or_parts, Option, Piece, plain_element, quote_of, quoted_lines_fit, Quotes, refl, short, Short, single, single_quoted_element, single_quoted_value, Some, spell_pieces, spell_string, Spelled, style_of, sym, Tok, true, unescaped, unicode, value_by, without_last, written_character, written_escapes, ℕ, ◌%◌, ◌*◌, ◌++◌, ◌+◌, ◌/◌, ◌<◌, ◌==◌, ◌||◌, ◌∙◌, ◌∷◌, ◌≡◌}
 use Rattle.defs_text.specs.FlowScalar.{blank, lines_of, last_line, text_of}
 use Rattle.proof_loads.proofs.Nul.{HasNone, quoted_none}
 

@@ -1,7 +1,7 @@
 -- JSON texts have their tokens.
-use Rattle.proof_loads.proofs.TokensCommon.{[], append-nil, arith, false, first_account, first_position, free, IsWellFormed, json_text_tokens, json_tokens, JsonText, JsonTextsAreNotRefused, JsonTextsHaveNoOtherTokens, JsonTextsHaveTheirTokens, None, refl, spell_text, Tok, ◌∷◌}
+use Rattle.proof_loads.proofs.Common.{[], append-nil, arith, false, first_account, first_position, free, IsWellFormed, json_text_tokens, json_tokens, JsonText, JsonTextsHaveNoOtherTokens, JsonTextsHaveTheirTokens, None, refl, spell_text, Tok, ◌∷◌}
 use Rattle.defs_layout.specs.JsonGap.{spell_gap}
-use Rattle.proof_loads.proofs.HasRows.Steps.{no_other_tokens, none_is_refused}
+use Rattle.proof_loads.proofs.HasRows.Steps.{no_other_tokens}
 use Rattle.proof_loads.proofs.HasRows.Nodes.{outside, Reads, has_tokens, read_end}
 use Rattle.proof_loads.proofs.HasRows.Json.{white, blanks, white_none, spelt, separates, ends, at_end, value_reads}
 
@@ -15,6 +15,3 @@ json_text_has_its_tokens w is = has_tokens (spell_text w) (json_tokens w.value (
 
 pub json_text_has_no_other_tokens : JsonTextsHaveNoOtherTokens
 json_text_has_no_other_tokens w is ts z = no_other_tokens (spell_text w) (json_text_tokens w) (json_text_has_its_tokens w is) ts z
-
-pub json_text_is_not_refused : JsonTextsAreNotRefused
-json_text_is_not_refused w is f refusal = none_is_refused (spell_text w) (json_text_tokens w) (json_text_has_its_tokens w is) f refusal
