@@ -1,5 +1,5 @@
 -- The lines of a literal or folded block as the definitions of block scalars read them: their column, their rows and their value.
-use Rattle.proof_loads.proofs.Common.{[], and_false, and_parts, ap, append-nil, append_assoc, append_cancel_right, are_marks, AreFoldedLines, AreLines, AreLinesOf, AreLineTexts, arith, begins_as_marker, BeginsWithText, blank, BlockStyle, Bool, breaks, Chomping, codes, collection_of, column_by, content_row, contents, deepest_start, digit_of, drop, empty_row, ends_with, EndsInText, false, feed, first_full_line_is_indented, full, has_content, Header, header_of, if◌then◌else◌, indented_lines, indicator_of, is_blank, is_blank_or_end, is_content_line, is_document_marker, is_empty, is_empty_line, is_in_line, is_line_character, is_line_feed, is_literal_character, is_literal_text, is_nul, is_outside, is_root_literal, is_spaces, IsLineText, leading_spaces, length, Line, lines_of, lines_of_ended, List, list_all, list_any, literal_header, map, max, nat_eq, nat_le, nat_tests, ne_eqb, None, not, not-true, onto_first_line, or_parts, refl, Row, row_of, rows_of, sign_of, Some, spaces, spell_line, spell_lines, starts_with_tab, suc, sym, text_after, text_of, texts, true, value_before_end, value_before_text, zero, ℕ, ◌&&◌, ◌++◌, ◌+◌, ◌<◌, ◌==◌, ◌||◌, ◌∙◌, ◌∷◌, ◌≡◌, ◌≤◌, ended, is_break, BlockRead}
+use Rattle.proof_loads.proofs.Common.{[], and_false, and_parts, ap, append-nil, append_assoc, append_cancel_right, are_marks, AreFoldedLines, AreLines, AreLinesOf, AreLineTexts, arith, begins_as_marker, BeginsWithText, blank, BlockStyle, Bool, breaks, Chomping, codes, collection_of, column_by, content_row, contents, deepest_start, digit_of, drop, empty_row, ends_with, EndsInText, false, feed, first_full_line_is_indented, full, has_content, Header, header_of, if◌then◌else◌, indented_lines, indicator_of, is_blank, is_blank_or_end, is_content_line, is_document_marker, is_empty, is_empty_line, is_in_line, is_line_character, is_line_feed, is_literal_character, is_literal_text, is_nul, is_outside, is_root_literal, is_spaces, IsLineText, leading_spaces, length, Line, lines_of, lines_of_ended, List, list_all, list_any, literal_header, map, max, nat_eq, nat_le, nat_tests, ne_eqb, None, not, not-true, onto_first_line, or_parts, refl, Row, row_of, rows_of, sign_of, Some, spaces, spell_line, spell_lines, starts_with_tab, suc, sym, text_after, text_of, texts, true, value_before_end, value_before_text, zero, ℕ, ◌&&◌, ◌++◌, ◌+◌, ◌<◌, ◌==◌, ◌||◌, ◌∙◌, ◌∷◌, ◌≡◌, ◌≤◌, ended, is_break, BlockRead, All, All-nil, All-cons, All-head, All-tail, replicate}
 use Rattle.proof_lexers.proofs.Blocks.Written as written
 use Rattle.proof_loads.proofs.Nul.{HasNone, both, text_none, spaces_none}
 use Rattle.proof_lexers.proofs.Blocks.First.{least_is}
@@ -16,8 +16,7 @@ lines_at column ls = map (line_of column) ls
 
 -- so many empty lines
 abbrev pub empties : ℕ → List Line
-empties zero = []
-empties (suc n) = blank 0 ∷ empties n
+empties n = replicate n (blank 0)
 
 pub texts_are : (column : ℕ) (ls : List Line) → texts (lines_at column ls) ≡ indented_lines column ls
 texts_are column [] = refl
@@ -163,16 +162,12 @@ pub record IsBlockLine (column : ℕ) (l : Line) : Type 0 where
   pub inner : is_in_line (spell_line column l []) ≡ true
   pub none : HasNone (spell_line column l [])
 
-abbrev pub AreEach : (column : ℕ) → List Line → Type 0
-AreEach column [] = Unit {0}
-AreEach column (l ∷ ls) = IsBlockLine column l × AreEach column ls
-
 -- The lines of a block of this style, whose value is the text.
 pub record AreBlockLines (s : BlockStyle) (column : ℕ) (strips : Bool) (text : List ℕ) (ls : List Line) : Type 0 where
   pub begins : BeginsWithText ls
   pub ends : EndsInText ls
   pub lines : AreLines column ls
-  pub each : AreEach column ls
+  pub each : All (IsBlockLine column) ls
   pub tabless : starts_with_tab (indented_lines column ls) ≡ false
   pub value : value_before_text (header_by s strips) (map row_by ls) ≡ text
 
@@ -215,41 +210,32 @@ no_marker : (w : List ℕ) → IsLineText w → begins_as_marker w ≡ false →
 unfolding are_marks is_line_character is_blank_or_end is_blank is_break is_nul
 no_marker w h e = grind (arith, nat_tests, and_parts, is_line_character, list_all)
 
-a_blank : (column n : ℕ) → n ≤ column → IsBlockLine column (blank n)
+pub a_blank : (column n : ℕ) → n ≤ column → IsBlockLine column (blank n)
 a_blank column n low = record { row = row_spaces column n low; inner = inner_spaces n [] refl; none = spaces_none n [] refl }
 
-pub each_line : (column : ℕ) (ls : List Line) → AreLines column ls → AreLineTexts ls → AreFree column ls → AreEach column ls
-each_line column [] are texts free = tt
+pub each_line : (column : ℕ) (ls : List Line) → AreLines column ls → AreLineTexts ls → AreFree column ls → All (IsBlockLine column) ls
+each_line column [] are texts free = All-nil (IsBlockLine column)
 each_line column (full [] ∷ ls) are texts free = absurd (are.0 refl)
 each_line column (full (c ∷ w) ∷ ls) are texts free =
-    let w' = c ∷ w in (
-      record {
-        row = text_row column c w (λ e. no_marker w' texts.0 (or_parts (begins_as_marker w') (list_any begins_as_marker (contents ls)) (free e)).0);
-        inner = inner_spaces column (w' ++ []) (inner_line w' texts.0);
-        none = spaces_none column (w' ++ []) (both w' [] (text_none w' texts.0) refl);
-      },
-      each_line column ls are.1 texts.1 (λ e. (or_parts (begins_as_marker w') (list_any begins_as_marker (contents ls)) (free e)).1),
-    )
-each_line column (blank n ∷ ls) are texts free = (a_blank column n are.0, each_line column ls are.1 texts free)
-
--- with empty lines after them
-pub each_more : (column : ℕ) (ls : List Line) (n : ℕ) → AreEach column ls → AreEach column (ls ++ empties n)
-each_more column [] zero h = tt
-each_more column [] (suc n) h = (a_blank column 0 (omega arith), each_more column [] n h)
-each_more column (l ∷ ls) n h = (h.0, each_more column ls n h.1)
-
-pub each_split : (column : ℕ) (ls : List Line) (l : Line) → AreEach column (ls ++ l ∷ []) → AreEach column ls × IsBlockLine column l
-each_split column [] l h = (tt, h.0)
-each_split column (m ∷ ls) l h = let q = each_split column ls l h.1 in ((h.0, q.0), q.1)
+    let w' = c ∷ w in
+    let unmarked = λ (e : column ≡ 0). or_parts (begins_as_marker w') (list_any begins_as_marker (contents ls)) (free e) in
+    let first : IsBlockLine column (full w') = record {
+      row = text_row column c w (λ e. no_marker w' texts.0 (unmarked e).0);
+      inner = inner_spaces column (w' ++ []) (inner_line w' texts.0);
+      none = spaces_none column (w' ++ []) (both w' [] (text_none w' texts.0) refl);
+    } in
+    All-cons (IsBlockLine column) (full w') ls first (each_line column ls are.1 texts.1 (λ e. (unmarked e).1))
+each_line column (blank n ∷ ls) are texts free = All-cons (IsBlockLine column) (blank n) ls (a_blank column n are.0) (each_line column ls are.1 texts free)
 
 -- such lines before a last one: their rows, as lines, and that they have no NUL
-pub are_each : (column : ℕ) (ls : List Line) (e : List ℕ) → AreEach column ls → HasNone e
+pub are_each : (column : ℕ) (ls : List Line) (e : List ℕ) → All (IsBlockLine column) ls → HasNone e
     → (rows_of column (texts (lines_at column ls)) ≡ Some (map row_by ls)) × written.AreLines (lines_at column ls) e
     × HasNone (written.spell (lines_at column ls) e)
 are_each column [] e h none = (refl, tt, none)
 are_each column (l ∷ ls) e h none =
-    let z = are_each column ls e h.1 none in
-    (rw (h.0.row, z.0) refl, (h.0.inner, tt, z.1), both (spell_line column l []) _ h.0.none z.2)
+    let first = All-head (IsBlockLine column) l ls h in
+    let z = are_each column ls e (All-tail (IsBlockLine column) l ls h) none in
+    (rw (first.row, z.0) refl, (first.inner, tt, z.1), both (spell_line column l []) _ first.none z.2)
 
 pub header_none : (s : BlockStyle) (strips : Bool) (a : List ℕ) → HasNone a → HasNone (block_text s strips (10 ∷ a))
 header_none s strips a n = grind arith

@@ -124,3 +124,4 @@ pub use Rattle.yaml_tokens.specs.ErrorReport.{ErrorReport}
 pub use Rattle.yaml_tokens.specs.declared.problem.Fault.{Fault}
 pub use Rattle.yaml_tokens.specs.declared.problem.Fault.TheVariants.{At}
 pub use Rattle.yaml_tokens.specs.declared.problem.Problem.{Problem}
+pub use Rattle.std.proofs.lemmas.List.Elements.{All-append, All-cons, All-head, All-nil, All-pop, All-replicate, All-tail}

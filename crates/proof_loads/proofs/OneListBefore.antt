@@ -228,8 +228,7 @@ events_before (no_token given es settled begins has r) = es
 events_before (no_stream before last es first blames begins none) = es
 
 come_before : {keep_tags : Bool} {text : List ℕ} {f : ErrorReport} (x : IsFaultOf keep_tags text f) (es : List (Ev × Position)) → f.memory ≡ false → ComesAfter x es → es ≡ events_before x
-come_before {f = f} (wants_memory w) es m h = absurd (both_ways f.memory m w.memory)
-come_before x es m h = h
+come_before x es m h = grind (arith, both_ways)
 
 -- Two faults of a text are the same, and so are the events before them.
 pub one_cause : (keep_tags : Bool) (text : List ℕ) (f g : ErrorReport) (x : IsFaultOf keep_tags text f) (y : IsFaultOf keep_tags text g) → f.memory ≡ false → g.memory ≡ false → (f ≡ g) × AgreeAt (events_before x) (events_before y)

@@ -70,8 +70,7 @@ settings_stay (one_call (event e p) calls gives) = let k = settings_stay calls i
 settings_stay (one_call (fault f) calls gives) = let k = settings_stay calls in record { keep_tags = gives.settings.keep_tags ∙ k.keep_tags; steady = gives.settings.steady ∙ k.steady }
 
 pub read_given : (es : List (Ev × Position)) (ended : Bool) (ahead : Option (Ev × Position)) → ahead ≡ None → read_so es ended ahead ≡ es
-read_given es false (Some e) h = cc
-read_given es ended ahead h = refl
+read_given es ended ahead h = grind arith
 
 pub has_end_append : (es fs : List (Ev × Position)) → has_end (es ++ fs) ≡ has_end es || has_end fs
 has_end_append [] fs = refl

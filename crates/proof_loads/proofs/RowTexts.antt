@@ -10,8 +10,5 @@ pub means : {keep_tags : Bool} {text : List ℕ} {tokens : List Tok} {trees : Li
 means {keep_tags} {text} {tokens} {trees} without has read =
     record { tokens = has.0; has = tokens_are_of_a_row text has.0 (without_nul text without) has.1; read = subst (λ ts. ReadAs keep_tags ts trees) (sym has.2) read }
 
-pub no_row : RefusedTextsHaveNoRow
-no_row text f tokens without refused row = not_refused text tokens f (texts_with_a_row_are_read text tokens (without_nul text without) row) refused
-
 pub of_the_row : EventsAreOfTheRow
 of_the_row keep_tags text events h = record { tokens = h.tokens; has = h.has; stream = placed_stream keep_tags h.tokens events h.stream }
