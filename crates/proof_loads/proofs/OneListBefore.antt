@@ -89,7 +89,7 @@ one_refusal text f g r s m =
     let same : r.fault ≡ s.fault = one_fault text r.fault s.fault r.refused s.refused in
     let none : (fault_of r.fault r.position).memory ≡ false = ap (λ x. x.memory) (sym r.shown) ∙ m in
     let placed : fault_of r.fault r.position ≡ fault_of r.fault s.position = grind (arith, none) in
-    r.shown ∙ placed ∙ ap (λ e. fault_of e s.position) same ∙ sym s.shown
+    cc
 
 -- ---- of the parser
 
@@ -119,11 +119,10 @@ same_blame keep_tags tokens es fs f g a b =
     (same.0, same.1, problems (is_of_names a.problem) (is_of_names b.problem) refl refl same)
   where
     problems : (m n : Bool) → is_of_names a.problem ≡ m → is_of_names b.problem ≡ n → (a.before ≡ b.before) × (a.last ≡ b.last) → a.problem ≡ b.problem
-    problems true true c d same =
-        fits_name a.problem (kind_of a.last.tok) c a.fits_it ∙ ap (λ (t : Token). name_problem (kind_of t.tok)) same.1 ∙ sym (fits_name b.problem (kind_of b.last.tok) d b.fits_it)
+    problems true true c d same = cc (fits_name a.problem (kind_of a.last.tok) c a.fits_it, fits_name b.problem (kind_of b.last.tok) d b.fits_it)
     problems true false c d same = let s = a.some c in absurd (b.none d s.0 s.1 s.2)
     problems false true c d same = let s = b.some d in absurd (a.none c s.0 s.1 s.2)
-    problems false false c d same = a.says c ∙ ap (λ ts. problem_of (toks ts) a.last.tok) same.0 ∙ ap (λ (t : Token). problem_of (toks b.before) t.tok) same.1 ∙ sym (b.says d)
+    problems false false c d same = cc (a.says c, b.says d)
 
 -- and are the same.
 pub one_blame : (keep_tags : Bool) (tokens : List Token) (es fs : List (Ev × Position)) (f g : ErrorReport) → Blames f [] keep_tags tokens es → Blames g [] keep_tags tokens fs → f ≡ g
@@ -131,7 +130,7 @@ one_blame keep_tags tokens es fs f g a b =
     let same = same_blame keep_tags tokens es fs f g a b in
     let stands : StandsAt a.problem g.position a.before a.last = rw (same.2, same.0, same.1) (b.stands) in
     let place : f.position ≡ g.position = one_place a.problem a.before a.last f.position g.position a.stands stands in
-    a.shown ∙ ap (λ p. fault_of (At p f.position) f.position) same.2 ∙ ap (λ x. fault_of (At b.problem x) x) place ∙ sym b.shown
+    cc
 
 -- ---- of both
 
@@ -141,9 +140,7 @@ refused_first keep_tags before ts last events none b w =
     let first = before ++ last ∷ [] in
     let c : BeginsPlaced keep_tags (first ++ w.more) events = subst (λ us. BeginsPlaced keep_tags us events) w.whole b in
     let rest = toks w.more ++ toks c.more_tokens in
-    let all : toks ((first ++ w.more) ++ c.more_tokens) ≡ toks first ++ rest =
-    map-append (λ (t : Token). t.tok) (first ++ w.more) c.more_tokens ∙ ap (λ ts. ts ++ toks c.more_tokens) (map-append (λ (t : Token). t.tok) first w.more)
-    ∙ append_assoc (toks first) (toks w.more) (toks c.more_tokens) in
+    let all : toks ((first ++ w.more) ++ c.more_tokens) ≡ toks first ++ rest = simp (map-append, append_assoc) in
     none rest (events_of (events ++ c.more_events))
     (subst (λ ts. IsStream keep_tags ts (events_of (events ++ c.more_events))) all (placed_stream keep_tags _ (events ++ c.more_events) c.stream))
 

@@ -93,18 +93,14 @@ note q p answers e pl n gives = by q.ended refl
     by true h =
         let same : p.given ≡ q.given = (rw h at gives.given) ∙ append-nil q.given in
         let end : p.ended ≡ true = rw h at gives.ended in
-        record {
-          rest = n.rest ++ event e pl ∷ [];
-          answers_are = ap (λ bs. bs ++ event e pl ∷ []) n.answers_are ∙ append_assoc (given ErrorReport q.given) n.rest (event e pl ∷ []) ∙ ap (λ es. given ErrorReport es ++ (n.rest ++ event e pl ∷ [])) (sym same);
-          ended = end ∙ sym h ∙ n.ended ∙ sym (ap has_end same);
-          none = λ no. cc;
-        }
+        record { rest = n.rest ++ event e pl ∷ []; answers_are = cc (append_assoc (given ErrorReport q.given) n.rest (event e pl ∷ [])); ended = cc; none = λ no. cc }
     by false h =
         let more : p.given ≡ q.given ++ (e, pl) ∷ [] = rw h at gives.given in
+        let alone = given_alone answers q n h in
         record {
           rest = [];
-          answers_are = ap (λ bs. bs ++ event e pl ∷ []) (given_alone answers q n h) ∙ sym (given_append ErrorReport q.given ((e, pl) ∷ [])) ∙ ap (given ErrorReport) (sym more) ∙ sym (append-nil (given ErrorReport p.given));
-          ended = gives.ended ∙ ap (λ b. b || is_stream_end e) n.ended ∙ ap (λ b. has_end q.given || b) (sym (or_false (is_stream_end e))) ∙ sym (ap has_end more ∙ has_end_append q.given ((e, pl) ∷ []));
+          answers_are = cc (given_append ErrorReport q.given ((e, pl) ∷ []), append-nil (given ErrorReport p.given));
+          ended = gives.ended ∙ rw (n.ended, more, has_end_append) (grind (arith, or_false));
           none = λ no. refl;
         }
 

@@ -77,8 +77,7 @@ pub all_tokens : (text : List ℕ) (given : List Token) (es : List Raw) → has_
 all_tokens text given es nul reached d =
     let among = end_among given (ends_at whole_stream (toks given) es d refl) in
     let more = reached.begins.more in
-    let at : reached.last.held.tokens ≡ among.before ++ among.end ∷ (among.more ++ more) =
-    reached.begins.whole ∙ ap (λ xs. xs ++ more) among.whole ∙ append_assoc among.before (among.end ∷ among.more) more in
+    let at : reached.last.held.tokens ≡ among.before ++ among.end ∷ (among.more ++ more) = cc (append_assoc among.before (among.end ∷ among.more) more) in
     let last = end_is_last text reached.last among.before (among.more ++ more) among.end reached.run at among.is_end in
     tokens_are_of_a_row text given nul (record {
       end = reached.last;
