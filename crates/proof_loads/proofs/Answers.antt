@@ -161,8 +161,7 @@ module _ (text : List ℕ) (answers : List (Answer ErrorReport)) (p : Parsed) (s
           let all = read p ++ more in
           let tokens = follows.before ++ follows.begins.more_tokens in
           let pushed = all_are_pushed p.keep_tags (toks tokens) all (placed_stream p.keep_tags tokens all follows.begins.stream) in
-          let are : given ErrorReport all ≡ answers ++ given ErrorReport more =
-          given_append ErrorReport (read p) more ∙ ap (λ es. given ErrorReport es ++ given ErrorReport more) same ∙ ap (λ bs. bs ++ given ErrorReport more) (sym (given_alone answers p n going)) in
+          let are : given ErrorReport all ≡ answers ++ given ErrorReport more = cc (given_append ErrorReport (read p) more, same, given_alone answers p n going) in
           not_well (ended_within ErrorReport all answers (given ErrorReport more) pushed are (subst (λ x. IsOver x) (sym e) tt)).1
 
   -- What was pushed is a beginning of what was given.
@@ -212,7 +211,7 @@ ends_so answers p scans steady (events n clear (inl none)) taken (EndsSo.well e 
 ends_so {takes = takes} {r} {s} {text} answers p scans steady (events n clear (inr (ahead, sound))) taken (EndsSo.well e _ received) =
     let all = well_all text answers p scans steady n ahead sound e in
     whole p.given (has_all_events text p scans all.is_whole) (subst (λ es. Receives takes r es s) all.pushed.0 received)
-ends_so answers p scans steady (faults f first rest are kept ahead why) taken (EndsSo.well e clear received) = let no : None ≡ Some f = sym clear ∙ kept in cc
+ends_so answers p scans steady (faults f first rest are kept ahead why) taken (EndsSo.well e clear received) = cc
 ends_so answers p scans steady a taken (EndsSo.faulted {f = f} e kept received) = let x = at_fault answers p scans steady a f e kept received in AnswersText.faulted x.events x.why.why x.why.after x.took
 ends_so {text = text} answers p scans steady a taken (EndsSo.misplaced q e received) = absurd (never_misplaced text answers p scans steady a q e taken)
 ends_so answers p scans steady (events n clear (inl none)) taken (EndsSo.refused {es = es} e q pushed _ received takes) = absurd (not_empty es (ap (λ bs. (so bs).pushed) (sym none) ∙ pushed))
@@ -222,13 +221,13 @@ ends_so answers p scans steady (events n clear (inl none)) taken (EndsSo.refused
     not_empty (x ∷ xs) h = cc
 ends_so {text = text} answers p scans steady (events n clear (inr (ahead, sound))) taken (EndsSo.refused {es = es} e q pushed _ received takes) =
     AnswersText.refused es e q (begins_text text answers p scans steady n ahead sound (es ++ (e, q) ∷ []) pushed) received takes
-ends_so answers p scans steady (faults f first rest are kept ahead why) taken (EndsSo.refused e q pushed clear received takes) = let no : None ≡ Some f = sym clear ∙ kept in cc
+ends_so answers p scans steady (faults f first rest are kept ahead why) taken (EndsSo.refused e q pushed clear received takes) = cc
 
 fault_ends : {R : Type 0} {takes : Takes R} {r s : R} {text : List ℕ} {f : ErrorReport} {new : Parsed} (answers : List (Answer ErrorReport)) (p : Parsed)
     → ScansIn text p.scanner → p.steady ≡ true → Answered answers p → (so answers).taken ≡ length answers → EndsSo takes r (so answers) p (Err f) new s → new.fault ≡ Some f → FaultTaken takes p.keep_tags text f r s
 fault_ends answers p scans steady a taken (EndsSo.faulted {f = f} e kept received) h = at_fault answers p scans steady a f e kept received
 fault_ends {text = text} answers p scans steady a taken (EndsSo.misplaced q e received) h = absurd (never_misplaced text answers p scans steady a q e taken)
-fault_ends {f = f} answers p scans steady a taken (EndsSo.refused e q pushed clear received takes) h = let no : None ≡ Some f = sym clear ∙ h in cc
+fault_ends {f = f} answers p scans steady a taken (EndsSo.refused e q pushed clear received takes) h = cc
 
 scanner_stays : {R : Type 0} {takes : Takes R} {r s : R} {l : Loaded ErrorReport} {p new : Parsed} {result : Result (Unit {0}) ErrorReport}
     → EndsSo takes r l p result new s → new.scanner ≡ p.scanner

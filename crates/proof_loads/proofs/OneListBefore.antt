@@ -79,8 +79,7 @@ settled_first text all given s r = elim (of_one there_too.begins s.begins) [ inl
         let keys : KeysFrom (length all + 1 + length more) last.held.keys = subst (λ n. KeysFrom n last.held.keys) count (there_too.keys s.refused.going) in
         let whole : last.held.tokens ≡ all = s.all (none_comes (length all) (length more) last.held.keys keys) in
         let b = there_too.begins in
-        let too_long : length all ≡ length given + length b.more = ap length (sym whole ∙ b.whole) ∙ length-append given b.more in
-        absurd (omega (arith, count, too_long))
+        absurd (omega (arith, count, ap length whole, ap length b.whole, length-append given b.more))
 
 -- ---- of the scanner
 
@@ -157,9 +156,7 @@ last_or_before (x ∷ xs) (y ∷ ys) more u e =
 
 both_begin : (xs ys : List Token) → BeginsWith xs ys → BeginsWith ys xs → xs ≡ ys
 both_begin xs ys b c =
-    let x = ap length b.whole ∙ length-append xs b.more in
-    let y = ap length c.whole ∙ length-append ys c.more in
-    same_beginning xs ys b.more [] (omega (arith, x, y)) (sym b.whole ∙ sym (append-nil ys))
+    same_beginning xs ys b.more [] (omega (arith, ap length b.whole, length-append xs b.more, ap length c.whole, length-append ys c.more)) (cc (append-nil ys))
 
 reached_all : (text : List ℕ) (given : List Token) → AreSettled text given → IsReached text given
 reached_all text given s = record { last = s.refused.last; run = s.refused.run; begins = s.begins; behind = λ going. s.behind }

@@ -66,8 +66,8 @@ faulted_pushes F s (e ∷ es) f g rest h = grind (arith, faulted_pushes F betwee
 
 pub settings_stay : {p q : Parsed} {answers : List (Answer ErrorReport)} → PullsAll p answers q → KeepsSettings p q
 settings_stay no_call = record { keep_tags = refl; steady = refl }
-settings_stay (one_call (event e p) calls gives) = let k = settings_stay calls in record { keep_tags = gives.settings.keep_tags ∙ k.keep_tags; steady = gives.settings.steady ∙ k.steady }
-settings_stay (one_call (fault f) calls gives) = let k = settings_stay calls in record { keep_tags = gives.settings.keep_tags ∙ k.keep_tags; steady = gives.settings.steady ∙ k.steady }
+settings_stay (one_call (event e p) calls gives) = let k = settings_stay calls in record { keep_tags = cc; steady = cc }
+settings_stay (one_call (fault f) calls gives) = let k = settings_stay calls in record { keep_tags = cc; steady = cc }
 
 pub read_given : (es : List (Ev × Position)) (ended : Bool) (ahead : Option (Ev × Position)) → ahead ≡ None → read_so es ended ahead ≡ es
 read_given es ended ahead h = grind arith
@@ -84,7 +84,7 @@ pub record Noted (answers : List (Answer ErrorReport)) (p : Parsed) : Type 0 whe
   pub none : p.ended ≡ false → rest ≡ []
 
 pub given_alone : (answers : List (Answer ErrorReport)) (p : Parsed) → Noted answers p → p.ended ≡ false → answers ≡ given ErrorReport p.given
-given_alone answers p n going = n.answers_are ∙ ap (λ bs. given ErrorReport p.given ++ bs) (n.none going) ∙ append-nil (given ErrorReport p.given)
+given_alone answers p n going = cc (n.none going, append-nil (given ErrorReport p.given))
 
 note : (q p : Parsed) (answers : List (Answer ErrorReport)) (e : Ev) (pl : Position) → Noted answers q → GivesEvent q (e, pl) p → Noted (answers ++ event e pl ∷ []) p
 note q p answers e pl n gives = by q.ended refl
@@ -120,7 +120,7 @@ answered start (one_call {q = q} {r = r} {answers = answers} (event e pl) calls 
 answered start (one_call {q = q} {r = r} {answers = answers} (fault g) calls gives) = by (answered start calls)
   where
     by : Answered answers q → Answered (answers ++ fault g ∷ []) r
-    by (events n clear s) = faults g g [] (ap (λ bs. bs ++ fault g ∷ []) (given_alone answers q n gives.ended.0) ∙ ap (λ es. given ErrorReport es ++ fault g ∷ []) (sym gives.given)) gives.fault gives.ahead.1 (gives.why clear)
+    by (events n clear s) = faults g g [] (cc (given_alone answers q n gives.ended.0, gives.given)) gives.fault gives.ahead.1 (gives.why clear)
     by (faults f first rest are kept ahead why) =
         let again = subst (λ x. IfSome x (λ k. (g ≡ k) × (r ≡ q))) kept gives.again in
-        subst (Answered (answers ++ fault g ∷ [])) (sym again.1) (faults f first (rest ++ fault g ∷ []) (ap (λ bs. bs ++ fault g ∷ []) are ∙ append_assoc (given ErrorReport q.given) (fault first ∷ rest) (fault g ∷ [])) kept ahead why)
+        subst (Answered (answers ++ fault g ∷ [])) (sym again.1) (faults f first (rest ++ fault g ∷ []) (cc (append_assoc (given ErrorReport q.given) (fault first ∷ rest) (fault g ∷ []))) kept ahead why)

@@ -37,7 +37,7 @@ pub foretells_beginning : (keep_tags : Bool) (tokens : List Tok) (all es more : 
 foretells_beginning keep_tags tokens all es more e foretold ts vs stream =
     let f = foretold ts vs stream in
     let parts : events_of all ≡ events_of es ++ events_of more = ap events_of e ∙ map-append (λ (v : Ev × Position). v.0) es more in
-    (events_of more ++ f.0, f.1 ∙ ap (λ xs. xs ++ f.0) parts ∙ append_assoc (events_of es) (events_of more) f.0)
+    (events_of more ++ f.0, cc (f.1, append_assoc (events_of es) (events_of more) f.0))
 
 pub events_are_read : EventsOfReadTextsAreRead
 events_are_read p text trees es more x scans follows e =

@@ -184,9 +184,9 @@ module _ (s : BlockStyle) (i column : ℕ) (strips : Bool) (text : List ℕ) (ls
   block_ends : IsBlockPiece bs s text last_piece []
   block_ends =
       let q = All-pop (IsBlockLine column) ls end_of.init (Some (full end_of.last)) end_of.is h.each in
-      let lines : texts (lines_at column end_of.init) ++ last_text ∷ [] ≡ indented_lines column ls ++ [] =
-      ap (λ x. x ++ last_text ∷ []) (texts_are column end_of.init) ∙ sym (map-append (λ l. spell_line column l []) end_of.init (full end_of.last ∷ [])) ∙ ap (indented_lines column) (sym end_of.is) ∙ sym (append-nil _) in
-      let value = last_value s strips column (map row_by end_of.init) (content_row end_of.last) last_text refl ∙ ap (value_before_text (header_by s strips)) (sym (map-append row_by end_of.init (full end_of.last ∷ [])) ∙ ap (map row_by) (sym end_of.is)) ∙ h.value in
+      let lines = ap (λ x. x ++ last_text ∷ []) (texts_are column end_of.init) ∙ sym (map-append (λ l. spell_line column l []) end_of.init (full end_of.last ∷ [])) ∙ ap (indented_lines column) (sym end_of.is) ∙ sym (append-nil _) in
+      let rows : map row_by end_of.init ++ content_row end_of.last ∷ [] ≡ map row_by ls = cc (map-append row_by end_of.init (full end_of.last ∷ []), end_of.is) in
+      let value = last_value s strips column (map row_by end_of.init) (content_row end_of.last) last_text refl ∙ ap (value_before_text (header_by s strips)) rows ∙ h.value in
       ends_so end_of.init last_text (content_row end_of.last) [] q.0 q.1.row q.1.inner q.1.none lines value
 
   last_spelt : block_text s strips (spell_lines column ls []) ≡ last_piece ++ []
