@@ -1,9 +1,7 @@
 -- Texts of one quoted scalar have their tokens.
 use Rattle.proof_loads.proofs.Common.{[], QuotedTextsHaveTheirTokens, style_of, Tok, ◌∷◌}
-use Rattle.defs_layout.specs.QuotedText.{spell}
 use Rattle.proof_loads.proofs.HasRows.Values.{quoted_reads}
 use Rattle.proof_loads.proofs.HasRows.Steps.{has_tokens}
 
 pub quoted_texts_have_their_tokens : QuotedTextsHaveTheirTokens
-quoted_texts_have_their_tokens text tokens (w, value, spelt, is, same) =
-    rw (← spelt, same) (has_tokens (spell w) (Tok.scalar (style_of w.quotes) value ∷ Tok.stream_end ∷ []) (quoted_reads w.quotes w.body value w.breaks is))
+quoted_texts_have_their_tokens text tokens (w, value, spelt, is, same) = rw (← spelt, same) (has_tokens _ _ (quoted_reads w.quotes w.body value w.breaks is))
