@@ -1,5 +1,6 @@
 -- What a load answers of any text, by a parser that is at its start.
 use Rattle.proof_loads.proofs.Common.{[], Answer, AnswersText, ap, append-nil, append_assoc, AreFirst, AreSettled, before_stream, BeginsEvents, BeginsPlaced, Blames, Bool, codes, ComesAfter, EndsSo, Err, ErrorReport, Ev, events_of, Explains, false, Foretells, given, has_end, HasEvents, inl, inr, IsAtStart, IsCause, IsDerived, IsFaultOf, IsOfScanner, IsPlacedStream, IsRefusal, IsStream, length, List, load, load_from, Loads, nested_stream, no_names, no_stream, no_token, None, NoneBegins, Parsed, Position, Raw, raws_of, read, Receives, refl, Refused, Result, ScansIn, Some, subst, sym, TextsAreAnswered, Tok, Token, toks, true, wants_memory, whole, without_positions, ℕ, ◌++◌, ◌∙◌, ◌∷◌, ◌≡◌, IsSound, Loaded, Ending}
+use Rattle.proof_loads.proofs.Tests.{by_test}
 use Rattle.yaml_parser.specs.Settings.{AreAll}
 use Rattle.yaml_parser.proofs.Since.{since_same, names_same}
 use Rattle.defs_event.proofs.AllPushed.{all_pushed}
@@ -137,40 +138,27 @@ module _ (text : List ℕ) (answers : List (Answer ErrorReport)) (p : Parsed) (s
       }
 
   well_all : (so answers).ending ≡ Ending.well → AllGiven answers p
-  well_all e = by p.ended refl
-    where
-      by : (b : Bool) → p.ended ≡ b → AllGiven answers p
-      by true ended = ended_all ended
-      by false going =
-          let reached = end_is_reached ErrorReport before_stream p.given (ap (λ bs. (so bs).ending) (sym (given_alone answers p n going)) ∙ e) in
-          let ended = n.ended in
-          cc
+  well_all e = by_test p.ended ended_all (λ going.
+      let reached = end_is_reached ErrorReport before_stream p.given (ap (λ bs. (so bs).ending) (sym (given_alone answers p n going)) ∙ e) in
+      let ended = n.ended in
+      cc)
 
   -- An event that is no document's start never stands between documents.
   not_misplaced : (q : Position) → (so answers).ending ≡ Ending.no_document q → ⊥
-  not_misplaced q e = by p.ended refl
-    where
-      not_well : (so answers).ending ≡ Ending.well → ⊥
-      not_well h = cc
-
-      by : (b : Bool) → p.ended ≡ b → ⊥
-      by true ended = not_well (ended_all ended).pushed.1
-      by false going =
-          let follows = sound.follows steady in
-          let more = follows.begins.more_events in
-          let all = read p ++ more in
-          let tokens = follows.before ++ follows.begins.more_tokens in
-          let pushed = all_are_pushed p.keep_tags (toks tokens) all (placed_stream p.keep_tags tokens all follows.begins.stream) in
-          let are : given ErrorReport all ≡ answers ++ given ErrorReport more = cc (given_append ErrorReport (read p) more, same, given_alone answers p n going) in
-          not_well (ended_within ErrorReport all answers (given ErrorReport more) pushed are (subst (λ x. IsOver x) (sym e) tt)).1
+  not_misplaced q e = by_test p.ended (λ ended. let well = (ended_all ended).pushed.1 in cc) (λ going.
+      let follows = sound.follows steady in
+      let more = follows.begins.more_events in
+      let all = read p ++ more in
+      let tokens = follows.before ++ follows.begins.more_tokens in
+      let pushed = all_are_pushed p.keep_tags (toks tokens) all (placed_stream p.keep_tags tokens all follows.begins.stream) in
+      let are : given ErrorReport all ≡ answers ++ given ErrorReport more = cc (given_append ErrorReport (read p) more, same, given_alone answers p n going) in
+      let well = (ended_within ErrorReport all answers (given ErrorReport more) pushed are (subst (λ x. IsOver x) (sym e) tt)).1 in
+      cc)
 
   -- What was pushed is a beginning of what was given.
   pushed_first : Pushes (so answers) p.given
-  pushed_first = by p.ended refl
-    where
-      by : (b : Bool) → p.ended ≡ b → Pushes (so answers) p.given
-      by true ended = record { left = []; whole = sym (ended_all ended).pushed.0 ∙ sym (append-nil (so answers).pushed) }
-      by false going = subst (λ bs. Pushes (so bs) p.given) (sym (given_alone answers p n going)) (pushes ErrorReport before_stream p.given)
+  pushed_first = by_test p.ended (λ ended. record { left = []; whole = sym (ended_all ended).pushed.0 ∙ sym (append-nil (so answers).pushed) })
+      (λ going. subst (λ bs. Pushes (so bs) p.given) (sym (given_alone answers p n going)) (pushes ErrorReport before_stream p.given))
 
   begins_text : (es : List (Ev × Position)) → (so answers).pushed ≡ es → BeginsEvents p.keep_tags text es
   begins_text es pushed =

@@ -1,5 +1,5 @@
 -- The words of other crates and of specs/ that the proofs here use, passed on from one place. Declares nothing.
-pub use Rattle.std.proofs.Common.{[], ap, append-nil, append_assoc, arith, Bool, codes, drop, Err, false, flat_map, if◌then◌else◌, inl, inr, length, List, map, max, nat_le, nat_lt, None, not, Ok, Option, refl, replicate, Some, subst, suc, sym, true, true≢false, zero, ℕ, ◌%◌, ◌&&◌, ◌*◌, ◌++◌, ◌+◌, ◌-◌, ◌/◌, ◌<◌, ◌==◌, ◌||◌, ◌∙◌, ◌∷◌, ◌≡◌, ◌≢◌, ◌≤◌, ◌⊎◌}
+pub use Rattle.std.proofs.Common.{[], All, ap, append-nil, append_assoc, arith, Bool, codes, decimal, drop, Err, false, flat_map, IfSome, if◌then◌else◌, inl, inr, length, List, map, max, nat_eq, nat_le, nat_lt, None, not, Ok, Option, option_map, pos, refl, replicate, Result, Some, subst, suc, sym, take, true, true≢false, zero, ℕ, ◌%◌, ◌&&◌, ◌*◌, ◌++◌, ◌+◌, ◌-◌, ◌/◌, ◌<◌, ◌==◌, ◌||◌, ◌∙◌, ◌∷◌, ◌≡◌, ◌≢◌, ◌≤◌, ◌⊎◌}
 pub use Rattle.std.proofs.lemmas.Bool.{and_from, and_parts, both_ways, eqb-true, le-ltb, ltb-true, ne_eqb, not-true, or_parts, or_right}
 pub use Rattle.std.proofs.lemmas.Bool.Decides.{nat_tests}
 pub use Rattle.std.proofs.lemmas.Fmt.{decimal_is_IsNumeral}
@@ -7,10 +7,8 @@ pub use Rattle.std.proofs.lemmas.List.{append_cancel_right, length-append, lengt
 pub use Rattle.std.proofs.lemmas.List.Folds.{list_all-append}
 pub use Rattle.std.proofs.lemmas.Str.Parse.{digit_from_value}
 pub use Rattle.std.specs.Char.{digit_value, is_ascii_alphanumeric, is_ascii_digit, is_digit}
-pub use Rattle.std.specs.Fmt.{decimal}
 unfoldable pub use Rattle.std.specs.Fmt.{digits}
 pub use Rattle.std.specs.List.{ends_with, list_all, list_any}
-pub use Rattle.std.specs.Prelude.{All, IfSome, nat_eq, option_map, pos, Result, take}
 pub use Rattle.std.specs.Str.Parse.{AllDigits, IsNumeral}
 pub use Rattle.defs_event.proofs.OneByOne.{one_by_one}
 pub use Rattle.defs_event.specs.Event.{Ev}
@@ -33,7 +31,7 @@ pub use Rattle.defs_layout.specs.JsonGap.{Blank, blank_character, space, TabsBeg
 pub use Rattle.defs_layout.specs.JsonNumber.{are_digits, Exponent, exponent, Fraction, fraction, is_exponent, is_fraction, is_number, is_whole, no_exponent, no_fraction, Number, number, plus, spell_exponent, spell_fraction, spell_minus, spell_number}
 pub use Rattle.defs_layout.specs.JsonString.{are_pieces, character_of, four_digits, is_hex_digit, is_piece, is_surrogate, itself, letter_of, Piece, Short, short, spell_pieces, spell_string, unescaped, unicode}
 unfoldable pub use Rattle.defs_layout.specs.JsonString.{is_unescaped}
-pub use Rattle.defs_layout.specs.JsonTokens.{element_tokens, json_text_tokens, json_tokens, member_tokens, string_token}
+pub use Rattle.defs_layout.specs.JsonTokens.{element_tokens, json_tokens, member_tokens, string_token}
 pub use Rattle.defs_layout.specs.Layout.{anchored, anchors_after, anchors_after_field, AreDocuments, AreEntries, AreFields, AreFoldedLines, AreLinesOf, AreLineTexts, BeginsWithText, below, beside, Block, Comment, comment, compact, Documents, doubled, empty_hash, EndsInText, Entries, entry, explicit, Field, field, Fields, folded, folded_header, implicit, indented_lines, Inline, IsAfterRoot, IsBlock, IsComment, IsField, IsInline, IsLayout, IsPlain, IsRoot, IsScalar, IsValue, json, last_document, last_entry, last_field, Layout, literal, MayFollowScalarKey, no_comment, plain, quoted, Root, Scalar, scalar, single_quoted, spell_block, spell_comment, spell_documents, spell_entries, spell_field, spell_fields, spell_inline, spell_literal, spell_root, spell_scalar, spell_value, trees_of, Value}
 unfoldable pub use Rattle.defs_layout.specs.Layout.{is_on_one_line}
 pub use Rattle.defs_layout.specs.LayoutTokens.{all_field_tokens, block_tokens, documents_tokens, entry_tokens, field_tokens, inline_tokens, layout_tokens, marked, root_tokens, scalar_token, value_tokens}
@@ -92,7 +90,7 @@ pub use Rattle.model_scanner.specs.TextTokens.{HasToks}
 pub use Rattle.proof_layouts.proofs.Layouts.Documents.{tokens_read_as_their_trees}
 pub use Rattle.proof_layouts.proofs.Loads.{foretold_are_not_refused, streams_are_loaded, streams_are_not_cut}
 pub use Rattle.proof_layouts.proofs.Whole.{dump_is_laid_out, dumps_are_laid_out_in_turn}
-pub use Rattle.proof_lexers.proofs.Blocks.Columns.{spell_append, texts_append}
+pub use Rattle.proof_lexers.proofs.Blocks.Columns.{spell_append}
 pub use Rattle.proof_lexers.proofs.Blocks.Written.{feed, split_spell, texts}
 pub use Rattle.proof_lexers.proofs.Bridges.{and_false, or_false}
 pub use Rattle.proof_lexers.proofs.Plain.Turns.{or_true}
@@ -104,7 +102,7 @@ pub use Rattle.proof_loads.specs.Documents.{AliasesInsideTheirNodeAreBadValues, 
 pub use Rattle.proof_loads.specs.Laws.{AnswersAreSettled, CharactersAreTheText, DumpsMeanTheirTree, EventsOfReadTextsAreRead, JsonTextsAreLoaded, JsonTextsAreWithoutNul, JsonTextsMeanTheirTree, OneFault, OneListOfEventsBefore, OneListOfPushedEventsBefore, ReadTextsAreLoaded, ReadTextsAreNotRefused, ReadTextsHaveNoFaultButMemory, ReadTextsHaveOneListOfEvents, ReadTextsHaveTheirTrees, StringsAreTheText, TextsAreAnswered}
 pub use Rattle.proof_loads.specs.LayoutTexts.{LayoutsAreWithoutNul, LayoutsMeanTheirTrees}
 pub use Rattle.proof_loads.specs.PlacedEvents.{HasEvents}
-pub use Rattle.proof_loads.specs.Rows.{EventsAreOfTheRow, RefusedTextsHaveNoRow, TextsWithAFaultHaveNoRow}
+pub use Rattle.proof_loads.specs.Rows.{EventsAreOfTheRow, TextsWithAFaultHaveNoRow}
 pub use Rattle.proof_loads.specs.Spelled.{IsWithoutNul}
 pub use Rattle.proof_loads.specs.TextEvents.{AnswersText, AreFirst, BeginsEvents, ComesAfter, IsFaultOf, no_stream, no_token, wants_memory, whole}
 pub use Rattle.proof_loads.specs.TokenLaws.{JsonTextsHaveNoOtherTokens, JsonTextsHaveTheirTokens, LayoutsHaveNoOtherTokens, LayoutsHaveTheirTokens, LayoutsInTurnAreNotRefused, LayoutsInTurnHaveTheirTokens, QuotedTextsHaveTheirTokens}
@@ -112,11 +110,11 @@ pub use Rattle.proof_row.proofs.Meanings.{one_meaning, read_again, somewhere, wi
 pub use Rattle.proof_row.proofs.Pieces.{clean_up_to_end}
 pub use Rattle.proof_scanner.proofs.Complete.{texts_with_a_row_are_read}
 pub use Rattle.proof_scanner.proofs.Sound.Sound.{tokens_are_of_a_row}
-pub use Rattle.yaml_parser.specs.Blames.{Blames, EndsInAnchor, fits, is_of_names, IsCause, problem_of, StandsAt}
+pub use Rattle.yaml_parser.specs.Blames.{Blames, EndsInAnchor, fits, is_of_names, IsCause, StandsAt}
 pub use Rattle.yaml_parser.specs.Derived.{IsDerived, stood}
 pub use Rattle.yaml_parser.specs.Follows.{Explains, Follows, IsOfScanner, Refused}
 pub use Rattle.yaml_parser.specs.Loads.{EndsSo, Loads, no_call, one_call, PullsAll, Receives}
-pub use Rattle.yaml_parser.specs.Parsed.{has_end, is_stream_end, Parsed, read, read_so}
+pub use Rattle.yaml_parser.specs.Parsed.{has_end, Parsed, read, read_so}
 pub use Rattle.yaml_parser.specs.Pulls.{GivesEvent, IsSound, KeepsSettings, Pulls}
 pub use Rattle.yaml_scanner.specs.Follows.{AreBehind, AreSettled, BeginsWith, IsReached}
 pub use Rattle.yaml_scanner.specs.Scanned.{IsRefusal, MayBe, Scanned, ScansIn}

@@ -26,5 +26,6 @@ pub mod HasRows
 pub mod Settled
 pub mod Spelled
 pub mod StreamEnds
+mod Tests
 pub mod Texts
 pub mod TokensInTurn

@@ -1,5 +1,5 @@
 -- Tokens that are settled stay; a text has one fault, and the events before it are one list.
-use Rattle.proof_loads.proofs.Common.{[], AgreeAt, ap, append-nil, append_assoc, AreBehind, AreFirst, AreSettled, arith, BeginsPlaced, BeginsWith, Blames, Bool, both_ways, ComesAfter, EndsInAnchor, Err, ErrorReport, Ev, events_of, false, Fault, fetch, fits, HasPlacedTo, here, inl, inr, is_of_names, IsFaultOf, IsReached, IsRefusal, IsStream, Key, length, length-append, List, map-append, named, no_names, no_stream, no_token, NoneBegins, one_run, OneListOfEventsBefore, OneListOfPushedEventsBefore, Option, Position, Problem, problem_of, Raw, Reaches, refl, ScannerState, StandsAt, start, stood, stream_by, subst, sym, there, to_next, Tok, Token, toks, true, wants_memory, ℕ, ◌++◌, ◌+◌, ◌∙◌, ◌∷◌, ◌≡◌, ◌⊎◌, list_any, same_from_push, At, one_fault}
+use Rattle.proof_loads.proofs.Common.{[], AgreeAt, ap, append-nil, append_assoc, AreBehind, AreFirst, AreSettled, arith, BeginsPlaced, BeginsWith, Blames, Bool, both_ways, ComesAfter, EndsInAnchor, Err, ErrorReport, Ev, events_of, false, Fault, fetch, fits, HasPlacedTo, here, inl, inr, is_of_names, IsFaultOf, IsReached, IsRefusal, IsStream, Key, length, length-append, List, map-append, named, no_names, no_stream, no_token, NoneBegins, one_run, OneListOfEventsBefore, OneListOfPushedEventsBefore, Option, Position, Problem, Raw, Reaches, refl, ScannerState, StandsAt, start, stood, stream_by, subst, sym, there, to_next, Tok, Token, toks, true, wants_memory, ℕ, ◌++◌, ◌+◌, ◌∙◌, ◌∷◌, ◌≡◌, ◌⊎◌, list_any, same_from_push, one_fault}
 use Rattle.model_scanner.proofs.Given.{KeysFrom, reached}
 use Rattle.yaml_scanner.specs.Waits.{comes_before}
 use Rattle.yaml_tokens.specs.Problem.{fault_of}

@@ -1,5 +1,6 @@
 -- Runs of `load` with `multi` over answers, whatever they are. The calls of a parser from its start on: what it answered and has given.
-use Rattle.proof_loads.proofs.Common.{[], Answer, ap, append-nil, append_assoc, arith, before_stream, between, Bool, Ending, ErrorReport, Ev, event, Explains, false, fault, faulted, given, GivesEvent, has_end, IfSome, inl, inr, is_stream_end, IsAtStart, KeepsSettings, length, length-append, List, load_from, Loaded, no_call, no_document, None, one_call, Option, Parsed, Position, PullsAll, read_so, refl, Some, Standing, subst, sym, true, unfinished, well, ◌++◌, ◌||◌, ◌∙◌, ◌∷◌, ◌≡◌, ◌⊎◌, IsSound, or_right, drop, or_false}
+use Rattle.proof_loads.proofs.Common.{[], Answer, ap, append-nil, append_assoc, arith, before_stream, between, Bool, Ending, ErrorReport, Ev, event, Explains, false, fault, faulted, given, GivesEvent, has_end, IfSome, inl, inr, IsAtStart, KeepsSettings, length, length-append, List, load_from, Loaded, no_call, no_document, None, one_call, Option, Parsed, Position, PullsAll, read_so, refl, Some, Standing, subst, sym, true, unfinished, well, ◌++◌, ◌||◌, ◌∙◌, ◌∷◌, ◌≡◌, ◌⊎◌, IsSound, or_right, drop, or_false}
+use Rattle.proof_loads.proofs.Tests.{by_test}
 use Rattle.std.proofs.Math.Bool.{or_assoc}
 
 -- The call has come to its end.
@@ -87,22 +88,20 @@ pub given_alone : (answers : List (Answer ErrorReport)) (p : Parsed) → Noted a
 given_alone answers p n going = cc (n.none going, append-nil (given ErrorReport p.given))
 
 note : (q p : Parsed) (answers : List (Answer ErrorReport)) (e : Ev) (pl : Position) → Noted answers q → GivesEvent q (e, pl) p → Noted (answers ++ event e pl ∷ []) p
-note q p answers e pl n gives = by q.ended refl
-  where
-    by : (b : Bool) → q.ended ≡ b → Noted (answers ++ event e pl ∷ []) p
-    by true h =
-        let same : p.given ≡ q.given = (rw h at gives.given) ∙ append-nil q.given in
-        let end : p.ended ≡ true = rw h at gives.ended in
-        record { rest = n.rest ++ event e pl ∷ []; answers_are = cc (append_assoc (given ErrorReport q.given) n.rest (event e pl ∷ [])); ended = cc; none = λ no. cc }
-    by false h =
-        let more : p.given ≡ q.given ++ (e, pl) ∷ [] = rw h at gives.given in
-        let alone = given_alone answers q n h in
-        record {
-          rest = [];
-          answers_are = cc (given_append ErrorReport q.given ((e, pl) ∷ []), append-nil (given ErrorReport p.given));
-          ended = gives.ended ∙ rw (n.ended, more, has_end_append) (grind (arith, or_false));
-          none = λ no. refl;
-        }
+note q p answers e pl n gives = by_test q.ended
+    (λ h.
+    let same : p.given ≡ q.given = (rw h at gives.given) ∙ append-nil q.given in
+    let end : p.ended ≡ true = rw h at gives.ended in
+    record { rest = n.rest ++ event e pl ∷ []; answers_are = cc (append_assoc (given ErrorReport q.given) n.rest (event e pl ∷ [])); ended = cc; none = λ no. cc })
+    (λ h.
+    let more : p.given ≡ q.given ++ (e, pl) ∷ [] = rw h at gives.given in
+    let alone = given_alone answers q n h in
+    record {
+      rest = [];
+      answers_are = cc (given_append ErrorReport q.given ((e, pl) ∷ []), append-nil (given ErrorReport p.given));
+      ended = gives.ended ∙ rw (n.ended, more, has_end_append) (grind (arith, or_false));
+      none = λ no. refl;
+    })
 
 -- What is known after the answers: no fault came, and if any event did, all that were read are given; or a fault is kept, which has its
 -- reason, and the events given are all that came before the first fault.

@@ -1,5 +1,5 @@
 -- The tokens that the scanner's model gives a text are those of its row, and so a text with these tokens means what they are read as.
-use Rattle.proof_loads.proofs.Common.{Bool, clean_up_to_end, EventsAreOfTheRow, has_no_nul, IsWithoutNul, List, Means, not_refused, ReadAs, RefusedTextsHaveNoRow, subst, sym, texts_with_a_row_are_read, Tok, tokens_are_of_a_row, Tree, true, ℕ, ◌≡◌, HasToks}
+use Rattle.proof_loads.proofs.Common.{Bool, clean_up_to_end, EventsAreOfTheRow, has_no_nul, IsWithoutNul, List, Means, ReadAs, subst, sym, Tok, tokens_are_of_a_row, Tree, true, ℕ, ◌≡◌, HasToks}
 use Rattle.proof_loads.proofs.Answers.{placed_stream}
 
 pub without_nul : (text : List ℕ) → IsWithoutNul text → has_no_nul text ≡ true

@@ -1,5 +1,6 @@
 -- A stream's tokens hold the stream's end; so a text has no more tokens than a stream that it begins with.
 use Rattle.proof_loads.proofs.Common.{[], ap, append-nil, append_assoc, arith, Bool, false, has_no_nul, IsReached, IsRead, List, None, Option, Raw, refl, Some, StreamSays, subst, Tok, Token, tokens_are_of_a_row, toks, true, whole_stream, ℕ, ◌++◌, ◌||◌, ◌∙◌, ◌∷◌, ◌≡◌, list_any, or_right}
+use Rattle.proof_loads.proofs.Tests.{by_test}
 use Rattle.defs_event.specs.Kinds.{is_stream_end}
 use Rattle.defs_event.specs.Table.{Part, Row, takes, leaves, row_of, Work, reading, saying, before, Derives, says, by_taking, by_leaving}
 use Rattle.defs_event.specs.Grammar.{Held, Goal, stream, documents, directives, explicit_document, document_end, cases, grammar}
@@ -62,11 +63,8 @@ record EndAmong (given : List Token) : Type 0 where
 
 end_among : (given : List Token) → list_any is_stream_end (toks given) ≡ true → EndAmong given
 end_among [] h = cc
-end_among (t ∷ given) h = by (is_stream_end t.tok) refl h (end_among given)
-  where
-    by : (b : Bool) → is_stream_end t.tok ≡ b → (b || list_any is_stream_end (toks given)) ≡ true → (list_any is_stream_end (toks given) ≡ true → EndAmong given) → EndAmong (t ∷ given)
-    by true e h rest = record { before = []; end = t; more = given; whole = refl; is_end = grind (arith, e) }
-    by false e h rest = let z = rest h in record { before = t ∷ z.before; end = z.end; more = z.more; whole = ap (λ xs. t ∷ xs) z.whole; is_end = z.is_end }
+end_among (t ∷ given) h = by_test (is_stream_end t.tok) (λ e. record { before = []; end = t; more = given; whole = refl; is_end = grind (arith, e) })
+    (λ e. let z = end_among given (rw e at h) in record { before = t ∷ z.before; end = z.end; more = z.more; whole = ap (λ xs. t ∷ xs) z.whole; is_end = z.is_end })
 
 nothing_after : (xs ys : List Token) → xs ++ ys ≡ [] → ys ≡ []
 nothing_after [] ys h = h

@@ -1,5 +1,5 @@
 -- Literal and folded blocks have rows: the pieces that they are, before what stands after them.
-use Rattle.proof_loads.proofs.Common.{[], and_false, another, ap, append-nil, append_assoc, are_empty, AreEmptyLines, arith, begins_with, block_may_end, block_read, block_scalar, BlockStyle, Bool, collection_of, column_by, comment_line, content_row, empty_line, empty_row, false, feed, free, full, GapLine, has_content, indented_lines, indicator_of, innermost, is_at_end, is_blank, is_break, is_empty, is_further_text, is_in_line, is_nul, is_separation, IsGap, Line, List, map, map-append, nat_tests, None, not, Position, position_after, refl, Row, row_of, rows_of, Some, spaces, spell_append, spell_ending, spell_gap, spell_gap_line, spell_line, spell_lines, split, split_spell, starts_with_tab, Style, subst, suc, sym, texts, texts_append, Tok, true, value_before_end, value_before_text, ℕ, ◌++◌, ◌<◌, ◌∙◌, ◌∷◌, ◌≡◌, tab, zero, All, All-append, All-pop, All-replicate, blank}
+use Rattle.proof_loads.proofs.Common.{[], and_false, another, ap, append-nil, append_assoc, are_empty, AreEmptyLines, arith, begins_with, block_may_end, block_read, block_scalar, BlockStyle, Bool, collection_of, column_by, comment_line, content_row, empty_line, empty_row, false, feed, free, full, GapLine, has_content, indented_lines, indicator_of, innermost, is_at_end, is_blank, is_break, is_empty, is_further_text, is_in_line, is_nul, is_separation, IsGap, Line, List, map, map-append, nat_tests, None, not, Position, position_after, refl, Row, row_of, rows_of, Some, spaces, spell_append, spell_ending, spell_gap, spell_gap_line, spell_line, spell_lines, split, split_spell, starts_with_tab, Style, subst, suc, sym, texts, Tok, true, value_before_end, value_before_text, ℕ, ◌++◌, ◌<◌, ◌∙◌, ◌∷◌, ◌≡◌, tab, zero, All, All-append, All-pop, All-replicate, blank}
 use Rattle.proof_lexers.proofs.Blocks.Written as written
 use Rattle.proof_lexers.proofs.Blocks.Written.{spell}
 use Rattle.proof_lexers.proofs.Blocks.Positions.{spell_more}

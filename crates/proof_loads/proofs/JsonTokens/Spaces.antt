@@ -1,5 +1,5 @@
 -- JSON values between whose parts only spaces stand: those that are written on one line without TAB.
-use Rattle.proof_loads.proofs.Common.{[], and_parts, arith, array, Blank, element, Elements, empty_array, empty_object, false_word, is_on_one_line, Json, last_element, last_member, List, list_all, member, Members, null_word, object, Piece, space, spell, spell_elements, spell_members, spell_number, spell_pieces, spell_string, true, true_word, ℕ, ◌++◌, ◌∷◌, ◌≡◌}
+use Rattle.proof_loads.proofs.Common.{[], and_parts, arith, array, Blank, element, Elements, empty_array, empty_object, is_on_one_line, Json, last_element, last_member, List, list_all, member, Members, object, Piece, space, spell, spell_elements, spell_members, spell_number, spell_pieces, spell_string, true, ℕ, ◌++◌, ◌∷◌, ◌≡◌}
 use Rattle.defs_layout.specs.JsonGap.{spell_gap}
 use Rattle.proof_loads.proofs.JsonTokens.Numbers.{number_then}
 

@@ -1,5 +1,5 @@
 -- JSON texts have their tokens.
-use Rattle.proof_loads.proofs.Common.{[], append-nil, arith, false, first_account, first_position, free, IsWellFormed, json_text_tokens, json_tokens, JsonText, JsonTextsHaveNoOtherTokens, JsonTextsHaveTheirTokens, None, refl, spell_text, Tok, ◌∷◌}
+use Rattle.proof_loads.proofs.Common.{[], append-nil, arith, false, first_account, first_position, free, IsWellFormed, json_tokens, JsonText, JsonTextsHaveNoOtherTokens, JsonTextsHaveTheirTokens, None, refl, spell_text, Tok, ◌∷◌}
 use Rattle.proof_loads.proofs.HasRows.Steps.{no_other_tokens}
 use Rattle.proof_loads.proofs.HasRows.Nodes.{outside, Reads, has_tokens, read_end}
 use Rattle.proof_loads.proofs.HasRows.Json.{white, blanks, white_none, spelt, separates, ends, at_end, value_reads}

@@ -1,5 +1,5 @@
 -- Layouts have their tokens.
-use Rattle.proof_loads.proofs.Common.{[], documents_tokens, layout_tokens, LayoutsHaveNoOtherTokens, LayoutsHaveTheirTokens, marked}
+use Rattle.proof_loads.proofs.Common.{LayoutsHaveNoOtherTokens, LayoutsHaveTheirTokens}
 use Rattle.proof_loads.proofs.HasRows.Steps.{has_tokens, no_other_tokens}
 use Rattle.proof_loads.proofs.HasRows.Values.{layout_reads}
 

@@ -1,5 +1,5 @@
 -- Texts of one quoted scalar have their tokens.
-use Rattle.proof_loads.proofs.Common.{[], QuotedTextsHaveTheirTokens, style_of, Tok, ◌∷◌}
+use Rattle.proof_loads.proofs.Common.{QuotedTextsHaveTheirTokens}
 use Rattle.proof_loads.proofs.HasRows.Values.{quoted_reads}
 use Rattle.proof_loads.proofs.HasRows.Steps.{has_tokens}
 
