@@ -1,5 +1,5 @@
 -- What a load answers of any text, by a parser that is at its start.
-use Rattle.proof_loads.proofs.Common.{[], Answer, AnswersText, ap, append-nil, append_assoc, AreFirst, AreSettled, before_stream, BeginsEvents, BeginsPlaced, Blames, Bool, codes, ComesAfter, EndsSo, Err, ErrorReport, Ev, events_of, Explains, false, Foretells, given, has_end, HasEvents, inl, inr, IsAtStart, IsCause, IsDerived, IsFaultOf, IsOfScanner, IsPlacedStream, IsRefusal, IsStream, length, List, load, load_from, Loads, nested_stream, no_names, no_stream, no_token, None, NoneBegins, Parsed, Position, Raw, raws_of, read, Receives, refl, Refused, Result, ScansIn, Some, subst, sym, TextsAreAnswered, Tok, Token, toks, true, wants_memory, whole, without_positions, ℕ, ◌++◌, ◌∙◌, ◌∷◌, ◌≡◌, IsSound, Loaded, Ending}
+use Rattle.proof_loads.proofs.Common.{[], Answer, AnswersText, ap, append-nil, append_assoc, AreFirst, AreSettled, before_stream, BeginsEvents, BeginsPlaced, Blames, Bool, codes, ComesAfter, EndsSo, Err, ErrorReport, Ev, events_of, Explains, false, Foretells, given, has_end, HasEvents, inl, inr, IsAtStart, IsCause, IsDerived, IsFaultOf, IsOfScanner, IsPlacedStream, IsRefusal, IsStream, length, List, load, load_from, Loads, nested_stream, no_names, no_stream, no_token, None, NoneBegins, Parsed, Position, Raw, raws_of, read, Receives, refl, Refused, Result, ScansIn, Some, subst, sym, TextsAreAnswered, Tok, Token, toks, true, wants_memory, whole, without_positions, ℕ, ◌++◌, ◌∙◌, ◌∷◌, ◌≡◌, IsSound, Loaded, Ending, arith, length-append}
 use Rattle.proof_loads.proofs.Tests.{by_test}
 use Rattle.yaml_parser.specs.Settings.{AreAll}
 use Rattle.yaml_parser.proofs.Since.{since_same, names_same}
@@ -96,23 +96,21 @@ pub record FaultAfter (keep_tags : Bool) (text : List ℕ) (f : ErrorReport) (es
 
 pub fault_after : (text : List ℕ) (p : Parsed) (f : ErrorReport) → ScansIn text p.scanner → p.steady ≡ true → Explains f p → FaultAfter p.keep_tags text f (read p)
 fault_after text p f scans steady why = elim why [
-  | inl kept ↦ by_scanner f.memory refl kept
-  | inr other ↦ elim other [ inl wants ↦ record { why = wants_memory wants; after = tt } | inr cut ↦ by_grammar (blames_steady (cut.steady steady) cut.blames) (cut.refused steady) ]
+  | inl k ↦ by_test f.memory
+      (λ m. record { why = wants_memory (record { memory = m; text = if_kept (λ g. g.memory ≡ true → g.text ≡ codes "out of memory") p.scanner.fault f k.fault scans.wants m }); after = tt })
+      (λ m. record {
+        why = no_token p.scanner.given (read p) (if_kept (λ g. g.memory ≡ false → AreSettled text p.scanner.given) p.scanner.fault f k.fault (scans.settled (k.settled m)) m) (k.begins steady) (k.so_far steady) (if_kept (λ g. g.memory ≡ false → IsRefusal text g) p.scanner.fault f k.fault scans.refused m);
+        after = refl;
+      })
+  | inr other ↦ elim other [
+    | inl wants ↦ record { why = wants_memory wants; after = tt }
+    | inr cut ↦ let r = cut.refused steady in record {
+        why = no_stream r.before r.last (read p) (subst (AreFirst text) r.tokens (first_tokens text p.scanner scans)) (subst (λ ts. Blames f [] p.keep_tags ts (read p)) r.tokens (blames_steady (cut.steady steady) cut.blames)) r.begins
+            (subst (λ ts. NoneBegins p.keep_tags (toks ts)) r.tokens r.none);
+        after = refl;
+      }
+  ]
 ]
-  where
-    by_scanner : (m : Bool) → f.memory ≡ m → IsOfScanner f p → FaultAfter p.keep_tags text f (read p)
-    by_scanner true m k = record { why = wants_memory (record { memory = m; text = if_kept (λ g. g.memory ≡ true → g.text ≡ codes "out of memory") p.scanner.fault f k.fault scans.wants m }); after = tt }
-    by_scanner false m k = record {
-      why = no_token p.scanner.given (read p) (if_kept (λ g. g.memory ≡ false → AreSettled text p.scanner.given) p.scanner.fault f k.fault (scans.settled (k.settled m)) m) (k.begins steady) (k.so_far steady) (if_kept (λ g. g.memory ≡ false → IsRefusal text g) p.scanner.fault f k.fault scans.refused m);
-      after = refl;
-    }
-
-    by_grammar : Blames f [] p.keep_tags p.scanner.given (read p) → Refused p → FaultAfter p.keep_tags text f (read p)
-    by_grammar blames r = record {
-      why = no_stream r.before r.last (read p) (subst (AreFirst text) r.tokens (first_tokens text p.scanner scans)) (subst (λ ts. Blames f [] p.keep_tags ts (read p)) r.tokens blames) r.begins
-          (subst (λ ts. NoneBegins p.keep_tags (toks ts)) r.tokens r.none);
-      after = refl;
-    }
 
 pub fault_of : (text : List ℕ) (p : Parsed) (f : ErrorReport) → ScansIn text p.scanner → p.steady ≡ true → Explains f p → IsFaultOf p.keep_tags text f
 fault_of text p f scans steady why = (fault_after text p f scans steady why).why
@@ -202,11 +200,8 @@ ends_so {takes = takes} {r} {s} {text} answers p scans steady (events n clear (i
 ends_so answers p scans steady (faults f first rest are kept ahead why) taken (EndsSo.well e clear received) = cc
 ends_so answers p scans steady a taken (EndsSo.faulted {f = f} e kept received) = let x = at_fault answers p scans steady a f e kept received in AnswersText.faulted x.events x.why.why x.why.after x.took
 ends_so {text = text} answers p scans steady a taken (EndsSo.misplaced q e received) = absurd (never_misplaced text answers p scans steady a q e taken)
-ends_so answers p scans steady (events n clear (inl none)) taken (EndsSo.refused {es = es} e q pushed _ received takes) = absurd (not_empty es (ap (λ bs. (so bs).pushed) (sym none) ∙ pushed))
-  where
-    not_empty : (xs : List (Ev × Position)) → [] ≡ xs ++ (e, q) ∷ [] → ⊥
-    not_empty [] h = cc
-    not_empty (x ∷ xs) h = cc
+ends_so answers p scans steady (events n clear (inl none)) taken (EndsSo.refused {es = es} e q pushed _ received takes) =
+    absurd (omega (arith, ap length (ap (λ bs. (so bs).pushed) (sym none) ∙ pushed), length-append es ((e, q) ∷ [])))
 ends_so {text = text} answers p scans steady (events n clear (inr (ahead, sound))) taken (EndsSo.refused {es = es} e q pushed _ received takes) =
     AnswersText.refused es e q (begins_text text answers p scans steady n ahead sound (es ++ (e, q) ∷ []) pushed) received takes
 ends_so answers p scans steady (faults f first rest are kept ahead why) taken (EndsSo.refused e q pushed clear received takes) = cc

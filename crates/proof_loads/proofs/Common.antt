@@ -3,7 +3,7 @@ pub use Rattle.std.proofs.Common.{[], All, ap, append-nil, append_assoc, arith, 
 pub use Rattle.std.proofs.lemmas.Bool.{and_from, and_parts, both_ways, eqb-true, le-ltb, ltb-true, ne_eqb, not-true, or_parts, or_right}
 pub use Rattle.std.proofs.lemmas.Bool.Decides.{nat_tests}
 pub use Rattle.std.proofs.lemmas.Fmt.{decimal_is_IsNumeral}
-pub use Rattle.std.proofs.lemmas.List.{append_cancel_right, length-append, length-map, map-append, same_from_push}
+pub use Rattle.std.proofs.lemmas.List.{append_cancel_right, length-append, length-map, map-append, nil_from_length, same_from_push}
 pub use Rattle.std.proofs.lemmas.List.Folds.{list_all-append}
 pub use Rattle.std.proofs.lemmas.Str.Parse.{digit_from_value}
 pub use Rattle.std.specs.Char.{digit_value, is_ascii_alphanumeric, is_ascii_digit, is_digit}

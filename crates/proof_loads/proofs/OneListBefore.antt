@@ -105,11 +105,8 @@ fits_name p k n f = grind arith
 one_place : (p : Problem) (before : List Token) (last : Token) (x y : Position) → StandsAt p x before last → StandsAt p y before last → x ≡ y
 one_place p before last x y s u = elim s [
   | inl a ↦ elim u [ inl b ↦ a.0 ∙ sym b.0 | inr b ↦ absurd (a.1 b.0 y b.1) ]
-  | inr a ↦ elim u [ inl b ↦ absurd (b.1 a.0 x a.1) | inr b ↦ anchors a.1 b.1 ]
+  | inr a ↦ elim u [ inl b ↦ absurd (b.1 a.0 x a.1) | inr b ↦ cc (a.1.at, b.1.at, (same_from_push a.1.before b.1.before a.1.anchor b.1.anchor (sym a.1.whole ∙ b.1.whole)).1) ]
 ]
-  where
-    anchors : EndsInAnchor before x → EndsInAnchor before y → x ≡ y
-    anchors a b = a.at ∙ ap (λ t. t.position) (same_from_push a.before b.before a.anchor b.anchor (sym a.whole ∙ b.whole)).1 ∙ sym b.at
 
 -- Two faults that refuse the same token are of one problem,
 pub same_blame : (keep_tags : Bool) (tokens : List Token) (es fs : List (Ev × Position)) (f g : ErrorReport) (a : Blames f [] keep_tags tokens es) (b : Blames g [] keep_tags tokens fs) → (a.before ≡ b.before) × (a.last ≡ b.last) × (a.problem ≡ b.problem)

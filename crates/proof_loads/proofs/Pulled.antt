@@ -111,15 +111,13 @@ pub data Answered (answers : List (Answer ErrorReport)) (p : Parsed) : Type 0 wh
 
 pub answered : {p q : Parsed} {answers : List (Answer ErrorReport)} → IsAtStart p → PullsAll p answers q → Answered answers q
 answered start no_call = events (record { rest = []; answers_are = ap (λ es. given ErrorReport es ++ []) (sym start.given); ended = start.ended ∙ ap has_end (sym start.given); none = λ no. refl }) start.fault (inl refl)
-answered start (one_call {q = q} {r = r} {answers = answers} (event e pl) calls gives) = by (answered start calls)
-  where
-    by : Answered answers q → Answered (answers ++ event e pl ∷ []) r
-    by (events n clear s) = events (note q r answers e pl n gives) gives.sound.fault (inr (gives.ahead, gives.sound))
-    by (faults f first rest are kept ahead why) = let clear = gives.clear in cc
-answered start (one_call {q = q} {r = r} {answers = answers} (fault g) calls gives) = by (answered start calls)
-  where
-    by : Answered answers q → Answered (answers ++ fault g ∷ []) r
-    by (events n clear s) = faults g g [] (cc (given_alone answers q n gives.ended.0, gives.given)) gives.fault gives.ahead.1 (gives.why clear)
-    by (faults f first rest are kept ahead why) =
-        let again = subst (λ x. IfSome x (λ k. (g ≡ k) × (r ≡ q))) kept gives.again in
-        subst (Answered (answers ++ fault g ∷ [])) (sym again.1) (faults f first (rest ++ fault g ∷ []) (cc (append_assoc (given ErrorReport q.given) (fault first ∷ rest) (fault g ∷ []))) kept ahead why)
+answered start (one_call {q = q} {r = r} {answers = answers} (event e pl) calls gives) = elim (answered start calls) [
+  | events n clear s ↦ events (note q r answers e pl n gives) gives.sound.fault (inr (gives.ahead, gives.sound))
+  | faults f first rest are kept ahead why ↦ let clear = gives.clear in cc
+]
+answered start (one_call {q = q} {r = r} {answers = answers} (fault g) calls gives) = elim (answered start calls) [
+  | events n clear s ↦ faults g g [] (cc (given_alone answers q n gives.ended.0, gives.given)) gives.fault gives.ahead.1 (gives.why clear)
+  | faults f first rest are kept ahead why ↦
+      let again = subst (λ x. IfSome x (λ k. (g ≡ k) × (r ≡ q))) kept gives.again in
+      subst (Answered (answers ++ fault g ∷ [])) (sym again.1) (faults f first (rest ++ fault g ∷ []) (cc (append_assoc (given ErrorReport q.given) (fault first ∷ rest) (fault g ∷ []))) kept ahead why)
+]

@@ -1,5 +1,5 @@
 -- A stream's tokens hold the stream's end; so a text has no more tokens than a stream that it begins with.
-use Rattle.proof_loads.proofs.Common.{[], ap, append-nil, append_assoc, arith, Bool, false, has_no_nul, IsReached, IsRead, List, None, Option, Raw, refl, Some, StreamSays, subst, Tok, Token, tokens_are_of_a_row, toks, true, whole_stream, ℕ, ◌++◌, ◌||◌, ◌∙◌, ◌∷◌, ◌≡◌, list_any, or_right}
+use Rattle.proof_loads.proofs.Common.{[], ap, append-nil, append_assoc, arith, Bool, false, has_no_nul, IsReached, IsRead, List, None, Option, Raw, refl, Some, StreamSays, subst, Tok, Token, tokens_are_of_a_row, toks, true, whole_stream, ℕ, ◌++◌, ◌||◌, ◌∙◌, ◌∷◌, ◌≡◌, list_any, or_right, nil_from_length, length, length-append}
 use Rattle.proof_loads.proofs.Tests.{by_test}
 use Rattle.defs_event.specs.Kinds.{is_stream_end}
 use Rattle.defs_event.specs.Table.{Part, Row, takes, leaves, row_of, Work, reading, saying, before, Derives, says, by_taking, by_leaving}
@@ -66,10 +66,6 @@ end_among [] h = cc
 end_among (t ∷ given) h = by_test (is_stream_end t.tok) (λ e. record { before = []; end = t; more = given; whole = refl; is_end = grind (arith, e) })
     (λ e. let z = end_among given (rw e at h) in record { before = t ∷ z.before; end = z.end; more = z.more; whole = ap (λ xs. t ∷ xs) z.whole; is_end = z.is_end })
 
-nothing_after : (xs ys : List Token) → xs ++ ys ≡ [] → ys ≡ []
-nothing_after [] ys h = h
-nothing_after (x ∷ xs) ys h = cc
-
 -- A text whose first tokens are a stream's is read as these.
 pub all_tokens : (text : List ℕ) (given : List Token) (es : List Raw) → has_no_nul text ≡ true → IsReached text given → StreamSays (toks given) es → IsRead text given
 all_tokens text given es nul reached d =
@@ -81,5 +77,5 @@ all_tokens text given es nul reached d =
       end = reached.last;
       run = reached.run;
       ended = last.0;
-      tokens = reached.begins.whole ∙ ap (λ xs. given ++ xs) (nothing_after among.more more last.1) ∙ append-nil given;
+      tokens = reached.begins.whole ∙ ap (λ xs. given ++ xs) (nil_from_length more (omega (arith, ap length last.1, length-append among.more more))) ∙ append-nil given;
     })

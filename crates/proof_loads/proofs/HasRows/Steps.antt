@@ -36,19 +36,17 @@ pub record Steps (a : Account) (w : Step) (next : List ℕ) (b : Account) (first
 
 -- a step before a text that is read from the account after it
 pub step : {a b : Account} (w : Step) (next : List ℕ) {first tokens : List Tok} → Steps a w next b first → Reads b next tokens → Reads a (w.separation ++ (w.piece ++ next)) (first ++ (w.shown ∷ tokens))
-step {a} {b} w next {first} {tokens} s z = by (subst (λ n. Steps a w n b first) (sym z.is_text) s)
-  where
-    by : Steps a w (spelled z.steps z.last) b first → Reads a (w.separation ++ (w.piece ++ next)) (first ++ (w.shown ∷ tokens))
-    by s =
-        let past : account_past a w (spelled z.steps z.last) ≡ Some b = rw s.stands s.leads in
-        record {
-          steps = w ∷ z.steps;
-          last = z.last;
-          is_text = ap (λ n. w.separation ++ (w.piece ++ n)) z.is_text;
-          is_row = ((s.is_separated, s.is_shown), subst (λ o. IsRowFrom o z.steps z.last) (sym past) z.is_row);
-          are_tokens = rw (past, map-append, map-append, s.begins, z.are_tokens) (append_assoc first (w.shown ∷ []) tokens);
-          none = both w.separation (w.piece ++ next) s.none.0 (both w.piece next s.none.1 z.none);
-        }
+step {a} {b} w next {first} {tokens} s z =
+    let h : Steps a w (spelled z.steps z.last) b first = subst (λ n. Steps a w n b first) (sym z.is_text) s in
+    let past : account_past a w (spelled z.steps z.last) ≡ Some b = rw h.stands h.leads in
+    record {
+      steps = w ∷ z.steps;
+      last = z.last;
+      is_text = ap (λ n. w.separation ++ (w.piece ++ n)) z.is_text;
+      is_row = ((h.is_separated, h.is_shown), subst (λ o. IsRowFrom o z.steps z.last) (sym past) z.is_row);
+      are_tokens = rw (past, map-append, map-append, h.begins, z.are_tokens) (append_assoc first (w.shown ∷ []) tokens);
+      none = both w.separation (w.piece ++ next) h.none.0 (both w.piece next h.none.1 z.none);
+    }
 
 pub has_tokens : (text : List ℕ) (tokens : List Tok) → Reads first_account text tokens → HasToks text (Tok.stream_start ∷ tokens)
 has_tokens text tokens z =
