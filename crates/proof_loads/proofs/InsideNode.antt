@@ -48,8 +48,7 @@ IsStillOpen m u = Fits m u.anchors (numbers u.opened)
 
 abbrev OfStep : ℕ → Step → Type 0
 OfStep m (reads u) = IsStillOpen m u
-OfStep m (repeats key) = Unit {0}
-OfStep m out_of_nesting = Unit {0}
+OfStep m _ = Unit {0}
 
 of_tree : (m : ℕ) (t : Tree) (u : Unfinished) (outer : List Opened) → Fits m u.anchors (numbers outer) → OfStep m (with_tree t u outer)
 of_tree m t u outer h = grind (arith, with_root, opened_mapping, has_key, insert)
@@ -110,8 +109,7 @@ numbered keep_tags s r = grind (arith, are_allowed, option_map, under_name, with
 
 abbrev OfLoader : ℕ → Loader → Type 0
 OfLoader m (at_work u) = IsStillOpen m u
-OfLoader m (noted documents key p) = Unit {0}
-OfLoader m (refused documents p) = Unit {0}
+OfLoader m _ = Unit {0}
 
 of_event_at : (m n : ℕ) (l : Loader) (e : Ev) (p : Position) → Follows m n e → OfLoader m l → OfLoader n (with_event_at l e p)
 of_event_at m n l e p h f = grind (arith, loader_after, with_event, of_event)

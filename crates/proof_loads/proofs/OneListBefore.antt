@@ -63,12 +63,9 @@ none_comes n m (x ∷ ks) k = grind (arith, none_comes n m ks)
 pub settled_first : (text : List ℕ) (all given : List Token) → AreSettled text all → IsReached text given → BeginsWith given all
 settled_first text all given s r = elim (of_one there_too.begins s.begins) [ inl b ↦ b | inr b ↦ no_more b.more b.whole ]
   where
-    last : ScannerState
-    last = s.refused.last
-
-    there_too : Stays given last
+    there_too : Stays given s.refused.last
     there_too = elim (one_run r.run s.refused.run) [
-      | inl run ↦ stays given r.last last run r.begins r.behind
+      | inl run ↦ stays given r.last _ run r.begins r.behind
       | inr run ↦ subst (Stays given) (stops run s.refused.refused) (record { begins = r.begins; keys = λ going. keys_from (length given) r.last.held.keys (r.behind going) })
     ]
 
@@ -76,8 +73,8 @@ settled_first text all given s r = elim (of_one there_too.begins s.begins) [ inl
     no_more [] e = record { more = []; whole = sym (append-nil given ∙ e ∙ append-nil all) }
     no_more (t ∷ more) e =
         let count : length given ≡ length all + 1 + length more = ap length e ∙ length-append all (t ∷ more) ∙ omega arith in
-        let keys : KeysFrom (length all + 1 + length more) last.held.keys = subst (λ n. KeysFrom n last.held.keys) count (there_too.keys s.refused.going) in
-        let whole : last.held.tokens ≡ all = s.all (none_comes (length all) (length more) last.held.keys keys) in
+        let keys : KeysFrom (length all + 1 + length more) s.refused.last.held.keys = subst (λ n. KeysFrom n s.refused.last.held.keys) count (there_too.keys s.refused.going) in
+        let whole : s.refused.last.held.tokens ≡ all = s.all (none_comes (length all) (length more) s.refused.last.held.keys keys) in
         let b = there_too.begins in
         absurd (omega (arith, count, ap length whole, ap length b.whole, length-append given b.more))
 

@@ -56,11 +56,9 @@ After t bs tokens =
 -- after a collection that ends there too
 pub one_more : (t : Trail) (n : ℕ) (bs : List ℕ) (tokens : List Tok) → EndsAt t n → After t bs tokens → After t (n ∷ bs) (Tok.block_end ∷ tokens)
 one_more t n bs tokens ends rest extra p awaits before l text all arrives =
-    rw (← append_assoc extra (n ∷ []) bs, ← same extra) (rest (extra ++ n ∷ []) p awaits before l text (more t extra ends all) arrives)
+    let same : ended (extra ++ n ∷ []) tokens ≡ ended extra (Tok.block_end ∷ tokens) = rw map-append (append_assoc (map (λ m. Tok.block_end) extra) (Tok.block_end ∷ []) tokens) in
+    rw (← append_assoc extra (n ∷ []) bs, ← same) (rest (extra ++ n ∷ []) p awaits before l text (more t extra ends all) arrives)
   where
-    same : (extra : List ℕ) → ended (extra ++ n ∷ []) tokens ≡ ended extra (Tok.block_end ∷ tokens)
-    same extra = rw map-append (append_assoc (map (λ m. Tok.block_end) extra) (Tok.block_end ∷ []) tokens)
-
     more : (t : Trail) (extra : List ℕ) → EndsAt t n → AllEnd t extra → AllEnd t (extra ++ n ∷ [])
     more t [] ends all = grind arith
     more t (m ∷ extra) ends all = grind (arith, more t extra)
