@@ -240,9 +240,8 @@ are_each column (l ∷ ls) e h none =
 pub header_none : (s : BlockStyle) (strips : Bool) (a : List ℕ) → HasNone a → HasNone (block_text s strips (10 ∷ a))
 header_none s strips a n = grind arith
 
-module _ (s : BlockStyle) (i column : ℕ) (strips : Bool) where
-  abbrev pub is_block : List ℕ → BlockRead
-  is_block text = record { style = s; column = column; text = text }
+abbrev pub is_block : BlockStyle → (column : ℕ) → List ℕ → BlockRead
+is_block s column text = record { style = s; column = column; text = text }
 
 -- ---- folded blocks
 

@@ -120,7 +120,7 @@ module _ (s : BlockStyle) (i column : ℕ) (strips : Bool) (text : List ℕ) (ls
       record {
         column = column;
         read = rw (same, split_spell (header ∷ lines_at column ms) l (header_inner s strips, tt, z.1) inner, header_is s strips, ap (column_by None (collection_of i)) lines ∙ (in_column more).0, ap starts_with_tab lines ∙ (in_column more).1, z.0, row)
-            (ap (λ t. Some (is_block s i column strips t)) value);
+            (ap (λ t. Some (is_block s column t)) value);
         may = refl;
         none = header_none s strips (spell (lines_at column ms) l) z.2;
         some = refl;
@@ -158,8 +158,8 @@ module _ (s : BlockStyle) (i column : ℕ) (strips : Bool) (text : List ℕ) (ls
     block_piece more_text (at_text further some_text is_further tabless) =
         let value = text_value s strips (map row_by ls) n some ∙ h.value in
         let known = in_column (indented_lines column (empties n)) in
-        let read : block_read (innermost bs) piece more_text ≡ Some (is_block s i column strips text) =
-        rw (same, is_split, some_text, header_is s strips, ap (column_by None (collection_of i)) all_texts ∙ known.0, some_text, is_further, ap starts_with_tab all_texts ∙ known.1, all_rows) (ap (λ t. Some (is_block s i column strips t)) value) in
+        let read : block_read (innermost bs) piece more_text ≡ Some (is_block s column text) =
+        rw (same, is_split, some_text, header_is s strips, ap (column_by None (collection_of i)) all_texts ∙ known.0, some_text, is_further, ap starts_with_tab all_texts ∙ known.1, all_rows) (ap (λ t. Some (is_block s column t)) value) in
         let content = not_all_empty column (texts (lines_at column all_lines)) _ all_rows (rw (content_append, some) refl) in
         record { column = column; read = read; may = rw (read, is_split, content, tabless, some_text, and_false (is_empty (texts (lines_at column all_lines)))) refl; none = header_none s strips (spell (lines_at column all_lines) []) (are_each column all_lines [] each refl).2; some = refl }
 

@@ -1,5 +1,5 @@
 -- Steps outside flow that begin at a column, after block collections that end there.
-use Rattle.proof_loads.proofs.Common.{[], act_of, another, ap, arith, awaits_past, begins_free_line, begins_with, begins_with_space_or_break, begun_by, begun_outside, Bool, colon_may_precede, dash_may_precede, false, free, further_lines_stand, gives_node, has_break, has_no_break, has_tab_before_piece, has_tab_within, inl, innermost, inside, is_at_gap, is_blank, is_break, is_deeper, is_in_column, is_marker, is_nul, is_separation, is_waiting, IsShown, last_line, le-ltb, least_column, length, length-append, line_past, line_past_separation, List, may_precede, nat_lt, not, not_ended, opened, Position, position_after, Previous, previous_by, put, quoted_may_end, refl, replicate, Some, stops, suc, taken, Tok, Token, toks, true, ℕ, ◌&&◌, ◌++◌, ◌+◌, ◌-◌, ◌<◌, ◌∙◌, ◌∷◌, ◌≡◌, ◌≤◌, map, append_assoc, or_true}
+use Rattle.proof_loads.proofs.Common.{[], act_of, another, ap, arith, awaits_past, begins_free_line, begins_with, begins_with_space_or_break, begun_by, begun_outside, Bool, colon_may_precede, dash_may_precede, false, free, further_lines_stand, gives_node, has_break, has_no_break, has_tab_before_piece, has_tab_within, inl, innermost, inside, is_at_gap, is_blank, is_break, is_deeper, is_in_column, is_marker, is_nul, is_separation, is_waiting, IsShown, last_line, le-ltb, least_column, length, length-append, line_past, line_past_separation, List, may_precede, nat_lt, not, not_ended, opened, Position, position_after, Previous, previous_by, put, quoted_may_end, refl, replicate, Some, stops, suc, taken, Tok, Token, toks, true, ℕ, ◌&&◌, ◌++◌, ◌+◌, ◌-◌, ◌<◌, ◌∙◌, ◌∷◌, ◌≡◌, ◌≤◌, map, append_assoc, or_true, if◌then◌else◌}
 use Rattle.proof_row.proofs.CutColumns.{column_grows}
 use Rattle.proof_scanner.proofs.Cut.Positions.{index_after}
 use Rattle.proof_loads.proofs.HasRows.Nodes.{deeper, Quiet, Reads, at, step_of, site_of, Steps, step, ended, HasNone, Line}
@@ -38,12 +38,10 @@ pub record Here (c : ℕ) (text rest : List ℕ) (p : Position) (before : Previo
 
 -- the collection of the column is open, or not yet
 abbrev pub stood : (is_open : Bool) → ℕ → List ℕ → List ℕ
-stood true c bs = c ∷ bs
-stood false c bs = bs
+stood is_open c bs = if is_open then c ∷ bs else bs
 
 abbrev pub starts : (is_open : Bool) → Tok → List Tok → List Tok
-starts true t o = o
-starts false t o = t ∷ o
+starts is_open t o = if is_open then o else t ∷ o
 
 -- where it is not, the column is deeper than the others
 abbrev pub MayBegin : (is_open : Bool) → ℕ → List ℕ → Type 0

@@ -1,5 +1,5 @@
 -- JSON values have rows, with the white space between their parts; plain scalars on one line as pieces.
-use Rattle.proof_loads.proofs.Common.{[], after, after_blank, and_false, and_from, and_parts, another, ap, are_marks, are_pieces, AreElements, AreMembers, arith, array, begins_flow, begins_plain, begins_with, Blank, blank_character, Bool, codes, colon_may_precede, element, element_levels, element_tokens, Elements, empty_array, empty_object, ends_with_content, ends_with_dash, Entry, false, false_word, filled, first_entry, flow_collection, flow_entry, flow_mapping_end, flow_mapping_start, flow_sequence_end, flow_sequence_start, fresh, goes_on, goes_on_quoted, Had, has_dash_before_flow, has_no_break, has_tab_within, inl, innermost, innermost_column, inside, is_at_gap, is_blank, is_blank_or_end, is_blanks_and_comment, is_break, is_document_marker, is_empty, is_flow, is_keyed, is_nul, is_on_line, is_one_of, is_separation, is_whole_plain, double, IsJson, Json, json_tokens, last_element, last_member, leading, length, length-map, level_of, levels, List, list_all, map, mapping, member, member_levels, member_tokens, Members, nat_lt, nat_tests, not, not-true, null_word, object, Option, Piece, plain_element, plain_lines_fit, plain_scalar, plain_value, Position, position_after, quoted_may_end, quoted_scalar, refl, settled, Some, spell, spell_elements, spell_members, spell_number, spell_string, split, Stand, stops, string, string_token, Style, subst, suc, TabsBeginLines, Tok, true, true_word, zero, ℕ, ◌&&◌, ◌++◌, ◌+◌, ◌<◌, ◌==◌, ◌||◌, ◌∷◌, ◌≡◌, ◌≤◌, list_all-more, or_true}
+use Rattle.proof_loads.proofs.Common.{[], after, after_blank, and_false, and_from, and_parts, another, ap, are_marks, are_pieces, AreElements, AreMembers, arith, array, begins_flow, begins_plain, begins_with, Blank, blank_character, Bool, codes, colon_may_precede, element, element_levels, element_tokens, Elements, empty_array, empty_object, ends_with_content, ends_with_dash, Entry, false, false_word, filled, first_entry, flow_collection, flow_entry, flow_mapping_end, flow_mapping_start, flow_sequence_end, flow_sequence_start, fresh, goes_on, goes_on_quoted, Had, has_dash_before_flow, has_no_break, has_tab_within, inl, innermost, innermost_column, inside, is_at_gap, is_blank, is_blank_or_end, is_blanks_and_comment, is_break, is_document_marker, is_empty, is_flow, is_keyed, is_nul, is_on_line, is_one_of, is_separation, is_whole_plain, double, IsJson, Json, json_tokens, last_element, last_member, leading, length, length-map, level_of, levels, List, list_all, map, mapping, member, member_levels, member_tokens, Members, nat_lt, nat_tests, not, not-true, null_word, object, Option, Piece, plain_element, plain_lines_fit, plain_scalar, plain_value, Position, position_after, quoted_may_end, quoted_scalar, refl, settled, Some, spell, spell_elements, spell_members, spell_number, spell_string, split, Stand, stops, string, string_token, Style, subst, suc, TabsBeginLines, Tok, true, true_word, zero, ℕ, ◌&&◌, ◌++◌, ◌+◌, ◌<◌, ◌==◌, ◌||◌, ◌∷◌, ◌≡◌, ◌≤◌, list_all-more, or_true, if◌then◌else◌}
 use Rattle.proof_loads.proofs.HasRows.Strings.{IsOneLine, nothing, plain_step, value_is, body_of, quoted, quoted_is, quoted_piece, string_is}
 use Rattle.proof_loads.proofs.PlainTexts.{is_plain_char, are_plain, closes, IsPlainText, is_first, is_second, first_char, is_word, are_words, IsWord, word_text}
 use Rattle.defs_layout.specs.JsonGap.{spell_gap}
@@ -42,8 +42,7 @@ is_one_line (c ∷ w) h = let q = and_parts (not (is_break c)) (has_no_break w) 
 
 module _ (in_flow : Bool) (collection : Option ℕ) (next : List ℕ) where
   abbrev stand : (after_space : Bool) → Stand
-  stand true = after_blank
-  stand false = inside
+  stand after_space = if after_space then after_blank else inside
 
   goes_over : (b : Bool) (w : List ℕ) → are_plain w ≡ true → MayFlow in_flow w → goes_on in_flow collection (stand b) w next ≡ true
   goes_over b [] h flow = refl
@@ -63,10 +62,9 @@ no_gap : (d : ℕ) → is_plain_char d ≡ true → (d == 32) ≡ false → is_b
 unfolding is_blank_or_end
 no_gap d h e = let z = plain_char d h in rw (z.blank, e, z.break, z.nul) refl
 
-module _ (in_flow adjacent : Bool) (column : ℕ) where
-  begins : (c : ℕ) (w next : List ℕ) → is_first c ≡ true → is_second c w ≡ true → are_plain w ≡ true → MayFlow in_flow (c ∷ w) → begins_plain in_flow adjacent column (c ∷ (w ++ next)) ≡ true
-  begins c w next first second plain flow =
-      rw (unmarked c w next second, and_false (column == 0)) (grind (arith, nat_tests, and_parts, not-true, first_char, plain_char, no_gap))
+begins : (in_flow adjacent : Bool) (column c : ℕ) (w next : List ℕ) → is_first c ≡ true → is_second c w ≡ true → are_plain w ≡ true → MayFlow in_flow (c ∷ w) → begins_plain in_flow adjacent column (c ∷ (w ++ next)) ≡ true
+begins in_flow adjacent column c w next first second plain flow =
+    rw (unmarked c w next second, and_false (column == 0)) (grind (arith, nat_tests, and_parts, not-true, first_char, plain_char, no_gap))
 
 -- ---- the piece
 
