@@ -1,5 +1,5 @@
 -- What a load answers of any text, by a parser that is at its start.
-use Rattle.proof_loads.proofs.Common.{[], Answer, AnswersText, ap, append-nil, append_assoc, AreFirst, AreSettled, before_stream, BeginsEvents, BeginsPlaced, Blames, Bool, codes, ComesAfter, EndsSo, Err, ErrorReport, Ev, events_of, Explains, false, Foretells, given, has_end, HasEvents, inl, inr, IsAtStart, IsCause, IsDerived, IsFaultOf, IsOfScanner, IsPlacedStream, IsRefusal, IsStream, length, List, load, load_from, Loads, nested_stream, no_names, no_stream, no_token, None, NoneBegins, Parsed, Position, Raw, raws_of, read, Receives, refl, Refused, Result, ScansIn, Some, subst, sym, TextsAreAnswered, Tok, Token, toks, true, wants_memory, whole, without_positions, ℕ, ◌++◌, ◌∙◌, ◌∷◌, ◌≡◌, IsSound, Loaded, Ending, arith, length-append}
+use Rattle.proof_loads.proofs.Common.{[], Answer, AnswersText, ap, append-nil, append_assoc, AreFirst, AreSettled, before_stream, BeginsEvents, BeginsPlaced, Blames, Bool, codes, ComesAfter, EndsSo, Err, ErrorReport, Ev, events_of, Explains, false, Foretells, given, has_end, HasEvents, inl, inr, IsAtStart, IsCause, IsDerived, IsFaultOf, IsPlacedStream, IsRefusal, IsStream, length, List, load, load_from, Loads, nested_stream, no_names, no_stream, no_token, None, NoneBegins, Parsed, Position, Raw, raws_of, read, Receives, refl, Result, ScansIn, Some, subst, sym, TextsAreAnswered, Tok, Token, toks, true, wants_memory, whole, without_positions, ℕ, ◌++◌, ◌∙◌, ◌∷◌, ◌≡◌, IsSound, Loaded, Ending, arith, length-append}
 use Rattle.proof_loads.proofs.Tests.{by_test}
 use Rattle.yaml_parser.specs.Settings.{AreAll}
 use Rattle.yaml_parser.proofs.Since.{since_same, names_same}
@@ -65,7 +65,7 @@ placed_stream keep_tags tokens es s = record { raws = raws_of s.raws; says = wit
 
 -- The text's tokens are a stream, with its nested events.
 pub nested_is_stream : {keep_tags : Bool} {text : List ℕ} {es : List (Ev × Position)} (h : HasEvents keep_tags text es) → IsStream keep_tags (toks h.tokens) (nested_stream h.documents)
-nested_is_stream {keep_tags} {text} {es} h = subst (IsStream keep_tags (toks h.tokens)) h.events_are (placed_stream keep_tags h.tokens es h.stream)
+nested_is_stream {keep_tags} {text} {es} h = subst (IsStream keep_tags (toks h.tokens)) h.events_are (placed_stream _ _ es h.stream)
 
 -- Events of which more stand after these begin a stream too.
 begins_too : (keep_tags : Bool) (tokens : List Token) (es fs : List (Ev × Position)) → BeginsPlaced keep_tags tokens (es ++ fs) → BeginsPlaced keep_tags tokens es
@@ -105,10 +105,10 @@ fault_after text p f scans steady why = elim why [
   | inr other ↦ elim other [
     | inl wants ↦ record { why = wants_memory wants; after = tt }
     | inr cut ↦ let r = cut.refused steady in record {
-        why = no_stream r.before r.last (read p) (subst (AreFirst text) r.tokens (first_tokens text p.scanner scans)) (subst (λ ts. Blames f [] p.keep_tags ts (read p)) r.tokens (blames_steady (cut.steady steady) cut.blames)) r.begins
-            (subst (λ ts. NoneBegins p.keep_tags (toks ts)) r.tokens r.none);
-        after = refl;
-      }
+      why = no_stream r.before r.last (read p) (subst (AreFirst text) r.tokens (first_tokens text _ scans)) (subst (λ ts. Blames f [] p.keep_tags ts (read p)) r.tokens (blames_steady (cut.steady steady) cut.blames)) r.begins
+          (subst (λ ts. NoneBegins p.keep_tags (toks ts)) r.tokens r.none);
+      after = refl;
+    }
   ]
 ]
 
@@ -132,7 +132,7 @@ module _ (text : List ℕ) (answers : List (Answer ErrorReport)) (p : Parsed) (s
       let placed : IsPlacedStream p.keep_tags p.scanner.given p.given = subst (IsPlacedStream p.keep_tags p.scanner.given) same (sound.whole steady (ap has_end same ∙ sym n.ended ∙ ended)).stream in
       record {
         is_whole = placed;
-        pushed = ended_after ErrorReport p.given answers n.rest (all_are_pushed p.keep_tags (toks p.scanner.given) p.given (placed_stream p.keep_tags p.scanner.given p.given placed)) n.answers_are;
+        pushed = ended_after ErrorReport p.given answers n.rest (all_are_pushed p.keep_tags (toks p.scanner.given) p.given (placed_stream _ _ _ placed)) n.answers_are;
       }
 
   well_all : (so answers).ending ≡ Ending.well → AllGiven answers p
@@ -148,7 +148,7 @@ module _ (text : List ℕ) (answers : List (Answer ErrorReport)) (p : Parsed) (s
       let more = follows.begins.more_events in
       let all = read p ++ more in
       let tokens = follows.before ++ follows.begins.more_tokens in
-      let pushed = all_are_pushed p.keep_tags (toks tokens) all (placed_stream p.keep_tags tokens all follows.begins.stream) in
+      let pushed = all_are_pushed p.keep_tags (toks tokens) all (placed_stream _ _ _ follows.begins.stream) in
       let are : given ErrorReport all ≡ answers ++ given ErrorReport more = cc (given_append ErrorReport (read p) more, same, given_alone answers p n going) in
       let well = (ended_within ErrorReport all answers (given ErrorReport more) pushed are (subst (λ x. IsOver x) (sym e) tt)).1 in
       cc)
@@ -165,9 +165,9 @@ module _ (text : List ℕ) (answers : List (Answer ErrorReport)) (p : Parsed) (s
       record {
         before = follows.before;
         last = follows.last;
-        first = subst (AreFirst text) follows.tokens (first_tokens text p.scanner scans);
+        first = subst (AreFirst text) follows.tokens (first_tokens text _ scans);
         begins = begins_too p.keep_tags follows.before es pushed_first.left (subst (BeginsPlaced p.keep_tags follows.before) are follows.begins);
-        only = subst (λ ts. Foretells p.keep_tags (toks ts) (events_of es)) follows.tokens (foretells_beginning p.keep_tags (toks p.scanner.given) (read p) es pushed_first.left are follows.only);
+        only = subst (λ ts. Foretells p.keep_tags (toks ts) (events_of es)) follows.tokens (foretells_beginning _ _ (read p) es pushed_first.left are follows.only);
       }
 
 never_misplaced : (text : List ℕ) (answers : List (Answer ErrorReport)) (p : Parsed) → ScansIn text p.scanner → p.steady ≡ true → Answered answers p → (q : Position) → (so answers).ending ≡ Ending.no_document q → (so answers).taken ≡ length answers → ⊥

@@ -21,7 +21,7 @@ pub use Rattle.defs_event.specs.Raw.{Raw}
 pub use Rattle.defs_event.specs.ReadAs.{ReadAs}
 pub use Rattle.defs_event.specs.Reading.{reading}
 pub use Rattle.defs_event.specs.Stream.{AgreeAt, BeginsPlaced, events_of, Foretells, HasPlacedTo, IsPlacedStream, IsStream, NoneBegins, raws_of, StreamSays, to_next, whole_stream}
-pub use Rattle.defs_event.specs.Unfinished.{at_work, documents_of, Loader, loader_after, new_loader, noted, Opened, opened_mapping, opened_sequence, out_of_nesting, reads, refused, repeats, Unfinished, with_event, with_event_at, with_events, with_mapping_end, with_root, with_sequence_end, with_start, with_tree}
+pub use Rattle.defs_event.specs.Unfinished.{at_work, documents_of, Loader, loader_after, new_loader, Opened, opened_mapping, opened_sequence, reads, Unfinished, with_event, with_event_at, with_events, with_mapping_end, with_root, with_sequence_end, with_start, with_tree}
 pub use Rattle.defs_layout.specs.Anchored.{Anchor, begun, is_name}
 pub use Rattle.defs_layout.specs.BlockLines.{AreLines, blank, contents, full, Line, spell_line, spell_lines}
 pub use Rattle.defs_layout.specs.Gap.{AreEmptyLines, comment_line, empty_line, GapLine, IsGap, IsLineText, next_line, spaces, spell_ending, spell_gap, spell_gap_line}
@@ -110,9 +110,9 @@ pub use Rattle.proof_row.proofs.Meanings.{one_meaning, read_again, somewhere, wi
 pub use Rattle.proof_row.proofs.Pieces.{clean_up_to_end}
 pub use Rattle.proof_scanner.proofs.Complete.{texts_with_a_row_are_read}
 pub use Rattle.proof_scanner.proofs.Sound.Sound.{tokens_are_of_a_row}
-pub use Rattle.yaml_parser.specs.Blames.{Blames, EndsInAnchor, fits, is_of_names, IsCause, StandsAt}
+pub use Rattle.yaml_parser.specs.Blames.{Blames, fits, is_of_names, IsCause, StandsAt}
 pub use Rattle.yaml_parser.specs.Derived.{IsDerived, stood}
-pub use Rattle.yaml_parser.specs.Follows.{Explains, Follows, IsOfScanner, Refused}
+pub use Rattle.yaml_parser.specs.Follows.{Explains, Follows}
 pub use Rattle.yaml_parser.specs.Loads.{EndsSo, Loads, no_call, one_call, PullsAll, Receives}
 pub use Rattle.yaml_parser.specs.Parsed.{has_end, Parsed, read, read_so}
 pub use Rattle.yaml_parser.specs.Pulls.{GivesEvent, IsSound, KeepsSettings, Pulls}

@@ -1,5 +1,5 @@
 -- Tokens that are settled stay; a text has one fault, and the events before it are one list.
-use Rattle.proof_loads.proofs.Common.{[], AgreeAt, ap, append-nil, append_assoc, AreBehind, AreFirst, AreSettled, arith, BeginsPlaced, BeginsWith, Blames, Bool, both_ways, ComesAfter, EndsInAnchor, Err, ErrorReport, Ev, events_of, false, Fault, fetch, fits, HasPlacedTo, here, inl, inr, is_of_names, IsFaultOf, IsReached, IsRefusal, IsStream, Key, length, length-append, List, map-append, named, no_names, no_stream, no_token, NoneBegins, one_run, OneListOfEventsBefore, OneListOfPushedEventsBefore, Option, Position, Problem, Raw, Reaches, refl, ScannerState, StandsAt, start, stood, stream_by, subst, sym, there, to_next, Tok, Token, toks, true, wants_memory, ℕ, ◌++◌, ◌+◌, ◌∙◌, ◌∷◌, ◌≡◌, ◌⊎◌, list_any, same_from_push, one_fault}
+use Rattle.proof_loads.proofs.Common.{[], AgreeAt, ap, append-nil, append_assoc, AreBehind, AreFirst, AreSettled, arith, BeginsPlaced, BeginsWith, Blames, Bool, both_ways, ComesAfter, Err, ErrorReport, Ev, events_of, false, Fault, fetch, fits, HasPlacedTo, here, inl, inr, is_of_names, IsFaultOf, IsReached, IsRefusal, IsStream, Key, length, length-append, List, map-append, named, no_names, no_stream, no_token, NoneBegins, one_run, OneListOfEventsBefore, OneListOfPushedEventsBefore, Option, Position, Problem, Raw, Reaches, refl, ScannerState, StandsAt, start, stood, stream_by, subst, sym, there, to_next, Tok, Token, toks, true, wants_memory, ℕ, ◌++◌, ◌+◌, ◌∙◌, ◌∷◌, ◌≡◌, ◌⊎◌, list_any, same_from_push, one_fault}
 use Rattle.model_scanner.proofs.Given.{KeysFrom, reached}
 use Rattle.yaml_scanner.specs.Waits.{comes_before}
 use Rattle.yaml_tokens.specs.Problem.{fault_of}
@@ -224,19 +224,19 @@ one_cause keep_tags text f g (wants_memory w) y m n = absurd (both_ways f.memory
 one_cause keep_tags text f g x (wants_memory w) m n = absurd (both_ways g.memory n w.memory)
 one_cause keep_tags text f g (no_token given es settled begins has r) (no_token given' fs settled' begins' had s) m n =
     let same : given ≡ given' =
-    both_begin given given' (settled_first text given' given settled' (reached_all text given settled)) (settled_first text given given' settled (reached_all text given' settled')) in
+    both_begin _ _ (settled_first text _ _ settled' (reached_all text _ settled)) (settled_first text _ _ settled (reached_all text _ settled')) in
     (one_refusal text f g r s m, one_list_so_far to_next keep_tags given' es fs (subst (λ ts. HasPlacedTo to_next keep_tags ts es) same has) had)
 one_cause keep_tags text f g (no_token given es settled begins has r) (no_stream before last fs first b begins' none) m n =
-    absurd (refused_first keep_tags before given last es none begins (settled_first text given (before ++ last ∷ []) settled first.reached))
+    absurd (refused_first _ _ _ _ _ none begins (settled_first text _ _ settled first.reached))
 one_cause keep_tags text f g (no_stream before last es first a begins none) (no_token given fs settled begins' has r) m n =
-    absurd (refused_first keep_tags before given last fs none begins' (settled_first text given (before ++ last ∷ []) settled first.reached))
+    absurd (refused_first _ _ _ _ _ none begins' (settled_first text _ _ settled first.reached))
 one_cause keep_tags text f g (no_stream bs t es first a begins none) (no_stream cs u fs first' b begins' none') m n =
     let same : bs ++ t ∷ [] ≡ cs ++ u ∷ [] = elim (settled_agree text (bs ++ t ∷ []) (cs ++ u ∷ []) first.reached first'.reached) [
       | inl w ↦ same_tokens keep_tags bs cs t u fs none begins' w
       | inr w ↦ sym (same_tokens keep_tags cs bs u t es none' begins w)
     ] in
     let a' = subst (λ ts. Blames f [] keep_tags ts es) same a in
-    (one_blame keep_tags (cs ++ u ∷ []) es fs f g a' b, beside_one keep_tags text (cs ++ u ∷ []) es fs f g first' none' a' b)
+    (one_blame _ _ es fs f g a' b, beside_one _ text _ es fs f g first' none' a' b)
 
 pub one_list_before : OneListOfEventsBefore
 one_list_before keep_tags text f g xs ys x y m n a b = rw (come_before x xs m a, come_before y ys n b) (one_cause keep_tags text f g x y m n).1
@@ -257,5 +257,5 @@ one_pushed_list_before takes others p p' q q' r r' s s' text f g start began set
       other_events = y.events;
       took = x.took;
       other_took = y.took;
-      agree = agree_before p.keep_tags q.keep_tags text f g x.events y.events setting x.why y.why m n;
+      agree = agree_before _ _ text f g _ _ setting x.why y.why m n;
     }

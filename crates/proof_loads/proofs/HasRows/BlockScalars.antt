@@ -152,7 +152,7 @@ module _ (s : BlockStyle) (i column : ℕ) (strips : Bool) (text : List ℕ) (ls
     block_piece : (more_text : List ℕ) → Next column more_text → IsBlockPiece bs s text piece more_text
     block_piece [] at_end =
         let more = indented_lines column (empties n) ++ [] ∷ [] in
-        let lines : texts (lines_at column all_lines) ++ [] ∷ [] ≡ indented_lines column ls ++ more = ap (λ x. x ++ [] ∷ []) all_texts ∙ append_assoc (indented_lines column ls) (indented_lines column (empties n)) ([] ∷ []) in
+        let lines : texts (lines_at column all_lines) ++ [] ∷ [] ≡ indented_lines column ls ++ more = rw all_texts (append_assoc (indented_lines column ls) (indented_lines column (empties n)) ([] ∷ [])) in
         let value = ap (λ rs. value_before_end (header_by s strips) column rs [] empty_row) (map-append row_by ls (empties n)) ∙ spaces_value s strips column (map row_by ls) n 0 some (omega arith) ∙ h.value in
         ends_so all_lines [] empty_row more each (row_spaces column 0 (omega arith)) refl refl lines value
     block_piece more_text (at_text further some_text is_further tabless) =
