@@ -238,11 +238,11 @@ mutual
   read_value : (c : ℕ) (a : List Anchor) (v : Value) → IsValue c a v → ReadsValue c v
   read_value c a (Value.beside more v k) h bs t tokens rest p awaits l fits line deep = inline_reads k t (c ∷ bs) tokens h.1 rest v h.0 _ (spaced (c ∷ bs) more _) p awaits l line deep
   read_value c a (Value.literal more column text ls) h bs t tokens rest p awaits l fits line deep =
-      block_is_read BlockStyle.literal (suc c) column (strips_of text) text ls h.0 (literal_lines c column text ls h.0 h.1 h.2) (c ∷ bs) refl tokens _ t (subst (Parts (c ∷ bs) _) (headed_literal text (spell_lines column ls (trail_text t))) (spaced (c ∷ bs) more _))
+      block_is_read _ (suc c) _ _ _ _ h.0 (literal_lines c column text ls h.0 h.1 h.2) (c ∷ bs) refl tokens _ t (subst (Parts (c ∷ bs) _) (headed_literal text (spell_lines column ls (trail_text t))) (spaced (c ∷ bs) more _))
       rest.trail (nested_follows c column bs t h.0 rest.trail rest.low) rest.after p awaits l line deep
   read_value c a (Value.folded more column strips text ls) h bs t tokens rest p awaits l fits line deep =
       let headed : folded_header strips ++ (spell_lines column ls (trail_text t)) ≡ block_text BlockStyle.folded strips (spell_lines column ls (trail_text t)) = grind arith in
-      block_is_read BlockStyle.folded (suc c) column strips text ls h.0 (folded_lines c column strips text ls h.0 h.1) (c ∷ bs) refl tokens _ t (subst (Parts (c ∷ bs) _) headed (spaced (c ∷ bs) more _))
+      block_is_read _ (suc c) _ _ _ _ h.0 (folded_lines c column strips text ls h.0 h.1) (c ∷ bs) refl tokens _ t (subst (Parts (c ∷ bs) _) headed (spaced (c ∷ bs) more _))
       rest.trail (nested_follows c column bs t h.0 rest.trail rest.low) rest.after p awaits l line deep
   read_value c a (Value.json more v) h bs t tokens rest p awaits l fits line deep =
       value_reads (c ∷ bs) v h.1 (λ e. (json_spaces v [] h.3).0) outside _ (trail_text t) tokens (spaced (c ∷ bs) more _) (trail_ends no_comment t (c ∷ bs) rest.trail rest.low) (let few = h.2 in omega (arith, few))
@@ -321,7 +321,7 @@ root_reads (Root.block column block) is front g gap t ends tokens p awaits l lin
 root_reads (Root.inline i) is front g gap t ends tokens p awaits l line here rest =
     inline_reads no_comment t [] tokens tt (record { trail = grind (arith, empty_gap); low = grind arith; after = rest }) i is _ (root_parts (here g 0 _ gap)) p awaits l line (omega arith)
 root_reads (Root.literal text ls) is front g gap t ends tokens p awaits l line here rest =
-    block_is_read BlockStyle.literal 0 0 (strips_of text) text ls refl (root_literal_lines text ls is.0 is.1) [] refl tokens _ t (subst (Parts [] _) (headed_literal text (spell_lines 0 ls (trail_text t))) (root_parts (here g 0 _ gap)))
+    block_is_read _ 0 _ _ _ _ refl (root_literal_lines text ls is.0 is.1) [] refl tokens _ t (subst (Parts [] _) (headed_literal text (spell_lines 0 ls (trail_text t))) (root_parts (here g 0 _ gap)))
     (grind (arith, empty_gap)) (grind (arith, at_text)) rest p awaits l line (omega arith)
 
 -- ---- markers
