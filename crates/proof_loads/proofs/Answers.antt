@@ -149,13 +149,15 @@ module _ (text : List ℕ) (answers : List (Answer ErrorReport)) (p : Parsed) (s
       let all = read p ++ more in
       let tokens = follows.before ++ follows.begins.more_tokens in
       let pushed = all_are_pushed p.keep_tags (toks tokens) all (placed_stream _ _ _ follows.begins.stream) in
-      let are : given ErrorReport all ≡ answers ++ given ErrorReport more = cc (given_append ErrorReport (read p) more, same, given_alone answers p n going) in
+      let are : given ErrorReport all ≡ answers ++ given ErrorReport more =
+      cc (given_append ErrorReport (read p) more, same, given_alone answers p n going) in
       let well = (ended_within ErrorReport all answers (given ErrorReport more) pushed are (subst (λ x. IsOver x) (sym e) tt)).1 in
       cc)
 
   -- What was pushed is a beginning of what was given.
   pushed_first : Pushes (so answers) p.given
-  pushed_first = by_test p.ended (λ ended. record { left = []; whole = sym (ended_all ended).pushed.0 ∙ sym (append-nil (so answers).pushed) })
+  pushed_first = by_test p.ended
+      (λ ended. record { left = []; whole = sym (ended_all ended).pushed.0 ∙ sym (append-nil (so answers).pushed) })
       (λ going. subst (λ bs. Pushes (so bs) p.given) (sym (given_alone answers p n going)) (pushes ErrorReport before_stream p.given))
 
   begins_text : (es : List (Ev × Position)) → (so answers).pushed ≡ es → BeginsEvents p.keep_tags text es

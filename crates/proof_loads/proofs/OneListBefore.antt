@@ -150,7 +150,8 @@ last_or_before (x ∷ xs) (y ∷ ys) more u e =
 
 both_begin : (xs ys : List Token) → BeginsWith xs ys → BeginsWith ys xs → xs ≡ ys
 both_begin xs ys b c =
-    same_beginning xs ys b.more [] (omega (arith, ap length b.whole, length-append xs b.more, ap length c.whole, length-append ys c.more)) (cc (append-nil ys))
+    same_beginning xs ys b.more []
+    (omega (arith, ap length b.whole, length-append xs b.more, ap length c.whole, length-append ys c.more)) (cc (append-nil ys))
 
 reached_all : (text : List ℕ) (given : List Token) → AreSettled text given → IsReached text given
 reached_all text given s = record { last = s.refused.last; run = s.refused.run; begins = s.begins; behind = λ going. s.behind }
@@ -224,7 +225,8 @@ one_cause keep_tags text f g (wants_memory w) y m n = absurd (both_ways f.memory
 one_cause keep_tags text f g x (wants_memory w) m n = absurd (both_ways g.memory n w.memory)
 one_cause keep_tags text f g (no_token given es settled begins has r) (no_token given' fs settled' begins' had s) m n =
     let same : given ≡ given' =
-    both_begin _ _ (settled_first text _ _ settled' (reached_all text _ settled)) (settled_first text _ _ settled (reached_all text _ settled')) in
+    both_begin _ _ (settled_first text _ _ settled' (reached_all text _ settled))
+    (settled_first text _ _ settled (reached_all text _ settled')) in
     (one_refusal text f g r s m, one_list_so_far to_next keep_tags given' es fs (subst (λ ts. HasPlacedTo to_next keep_tags ts es) same has) had)
 one_cause keep_tags text f g (no_token given es settled begins has r) (no_stream before last fs first b begins' none) m n =
     absurd (refused_first _ _ _ _ _ none begins (settled_first text _ _ settled first.reached))

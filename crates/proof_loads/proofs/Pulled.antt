@@ -92,7 +92,12 @@ note q p answers e pl n gives = by_test q.ended
     (λ h.
     let same : p.given ≡ q.given = (rw h at gives.given) ∙ append-nil q.given in
     let end : p.ended ≡ true = rw h at gives.ended in
-    record { rest = n.rest ++ event e pl ∷ []; answers_are = cc (append_assoc (given ErrorReport q.given) n.rest (event e pl ∷ [])); ended = cc; none = λ no. cc })
+    record {
+      rest = n.rest ++ event e pl ∷ [];
+      answers_are = cc (append_assoc (given ErrorReport q.given) n.rest (event e pl ∷ []));
+      ended = cc;
+      none = λ no. cc;
+    })
     (λ h.
     let more : p.given ≡ q.given ++ (e, pl) ∷ [] = rw h at gives.given in
     let alone = given_alone answers q n h in

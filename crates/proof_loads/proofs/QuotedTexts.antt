@@ -13,4 +13,5 @@ quoted_texts_have_no_nul text value (w, spelt, is) = subst IsWithoutNul spelt (w
 pub quoted_texts_are_read : QuotedTextsMeanTheirString
 quoted_texts_are_read keep_tags text value (w, spelt, is) =
     let q : HasQuotedTokens text (Tok.stream_start ∷ Tok.scalar (style_of w.quotes) value ∷ Tok.stream_end ∷ []) = (w, value, spelt, is, refl) in
-    means (quoted_texts_have_no_nul text value (w, spelt, is)) (quoted_texts_have_their_tokens text _ q) (quoted_read_as_their_string keep_tags text _ q)
+    means (quoted_texts_have_no_nul text value (w, spelt, is)) (quoted_texts_have_their_tokens text _ q)
+    (quoted_read_as_their_string keep_tags text _ q)

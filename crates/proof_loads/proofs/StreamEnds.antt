@@ -63,7 +63,8 @@ record EndAmong (given : List Token) : Type 0 where
 
 end_among : (given : List Token) → list_any is_stream_end (toks given) ≡ true → EndAmong given
 end_among [] h = cc
-end_among (t ∷ given) h = by_test (is_stream_end t.tok) (λ e. record { before = []; end = t; more = given; whole = refl; is_end = grind (arith, e) })
+end_among (t ∷ given) h = by_test (is_stream_end t.tok)
+    (λ e. record { before = []; end = t; more = given; whole = refl; is_end = grind (arith, e) })
     (λ e. let z = end_among given (rw e at h) in record { before = t ∷ z.before; end = z.end; more = z.more; whole = ap (λ xs. t ∷ xs) z.whole; is_end = z.is_end })
 
 -- A text whose first tokens are a stream's is read as these.
@@ -71,7 +72,8 @@ pub all_tokens : (text : List ℕ) (given : List Token) (es : List Raw) → has_
 all_tokens text given es nul reached d =
     let among = end_among given (ends_at whole_stream (toks given) es d refl) in
     let more = reached.begins.more in
-    let at : reached.last.held.tokens ≡ among.before ++ among.end ∷ (among.more ++ more) = cc (append_assoc among.before (among.end ∷ among.more) more) in
+    let at : reached.last.held.tokens ≡ among.before ++ among.end ∷ (among.more ++ more) =
+    cc (append_assoc among.before (among.end ∷ among.more) more) in
     let last = end_is_last text reached.last among.before (among.more ++ more) among.end reached.run at among.is_end in
     tokens_are_of_a_row text given nul (record {
       end = reached.last;

@@ -181,7 +181,8 @@ plain_goes c h quote body text z = plain_step single_quoted_element c body text 
 
 doubled_goes : (c : ℕ) → is_line_character c ≡ true → Goes single (doubled c) c
 unfolding single_quoted_element is_nul is_break
-doubled_goes c h = if_goes single (c == 39) _ _ c (λ e. rw (eqb-true c 39 e) (λ body text z. content_goes 39 z (rw (z.are) refl) z.no_break)) (plain_goes c h)
+doubled_goes c h =
+    if_goes single (c == 39) _ _ c (λ e. rw (eqb-true c 39 e) (λ body text z. content_goes 39 z (rw (z.are) refl) z.no_break)) (plain_goes c h)
 
 pub single_is : (w : List ℕ) → IsLineText w → IsBody single (flat_map doubled w) w
 single_is [] h = nothing

@@ -56,7 +56,8 @@ After t bs tokens =
 -- after a collection that ends there too
 pub one_more : (t : Trail) (n : ℕ) (bs : List ℕ) (tokens : List Tok) → EndsAt t n → After t bs tokens → After t (n ∷ bs) (Tok.block_end ∷ tokens)
 one_more t n bs tokens ends rest extra p awaits before l text all arrives =
-    let same : ended (extra ++ n ∷ []) tokens ≡ ended extra (Tok.block_end ∷ tokens) = rw map-append (append_assoc (map (λ m. Tok.block_end) extra) (Tok.block_end ∷ []) tokens) in
+    let same : ended (extra ++ n ∷ []) tokens ≡ ended extra (Tok.block_end ∷ tokens) =
+    rw map-append (append_assoc (map (λ m. Tok.block_end) extra) (Tok.block_end ∷ []) tokens) in
     rw (← append_assoc extra (n ∷ []) bs, ← same) (rest (extra ++ n ∷ []) p awaits before l text (more t extra ends all) arrives)
   where
     more : (t : Trail) (extra : List ℕ) → EndsAt t n → AllEnd t extra → AllEnd t (extra ++ n ∷ [])
