@@ -188,7 +188,8 @@ in_column_with i column ls more inside begins are = let e = deepest column ls mo
 
 -- ---- texts
 
-pub outside : (column n c : ℕ) (a : List ℕ) → n < column → is_blank c ≡ false → is_break c ≡ false → is_nul c ≡ false → is_outside column (spaces n (c ∷ a)) ≡ true
+pub outside : (column n c : ℕ) (a : List ℕ) → n < column
+    → is_blank c ≡ false → is_break c ≡ false → is_nul c ≡ false → is_outside column (spaces n (c ∷ a)) ≡ true
 unfolding is_blank is_break is_nul
 outside zero n c a low not_blank not_break not_nul = absurd (omega (arith, low))
 outside (suc column) zero c a low not_blank not_break not_nul = grind (arith, nat_tests)
@@ -225,7 +226,8 @@ each_line column (full (c ∷ w) ∷ ls) are texts free =
       none = spaces_none column (w' ++ []) (both w' [] (text_none w' texts.0) refl);
     } in
     All-cons (IsBlockLine column) (full w') ls first (each_line column ls are.1 texts.1 (λ e. (unmarked e).1))
-each_line column (blank n ∷ ls) are texts free = All-cons (IsBlockLine column) (blank n) ls (a_blank column n are.0) (each_line column ls are.1 texts free)
+each_line column (blank n ∷ ls) are texts free =
+    All-cons (IsBlockLine column) (blank n) ls (a_blank column n are.0) (each_line column ls are.1 texts free)
 
 -- such lines before a last one: their rows, as lines, and that they have no NUL
 pub are_each : (column : ℕ) (ls : List Line) (e : List ℕ) → All (IsBlockLine column) ls → HasNone e
@@ -308,7 +310,8 @@ one_break zero r = refl
 one_break (suc k) r = ap (λ x. 10 ∷ x) (one_break k r)
 
 -- the text after a line and so many empty ones, before an LF
-text_from : (w : List ℕ) (k : ℕ) (ls : List Line) → EndsInText ls → text_after BlockStyle.literal w k (rows ls) ++ 10 ∷ [] ≡ breaks (suc k) ++ ended (contents ls)
+text_from : (w : List ℕ) (k : ℕ) (ls : List Line) → EndsInText ls
+    → text_after BlockStyle.literal w k (rows ls) ++ 10 ∷ [] ≡ breaks (suc k) ++ ended (contents ls)
 text_from w k [] h = absurd h
 text_from w k (full v ∷ ls) h = grind (arith, append_assoc, append-nil, text_from v 0 ls)
 text_from w k (blank n ∷ ls) h = grind (arith, one_break, text_from w (suc k) ls)

@@ -102,7 +102,11 @@ fits_name p k n f = grind arith
 one_place : (p : Problem) (before : List Token) (last : Token) (x y : Position) → StandsAt p x before last → StandsAt p y before last → x ≡ y
 one_place p before last x y s u = elim s [
   | inl a ↦ elim u [ inl b ↦ a.0 ∙ sym b.0 | inr b ↦ absurd (a.1 b.0 y b.1) ]
-  | inr a ↦ elim u [ inl b ↦ absurd (b.1 a.0 x a.1) | inr b ↦ cc (a.1.at, b.1.at, (same_from_push a.1.before b.1.before a.1.anchor b.1.anchor (sym a.1.whole ∙ b.1.whole)).1) ]
+  | inr a ↦ elim u [
+    | inl b ↦ absurd (b.1 a.0 x a.1)
+    | inr b ↦
+        cc (a.1.at, b.1.at, (same_from_push a.1.before b.1.before a.1.anchor b.1.anchor (sym a.1.whole ∙ b.1.whole)).1)
+  ]
 ]
 
 -- Two faults that refuse the same token are of one problem,

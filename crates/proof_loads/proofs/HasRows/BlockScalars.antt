@@ -119,7 +119,15 @@ module _ (s : BlockStyle) (i column : ℕ) (strips : Bool) (text : List ℕ) (ls
       let z = are_each column ms l each none in
       record {
         column = column;
-        read = rw (same, split_spell (header ∷ lines_at column ms) l (header_inner s strips, tt, z.1) inner, header_is s strips, ap (column_by None (collection_of i)) lines ∙ (in_column more).0, ap starts_with_tab lines ∙ (in_column more).1, z.0, row)
+        read = rw (
+          same,
+          split_spell (header ∷ lines_at column ms) l (header_inner s strips, tt, z.1) inner,
+          header_is s strips,
+          ap (column_by None (collection_of i)) lines ∙ (in_column more).0,
+          ap starts_with_tab lines ∙ (in_column more).1,
+          z.0,
+          row,
+        )
             (ap (λ t. Some (is_block s column t)) value);
         may = refl;
         none = header_none s strips (spell (lines_at column ms) l) z.2;
@@ -185,7 +193,8 @@ module _ (s : BlockStyle) (i column : ℕ) (strips : Bool) (text : List ℕ) (ls
   block_ends =
       let q = All-pop (IsBlockLine column) ls end_of.init (Some (full end_of.last)) end_of.is h.each in
       let lines = ap (λ x. x ++ last_text ∷ []) (texts_are column end_of.init) ∙ sym (map-append (λ l. spell_line column l []) end_of.init (full end_of.last ∷ [])) ∙ ap (indented_lines column) (sym end_of.is) ∙ sym (append-nil _) in
-      let rows : map row_by end_of.init ++ content_row end_of.last ∷ [] ≡ map row_by ls = cc (map-append row_by end_of.init (full end_of.last ∷ []), end_of.is) in
+      let rows : map row_by end_of.init ++ content_row end_of.last ∷ [] ≡ map row_by ls =
+      cc (map-append row_by end_of.init (full end_of.last ∷ []), end_of.is) in
       let value = last_value s strips column (map row_by end_of.init) (content_row end_of.last) last_text refl ∙ ap (value_before_text (header_by s strips)) rows ∙ h.value in
       ends_so end_of.init last_text (content_row end_of.last) [] q.0 q.1.row q.1.inner q.1.none lines value
 

@@ -25,8 +25,8 @@ pub piece_spelt : (s : Scalar) (r : List ℕ) → spell_scalar s r ≡ piece_of 
 piece_spelt s r = grind (arith, append_assoc)
 
 -- a body between quotes is what its token shows
-quotes_shown : (quotes : Quotes) (body text : List ℕ) → body_value quotes body ≡ Some text → (bs : List ℕ) (key : Bool) (r : List ℕ) → begins_with 39 r ≡ false
-    → ShownAt bs (in_quotes quotes body) (Tok.scalar (style_of quotes) text) key r
+quotes_shown : (quotes : Quotes) (body text : List ℕ) → body_value quotes body ≡ Some text
+    → (bs : List ℕ) (key : Bool) (r : List ℕ) → begins_with 39 r ≡ false → ShownAt bs (in_quotes quotes body) (Tok.scalar (style_of quotes) text) key r
 quotes_shown double body text value bs key r quote all p awaits before l f stay = (refl, ((body, refl, value), refl))
 quotes_shown single body text value bs key r quote all p awaits before l f stay = (refl, ((body, refl, value, quote), refl))
 
@@ -388,5 +388,6 @@ quoted_reads quotes body value n h =
     let follows = (trail_ends no_comment (end f.0) [] f.1 tt).done piece in
     rw (← append_assoc (quote_of quotes ∷ body) (quote_of quotes ∷ []) (replicate n 10), ← f.2)
     (node_reads [] piece t (piece ++ after) after (Tok.stream_end ∷ []) (record { by = []; is = refl; separates = refl; tabless = λ awaits. refl; deep = λ p deep. deep; none = refl }) (quoted_none quotes body value h) (λ p deep. omega arith)
-    (further quotes body value h) (grind arith) (λ p awaits l there. quotes_shown quotes body value h [] false after (no_quote no_comment (end f.0)) [] p awaits another l [] refl) (grind (arith, follows))
+    (further quotes body value h) (grind arith)
+    (λ p awaits l there. quotes_shown quotes body value h [] false after (no_quote no_comment (end f.0)) [] p awaits another l [] refl) (grind (arith, follows))
     (rw none (arrive no_comment (end f.0) [] (Tok.stream_end ∷ []) tt f.1 (end_reads f.0) (previous_by t) (λ w. grind arith))) first_position false free refl (omega arith))
