@@ -1,12 +1,10 @@
 -- What a load answers of any text, by a parser that is at its start.
-use Rattle.proof_loads.proofs.Common.{[], Answer, AnswersText, ap, append-nil, append_assoc, AreFirst, AreSettled, before_stream, BeginsEvents, BeginsPlaced, Blames, Bool, codes, ComesAfter, EndsSo, Err, ErrorReport, Ev, events_of, Explains, false, Foretells, given, has_end, HasEvents, inl, inr, IsAtStart, IsCause, IsDerived, IsFaultOf, IsOfScanner, IsPlacedStream, IsRefusal, IsStream, length, List, load, load_from, Loads, nested_stream, no_names, no_stream, no_token, None, NoneBegins, Parsed, Position, Raw, raws_of, read, Receives, refl, Refused, Result, ScansIn, Some, subst, sym, TextsAreAnswered, Tok, Token, toks, true, wants_memory, whole, without_positions, ℕ, ◌++◌, ◌∙◌, ◌∷◌, ◌≡◌, IsSound}
+use Rattle.proof_loads.proofs.Common.{[], Answer, AnswersText, ap, append-nil, append_assoc, AreFirst, AreSettled, before_stream, BeginsEvents, BeginsPlaced, Blames, Bool, codes, ComesAfter, EndsSo, Err, ErrorReport, Ev, events_of, Explains, false, Foretells, given, has_end, HasEvents, inl, inr, IsAtStart, IsCause, IsDerived, IsFaultOf, IsPlacedStream, IsRefusal, IsStream, length, List, load, load_from, Loads, nested_stream, no_names, no_stream, no_token, None, NoneBegins, Parsed, Position, Raw, raws_of, read, Receives, refl, Result, ScansIn, Some, subst, sym, TextsAreAnswered, Tok, Token, toks, true, wants_memory, whole, without_positions, ℕ, ◌++◌, ◌∙◌, ◌∷◌, ◌≡◌, IsSound, Loaded, Ending, arith, length-append}
+use Rattle.proof_loads.proofs.Tests.{by_test}
 use Rattle.yaml_parser.specs.Settings.{AreAll}
 use Rattle.yaml_parser.proofs.Since.{since_same, names_same}
-use Rattle.defs_event.specs.Push as run
 use Rattle.defs_event.proofs.AllPushed.{all_pushed}
 use Rattle.defs_event.proofs.StreamNests.{stream_nests}
-use Rattle.yaml_parser.specs.Loads as loads
-use Rattle.proof_loads.specs.TextEvents.{faulted, refused}
 use Rattle.proof_loads.proofs.Pulled.{Noted, given_alone, Answered, events, faults, answered, read_given, settings_stay, IsOver, Pushes, pushes, fault_is_reached, end_is_reached, faulted_pushes, PushesAll, ended_within, ended_after, given_append}
 use Rattle.proof_loads.proofs.Texts.{first_tokens, foretells_beginning, if_kept}
 use Rattle.proof_loads.proofs.StreamEnds.{all_tokens}
@@ -49,7 +47,7 @@ blames_steady {f} {settings} {keep_tags} {tokens} {events} all b = record {
 }
 
 -- what a call does with these answers
-abbrev so : List (Answer ErrorReport) → run.Loaded ErrorReport
+abbrev so : List (Answer ErrorReport) → Loaded ErrorReport
 so answers = load_from before_stream true answers
 
 -- ---- after the answers
@@ -67,7 +65,7 @@ placed_stream keep_tags tokens es s = record { raws = raws_of s.raws; says = wit
 
 -- The text's tokens are a stream, with its nested events.
 pub nested_is_stream : {keep_tags : Bool} {text : List ℕ} {es : List (Ev × Position)} (h : HasEvents keep_tags text es) → IsStream keep_tags (toks h.tokens) (nested_stream h.documents)
-nested_is_stream {keep_tags} {text} {es} h = subst (IsStream keep_tags (toks h.tokens)) h.events_are (placed_stream keep_tags h.tokens es h.stream)
+nested_is_stream {keep_tags} {text} {es} h = subst (IsStream keep_tags (toks h.tokens)) h.events_are (placed_stream _ _ es h.stream)
 
 -- Events of which more stand after these begin a stream too.
 begins_too : (keep_tags : Bool) (tokens : List Token) (es fs : List (Ev × Position)) → BeginsPlaced keep_tags tokens (es ++ fs) → BeginsPlaced keep_tags tokens es
@@ -98,23 +96,21 @@ pub record FaultAfter (keep_tags : Bool) (text : List ℕ) (f : ErrorReport) (es
 
 pub fault_after : (text : List ℕ) (p : Parsed) (f : ErrorReport) → ScansIn text p.scanner → p.steady ≡ true → Explains f p → FaultAfter p.keep_tags text f (read p)
 fault_after text p f scans steady why = elim why [
-  | inl kept ↦ by_scanner f.memory refl kept
-  | inr other ↦ elim other [ inl wants ↦ record { why = wants_memory wants; after = tt } | inr cut ↦ by_grammar (blames_steady (cut.steady steady) cut.blames) (cut.refused steady) ]
-]
-  where
-    by_scanner : (m : Bool) → f.memory ≡ m → IsOfScanner f p → FaultAfter p.keep_tags text f (read p)
-    by_scanner true m k = record { why = wants_memory (record { memory = m; text = if_kept (λ g. g.memory ≡ true → g.text ≡ codes "out of memory") p.scanner.fault f k.fault scans.wants m }); after = tt }
-    by_scanner false m k = record {
-      why = no_token p.scanner.given (read p) (if_kept (λ g. g.memory ≡ false → AreSettled text p.scanner.given) p.scanner.fault f k.fault (scans.settled (k.settled m)) m) (k.begins steady) (k.so_far steady) (if_kept (λ g. g.memory ≡ false → IsRefusal text g) p.scanner.fault f k.fault scans.refused m);
-      after = refl;
-    }
-
-    by_grammar : Blames f [] p.keep_tags p.scanner.given (read p) → Refused p → FaultAfter p.keep_tags text f (read p)
-    by_grammar blames r = record {
-      why = no_stream r.before r.last (read p) (subst (AreFirst text) r.tokens (first_tokens text p.scanner scans)) (subst (λ ts. Blames f [] p.keep_tags ts (read p)) r.tokens blames) r.begins
+  | inl k ↦ by_test f.memory
+      (λ m. record { why = wants_memory (record { memory = m; text = if_kept (λ g. g.memory ≡ true → g.text ≡ codes "out of memory") p.scanner.fault f k.fault scans.wants m }); after = tt })
+      (λ m. record {
+        why = no_token p.scanner.given (read p) (if_kept (λ g. g.memory ≡ false → AreSettled text p.scanner.given) p.scanner.fault f k.fault (scans.settled (k.settled m)) m) (k.begins steady) (k.so_far steady) (if_kept (λ g. g.memory ≡ false → IsRefusal text g) p.scanner.fault f k.fault scans.refused m);
+        after = refl;
+      })
+  | inr other ↦ elim other [
+    | inl wants ↦ record { why = wants_memory wants; after = tt }
+    | inr cut ↦ let r = cut.refused steady in record {
+      why = no_stream r.before r.last (read p) (subst (AreFirst text) r.tokens (first_tokens text _ scans)) (subst (λ ts. Blames f [] p.keep_tags ts (read p)) r.tokens (blames_steady (cut.steady steady) cut.blames)) r.begins
           (subst (λ ts. NoneBegins p.keep_tags (toks ts)) r.tokens r.none);
       after = refl;
     }
+  ]
+]
 
 pub fault_of : (text : List ℕ) (p : Parsed) (f : ErrorReport) → ScansIn text p.scanner → p.steady ≡ true → Explains f p → IsFaultOf p.keep_tags text f
 fault_of text p f scans steady why = (fault_after text p f scans steady why).why
@@ -136,45 +132,33 @@ module _ (text : List ℕ) (answers : List (Answer ErrorReport)) (p : Parsed) (s
       let placed : IsPlacedStream p.keep_tags p.scanner.given p.given = subst (IsPlacedStream p.keep_tags p.scanner.given) same (sound.whole steady (ap has_end same ∙ sym n.ended ∙ ended)).stream in
       record {
         is_whole = placed;
-        pushed = ended_after ErrorReport p.given answers n.rest (all_are_pushed p.keep_tags (toks p.scanner.given) p.given (placed_stream p.keep_tags p.scanner.given p.given placed)) n.answers_are;
+        pushed = ended_after ErrorReport p.given answers n.rest (all_are_pushed p.keep_tags (toks p.scanner.given) p.given (placed_stream _ _ _ placed)) n.answers_are;
       }
 
-  well_all : (so answers).ending ≡ run.well → AllGiven answers p
-  well_all e = by p.ended refl
-    where
-      by : (b : Bool) → p.ended ≡ b → AllGiven answers p
-      by true ended = ended_all ended
-      by false going =
-          let reached = end_is_reached ErrorReport before_stream p.given (ap (λ bs. (so bs).ending) (sym (given_alone answers p n going)) ∙ e) in
-          let ended = n.ended in
-          cc
+  well_all : (so answers).ending ≡ Ending.well → AllGiven answers p
+  well_all e = by_test p.ended ended_all (λ going.
+      let reached = end_is_reached ErrorReport before_stream p.given (ap (λ bs. (so bs).ending) (sym (given_alone answers p n going)) ∙ e) in
+      let ended = n.ended in
+      cc)
 
   -- An event that is no document's start never stands between documents.
-  not_misplaced : (q : Position) → (so answers).ending ≡ run.no_document q → ⊥
-  not_misplaced q e = by p.ended refl
-    where
-      not_well : (so answers).ending ≡ run.well → ⊥
-      not_well h = cc
-
-      by : (b : Bool) → p.ended ≡ b → ⊥
-      by true ended = not_well (ended_all ended).pushed.1
-      by false going =
-          let follows = sound.follows steady in
-          let more = follows.begins.more_events in
-          let all = read p ++ more in
-          let tokens = follows.before ++ follows.begins.more_tokens in
-          let pushed = all_are_pushed p.keep_tags (toks tokens) all (placed_stream p.keep_tags tokens all follows.begins.stream) in
-          let are : given ErrorReport all ≡ answers ++ given ErrorReport more =
-          given_append ErrorReport (read p) more ∙ ap (λ es. given ErrorReport es ++ given ErrorReport more) same ∙ ap (λ bs. bs ++ given ErrorReport more) (sym (given_alone answers p n going)) in
-          not_well (ended_within ErrorReport all answers (given ErrorReport more) pushed are (subst (λ x. IsOver x) (sym e) tt)).1
+  not_misplaced : (q : Position) → (so answers).ending ≡ Ending.no_document q → ⊥
+  not_misplaced q e = by_test p.ended (λ ended. let well = (ended_all ended).pushed.1 in cc) (λ going.
+      let follows = sound.follows steady in
+      let more = follows.begins.more_events in
+      let all = read p ++ more in
+      let tokens = follows.before ++ follows.begins.more_tokens in
+      let pushed = all_are_pushed p.keep_tags (toks tokens) all (placed_stream _ _ _ follows.begins.stream) in
+      let are : given ErrorReport all ≡ answers ++ given ErrorReport more =
+      cc (given_append ErrorReport (read p) more, same, given_alone answers p n going) in
+      let well = (ended_within ErrorReport all answers (given ErrorReport more) pushed are (subst (λ x. IsOver x) (sym e) tt)).1 in
+      cc)
 
   -- What was pushed is a beginning of what was given.
   pushed_first : Pushes (so answers) p.given
-  pushed_first = by p.ended refl
-    where
-      by : (b : Bool) → p.ended ≡ b → Pushes (so answers) p.given
-      by true ended = record { left = []; whole = sym (ended_all ended).pushed.0 ∙ sym (append-nil (so answers).pushed) }
-      by false going = subst (λ bs. Pushes (so bs) p.given) (sym (given_alone answers p n going)) (pushes ErrorReport before_stream p.given)
+  pushed_first = by_test p.ended
+      (λ ended. record { left = []; whole = sym (ended_all ended).pushed.0 ∙ sym (append-nil (so answers).pushed) })
+      (λ going. subst (λ bs. Pushes (so bs) p.given) (sym (given_alone answers p n going)) (pushes ErrorReport before_stream p.given))
 
   begins_text : (es : List (Ev × Position)) → (so answers).pushed ≡ es → BeginsEvents p.keep_tags text es
   begins_text es pushed =
@@ -183,13 +167,13 @@ module _ (text : List ℕ) (answers : List (Answer ErrorReport)) (p : Parsed) (s
       record {
         before = follows.before;
         last = follows.last;
-        first = subst (AreFirst text) follows.tokens (first_tokens text p.scanner scans);
+        first = subst (AreFirst text) follows.tokens (first_tokens text _ scans);
         begins = begins_too p.keep_tags follows.before es pushed_first.left (subst (BeginsPlaced p.keep_tags follows.before) are follows.begins);
-        only = subst (λ ts. Foretells p.keep_tags (toks ts) (events_of es)) follows.tokens (foretells_beginning p.keep_tags (toks p.scanner.given) (read p) es pushed_first.left are follows.only);
+        only = subst (λ ts. Foretells p.keep_tags (toks ts) (events_of es)) follows.tokens (foretells_beginning _ _ (read p) es pushed_first.left are follows.only);
       }
 
-never_misplaced : (text : List ℕ) (answers : List (Answer ErrorReport)) (p : Parsed) → ScansIn text p.scanner → p.steady ≡ true → Answered answers p → (q : Position) → (so answers).ending ≡ run.no_document q → (so answers).taken ≡ length answers → ⊥
-never_misplaced text answers p scans steady (events n clear (inl none)) q e taken = let no : run.unfinished ≡ run.no_document q = ap (λ bs. (so bs).ending) (sym none) ∙ e in cc
+never_misplaced : (text : List ℕ) (answers : List (Answer ErrorReport)) (p : Parsed) → ScansIn text p.scanner → p.steady ≡ true → Answered answers p → (q : Position) → (so answers).ending ≡ Ending.no_document q → (so answers).taken ≡ length answers → ⊥
+never_misplaced text answers p scans steady (events n clear (inl none)) q e taken = let no : Ending.unfinished ≡ Ending.no_document q = ap (λ bs. (so bs).ending) (sym none) ∙ e in cc
 never_misplaced text answers p scans steady (events n clear (inr (ahead, sound))) q e taken = not_misplaced text answers p scans steady n ahead sound q e
 never_misplaced text answers p scans steady (faults g first rest are is ahead why) q e taken =
     fault_is_reached ErrorReport before_stream p.given first rest q (ap (λ bs. (so bs).ending) (sym are) ∙ e) (ap (λ bs. (so bs).taken) (sym are) ∙ taken ∙ ap length are)
@@ -202,7 +186,7 @@ pub record FaultTaken {R : Type 0} (takes : Takes R) (keep_tags : Bool) (text : 
 
 -- Before a fault all events that were read are pushed.
 at_fault : {R : Type 0} {takes : Takes R} {r s : R} {text : List ℕ} (answers : List (Answer ErrorReport)) (p : Parsed) → ScansIn text p.scanner → p.steady ≡ true → Answered answers p
-    → (f : ErrorReport) → (so answers).ending ≡ run.faulted f → p.fault ≡ Some f → Receives takes r (so answers).pushed s → FaultTaken takes p.keep_tags text f r s
+    → (f : ErrorReport) → (so answers).ending ≡ Ending.faulted f → p.fault ≡ Some f → Receives takes r (so answers).pushed s → FaultTaken takes p.keep_tags text f r s
 at_fault answers p scans steady (events n clear o) f e kept received = cc
 at_fault {text = text} answers p scans steady (faults g first rest are is ahead why) f e kept received =
     let same : g ≡ f = cc in
@@ -211,31 +195,28 @@ at_fault {text = text} answers p scans steady (faults g first rest are is ahead 
 
 ends_so : {R : Type 0} {takes : Takes R} {r s : R} {text : List ℕ} {result : Result (Unit {0}) ErrorReport} {new : Parsed} (answers : List (Answer ErrorReport)) (p : Parsed)
     → ScansIn text p.scanner → p.steady ≡ true → Answered answers p → (so answers).taken ≡ length answers → EndsSo takes r (so answers) p result new s → AnswersText takes p.keep_tags text r result s
-ends_so answers p scans steady (events n clear (inl none)) taken (loads.well e _ received) = let no : run.unfinished ≡ run.well = ap (λ bs. (so bs).ending) (sym none) ∙ e in cc
-ends_so {takes = takes} {r} {s} {text} answers p scans steady (events n clear (inr (ahead, sound))) taken (loads.well e _ received) =
+ends_so answers p scans steady (events n clear (inl none)) taken (EndsSo.well e _ received) = let no : Ending.unfinished ≡ Ending.well = ap (λ bs. (so bs).ending) (sym none) ∙ e in cc
+ends_so {takes = takes} {r} {s} {text} answers p scans steady (events n clear (inr (ahead, sound))) taken (EndsSo.well e _ received) =
     let all = well_all text answers p scans steady n ahead sound e in
     whole p.given (has_all_events text p scans all.is_whole) (subst (λ es. Receives takes r es s) all.pushed.0 received)
-ends_so answers p scans steady (faults f first rest are kept ahead why) taken (loads.well e clear received) = let no : None ≡ Some f = sym clear ∙ kept in cc
-ends_so answers p scans steady a taken (loads.faulted {f = f} e kept received) = let x = at_fault answers p scans steady a f e kept received in faulted x.events x.why.why x.why.after x.took
-ends_so {text = text} answers p scans steady a taken (loads.misplaced q e received) = absurd (never_misplaced text answers p scans steady a q e taken)
-ends_so answers p scans steady (events n clear (inl none)) taken (loads.refused {es = es} e q pushed _ received takes) = absurd (not_empty es (ap (λ bs. (so bs).pushed) (sym none) ∙ pushed))
-  where
-    not_empty : (xs : List (Ev × Position)) → [] ≡ xs ++ (e, q) ∷ [] → ⊥
-    not_empty [] h = cc
-    not_empty (x ∷ xs) h = cc
-ends_so {text = text} answers p scans steady (events n clear (inr (ahead, sound))) taken (loads.refused {es = es} e q pushed _ received takes) =
-    refused es e q (begins_text text answers p scans steady n ahead sound (es ++ (e, q) ∷ []) pushed) received takes
-ends_so answers p scans steady (faults f first rest are kept ahead why) taken (loads.refused e q pushed clear received takes) = let no : None ≡ Some f = sym clear ∙ kept in cc
+ends_so answers p scans steady (faults f first rest are kept ahead why) taken (EndsSo.well e clear received) = cc
+ends_so answers p scans steady a taken (EndsSo.faulted {f = f} e kept received) = let x = at_fault answers p scans steady a f e kept received in AnswersText.faulted x.events x.why.why x.why.after x.took
+ends_so {text = text} answers p scans steady a taken (EndsSo.misplaced q e received) = absurd (never_misplaced text answers p scans steady a q e taken)
+ends_so answers p scans steady (events n clear (inl none)) taken (EndsSo.refused {es = es} e q pushed _ received takes) =
+    absurd (omega (arith, ap length (ap (λ bs. (so bs).pushed) (sym none) ∙ pushed), length-append es ((e, q) ∷ [])))
+ends_so {text = text} answers p scans steady (events n clear (inr (ahead, sound))) taken (EndsSo.refused {es = es} e q pushed _ received takes) =
+    AnswersText.refused es e q (begins_text text answers p scans steady n ahead sound (es ++ (e, q) ∷ []) pushed) received takes
+ends_so answers p scans steady (faults f first rest are kept ahead why) taken (EndsSo.refused e q pushed clear received takes) = cc
 
 fault_ends : {R : Type 0} {takes : Takes R} {r s : R} {text : List ℕ} {f : ErrorReport} {new : Parsed} (answers : List (Answer ErrorReport)) (p : Parsed)
     → ScansIn text p.scanner → p.steady ≡ true → Answered answers p → (so answers).taken ≡ length answers → EndsSo takes r (so answers) p (Err f) new s → new.fault ≡ Some f → FaultTaken takes p.keep_tags text f r s
-fault_ends answers p scans steady a taken (loads.faulted {f = f} e kept received) h = at_fault answers p scans steady a f e kept received
-fault_ends {text = text} answers p scans steady a taken (loads.misplaced q e received) h = absurd (never_misplaced text answers p scans steady a q e taken)
-fault_ends {f = f} answers p scans steady a taken (loads.refused e q pushed clear received takes) h = let no : None ≡ Some f = sym clear ∙ h in cc
+fault_ends answers p scans steady a taken (EndsSo.faulted {f = f} e kept received) h = at_fault answers p scans steady a f e kept received
+fault_ends {text = text} answers p scans steady a taken (EndsSo.misplaced q e received) h = absurd (never_misplaced text answers p scans steady a q e taken)
+fault_ends {f = f} answers p scans steady a taken (EndsSo.refused e q pushed clear received takes) h = cc
 
-scanner_stays : {R : Type 0} {takes : Takes R} {r s : R} {l : run.Loaded ErrorReport} {p new : Parsed} {result : Result (Unit {0}) ErrorReport}
+scanner_stays : {R : Type 0} {takes : Takes R} {r s : R} {l : Loaded ErrorReport} {p new : Parsed} {result : Result (Unit {0}) ErrorReport}
     → EndsSo takes r l p result new s → new.scanner ≡ p.scanner
-scanner_stays (loads.misplaced q e received) = refl
+scanner_stays (EndsSo.misplaced q e received) = refl
 scanner_stays e = refl
 
 -- what holds after the answers of a load from the start on

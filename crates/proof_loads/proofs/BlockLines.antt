@@ -1,13 +1,9 @@
 -- The lines of a literal or folded block as the definitions of block scalars read them: their column, their rows and their value.
-use Rattle.proof_loads.proofs.TokensCommon.{[], and_false, and_parts, ap, append-nil, append_assoc, append_cancel_right, are_marks, AreFoldedLines, AreLines, AreLinesOf, AreLineTexts, arith, begins_as_marker, begins_with, BeginsWithText, blank, BlockStyle, body, Bool, breaks, Chomping, codes, collection_of, column_by, content_row, contents, deepest_start, digit_of, drop, empty_row, ends_with, EndsInText, false, feed, first_full_line_is_indented, full, further_text, has_content, Header, header_of, if◌then◌else◌, indented_lines, indicator_of, is_at_end, is_blank, is_blank_or_end, is_content_line, is_document_marker, is_empty, is_empty_line, is_further_text, is_in_line, is_line_character, is_line_feed, is_literal_character, is_literal_text, is_nul, is_outside, is_root_literal, is_spaces, IsLineText, leading_spaces, length, Line, lines_of, lines_of_ended, List, list_all, list_any, literal_header, map, max, nat_eq, nat_le, nat_tests, ne_eqb, None, not, not-true, onto_first_line, or_parts, read_body, refl, Row, row_of, rows_of, sign_of, Some, spaces, spell_line, spell_lines, starts_with_tab, suc, sym, text_after, text_of, texts, true, unbroken, value_before_end, value_before_text, zero, ℕ, ◌&&◌, ◌++◌, ◌+◌, ◌<◌, ◌==◌, ◌||◌, ◌∙◌, ◌∷◌, ◌≡◌, ◌≤◌, tab, ended}
+use Rattle.proof_loads.proofs.Common.{[], and_false, and_parts, ap, append-nil, append_assoc, append_cancel_right, are_marks, AreFoldedLines, AreLines, AreLinesOf, AreLineTexts, arith, begins_as_marker, BeginsWithText, blank, BlockStyle, Bool, breaks, Chomping, codes, collection_of, column_by, content_row, contents, deepest_start, digit_of, drop, empty_row, ends_with, EndsInText, false, feed, first_full_line_is_indented, full, has_content, Header, header_of, if◌then◌else◌, indented_lines, indicator_of, is_blank, is_blank_or_end, is_content_line, is_document_marker, is_empty, is_empty_line, is_in_line, is_line_character, is_line_feed, is_literal_character, is_literal_text, is_nul, is_outside, is_root_literal, is_spaces, IsLineText, leading_spaces, length, Line, lines_of, lines_of_ended, List, list_all, list_any, literal_header, map, max, nat_eq, nat_le, nat_tests, ne_eqb, None, not, not-true, onto_first_line, or_parts, refl, Row, row_of, rows_of, sign_of, Some, spaces, spell_line, spell_lines, starts_with_tab, suc, text_after, text_of, texts, true, value_before_end, value_before_text, zero, ℕ, ◌&&◌, ◌++◌, ◌+◌, ◌<◌, ◌==◌, ◌||◌, ◌∙◌, ◌∷◌, ◌≡◌, ◌≤◌, ended, is_break, BlockRead, All, All-nil, All-cons, All-head, All-tail, replicate}
 use Rattle.proof_lexers.proofs.Blocks.Written as written
-use Rattle.defs_text.specs.Classes as classes
-use Rattle.defs_token.specs.BlockPiece as cut
-use Rattle.proof_lexers.proofs.Blocks.Written.{spell}
 use Rattle.proof_loads.proofs.Nul.{HasNone, both, text_none, spaces_none}
 use Rattle.proof_lexers.proofs.Blocks.First.{least_is}
 use Rattle.defs_tree.specs.Literal as literal_defs
-use Rattle.defs_layout.specs.BlockLines.{content}
 
 -- ---- lines
 
@@ -20,8 +16,7 @@ lines_at column ls = map (line_of column) ls
 
 -- so many empty lines
 abbrev pub empties : ℕ → List Line
-empties zero = []
-empties (suc n) = blank 0 ∷ empties n
+empties n = replicate n (blank 0)
 
 pub texts_are : (column : ℕ) (ls : List Line) → texts (lines_at column ls) ≡ indented_lines column ls
 texts_are column [] = refl
@@ -37,7 +32,7 @@ line_more column l r = grind (arith, nat_tests, spaces_are, spaces, append-nil)
 -- each line, and then an LF
 pub spelt_feeds : (column : ℕ) (ls : List Line) (r : List ℕ) → spell_lines column ls (10 ∷ r) ≡ 10 ∷ written.spell (lines_at column ls) r
 spelt_feeds column [] r = refl
-spelt_feeds column (l ∷ ls) r = ap (λ x. 10 ∷ spell_line column l x) (spelt_feeds column ls r) ∙ ap (λ x. 10 ∷ x) (sym (line_more column l (10 ∷ written.spell (lines_at column ls) r)))
+spelt_feeds column (l ∷ ls) r = cc (spelt_feeds column ls r, line_more column l (10 ∷ written.spell (lines_at column ls) r))
 
 pub spelt_more : (column : ℕ) (ls ms : List Line) (r : List ℕ) → spell_lines column (ls ++ ms) r ≡ spell_lines column ls (spell_lines column ms r)
 spelt_more column [] ms r = refl
@@ -143,8 +138,7 @@ module _ (s : BlockStyle) where
 -- ---- the block
 
 abbrev pub header_line : (strips : Bool) → List ℕ
-header_line true = 45 ∷ []
-header_line false = []
+header_line strips = if strips then 45 ∷ [] else []
 
 abbrev pub block_text : BlockStyle → (strips : Bool) → List ℕ → List ℕ
 block_text s strips a = indicator_of s ∷ (header_line strips ++ a)
@@ -154,7 +148,7 @@ unfolding sign_of digit_of
 header_is a b = grind arith
 
 pub header_inner : (s : BlockStyle) (strips : Bool) → is_in_line (indicator_of s ∷ header_line strips) ≡ true
-unfolding classes.is_break
+unfolding is_break
 header_inner a b = grind arith
 
 -- The column of the lines is deeper than the collection's, and 0 at the root.
@@ -168,16 +162,12 @@ pub record IsBlockLine (column : ℕ) (l : Line) : Type 0 where
   pub inner : is_in_line (spell_line column l []) ≡ true
   pub none : HasNone (spell_line column l [])
 
-abbrev pub AreEach : (column : ℕ) → List Line → Type 0
-AreEach column [] = Unit {0}
-AreEach column (l ∷ ls) = IsBlockLine column l × AreEach column ls
-
 -- The lines of a block of this style, whose value is the text.
 pub record AreBlockLines (s : BlockStyle) (column : ℕ) (strips : Bool) (text : List ℕ) (ls : List Line) : Type 0 where
   pub begins : BeginsWithText ls
   pub ends : EndsInText ls
   pub lines : AreLines column ls
-  pub each : AreEach column ls
+  pub each : All (IsBlockLine column) ls
   pub tabless : starts_with_tab (indented_lines column ls) ≡ false
   pub value : value_before_text (header_by s strips) (map row_by ls) ≡ text
 
@@ -196,91 +186,64 @@ high i column h = grind (arith, nat_tests)
 pub in_column_with : (i column : ℕ) (ls : List Line) (more : List (List ℕ)) → IsInside i column → BeginsWithText ls → AreLines column ls → column_by None (collection_of i) (indented_lines column ls ++ more) ≡ column
 in_column_with i column ls more inside begins are = let e = deepest column ls more begins are in let f = least_is i in let g = high i column inside in omega (arith, e, f, g)
 
--- a character that begins a text after spaces
-abbrev pub is_further : ℕ → Bool
-is_further c = not ((c == 0) || (c == 9) || (c == 10) || (c == 13) || (c == 32))
-
 -- ---- texts
 
-pub spaces_tab : (n c : ℕ) (a : List ℕ) → is_further c ≡ true → begins_with tab (spaces n (c ∷ a)) ≡ false
-spaces_tab n c a h = grind (arith, nat_tests)
-
-pub not_at_end : (n : ℕ) (c : ℕ) (a : List ℕ) → is_further c ≡ true → is_at_end (spaces n (c ∷ a)) ≡ false
-unfolding classes.is_nul
-not_at_end n c a h = grind (arith, nat_tests)
-
-pub outside : (column n : ℕ) (c : ℕ) (a : List ℕ) → n < column → is_further c ≡ true → is_outside column (spaces n (c ∷ a)) ≡ true
-unfolding classes.is_break classes.is_nul
-outside zero n c a low h = absurd (omega (arith, low))
-outside (suc column) zero c a low h = grind (arith, nat_tests)
-outside (suc column) (suc n) c a low h = outside column n c a (omega (arith, low)) h
+pub outside : (column n c : ℕ) (a : List ℕ) → n < column
+    → is_blank c ≡ false → is_break c ≡ false → is_nul c ≡ false → is_outside column (spaces n (c ∷ a)) ≡ true
+unfolding is_blank is_break is_nul
+outside zero n c a low not_blank not_break not_nul = absurd (omega (arith, low))
+outside (suc column) zero c a low not_blank not_break not_nul = grind (arith, nat_tests)
+outside (suc column) (suc n) c a low not_blank not_break not_nul = outside column n c a (omega (arith, low)) not_blank not_break not_nul
 
 -- ---- lines
 
 pub inner_line : (w : List ℕ) → IsLineText w → is_in_line (w ++ []) ≡ true
-unfolding classes.is_break is_line_character
+unfolding is_break is_line_character
 inner_line [] h = refl
 inner_line (c ∷ w) h = grind (arith, nat_tests, and_parts, inner_line w)
 
 pub inner_spaces : (n : ℕ) (w : List ℕ) → is_in_line w ≡ true → is_in_line (spaces n w) ≡ true
-unfolding classes.is_break
+unfolding is_break
 inner_spaces zero w h = h
 inner_spaces (suc n) w h = inner_spaces n w h
 
 no_marker : (w : List ℕ) → IsLineText w → begins_as_marker w ≡ false → is_document_marker (w ++ []) ≡ false
-unfolding are_marks is_line_character is_blank_or_end is_blank classes.is_break is_nul
+unfolding are_marks is_line_character is_blank_or_end is_blank is_break is_nul
 no_marker w h e = grind (arith, nat_tests, and_parts, is_line_character, list_all)
 
-a_blank : (column n : ℕ) → n ≤ column → IsBlockLine column (blank n)
+pub a_blank : (column n : ℕ) → n ≤ column → IsBlockLine column (blank n)
 a_blank column n low = record { row = row_spaces column n low; inner = inner_spaces n [] refl; none = spaces_none n [] refl }
 
-pub each_line : (column : ℕ) (ls : List Line) → AreLines column ls → AreLineTexts ls → AreFree column ls → AreEach column ls
-each_line column [] are texts free = tt
+pub each_line : (column : ℕ) (ls : List Line) → AreLines column ls → AreLineTexts ls → AreFree column ls → All (IsBlockLine column) ls
+each_line column [] are texts free = All-nil (IsBlockLine column)
 each_line column (full [] ∷ ls) are texts free = absurd (are.0 refl)
 each_line column (full (c ∷ w) ∷ ls) are texts free =
-    let w' = c ∷ w in (
-      record {
-        row = text_row column c w (λ e. no_marker w' texts.0 (or_parts (begins_as_marker w') (list_any begins_as_marker (contents ls)) (free e)).0);
-        inner = inner_spaces column (w' ++ []) (inner_line w' texts.0);
-        none = spaces_none column (w' ++ []) (both w' [] (text_none w' texts.0) refl);
-      },
-      each_line column ls are.1 texts.1 (λ e. (or_parts (begins_as_marker w') (list_any begins_as_marker (contents ls)) (free e)).1),
-    )
-each_line column (blank n ∷ ls) are texts free = (a_blank column n are.0, each_line column ls are.1 texts free)
-
--- with empty lines after them
-pub each_more : (column : ℕ) (ls : List Line) (n : ℕ) → AreEach column ls → AreEach column (ls ++ empties n)
-each_more column [] zero h = tt
-each_more column [] (suc n) h = (a_blank column 0 (omega arith), each_more column [] n h)
-each_more column (l ∷ ls) n h = (h.0, each_more column ls n h.1)
-
-pub each_split : (column : ℕ) (ls : List Line) (l : Line) → AreEach column (ls ++ l ∷ []) → AreEach column ls × IsBlockLine column l
-each_split column [] l h = (tt, h.0)
-each_split column (m ∷ ls) l h = let q = each_split column ls l h.1 in ((h.0, q.0), q.1)
+    let w' = c ∷ w in
+    let unmarked = λ (e : column ≡ 0). or_parts (begins_as_marker w') (list_any begins_as_marker (contents ls)) (free e) in
+    let first : IsBlockLine column (full w') = record {
+      row = text_row column c w (λ e. no_marker w' texts.0 (unmarked e).0);
+      inner = inner_spaces column (w' ++ []) (inner_line w' texts.0);
+      none = spaces_none column (w' ++ []) (both w' [] (text_none w' texts.0) refl);
+    } in
+    All-cons (IsBlockLine column) (full w') ls first (each_line column ls are.1 texts.1 (λ e. (unmarked e).1))
+each_line column (blank n ∷ ls) are texts free =
+    All-cons (IsBlockLine column) (blank n) ls (a_blank column n are.0) (each_line column ls are.1 texts free)
 
 -- such lines before a last one: their rows, as lines, and that they have no NUL
-pub are_each : (column : ℕ) (ls : List Line) (e : List ℕ) → AreEach column ls → HasNone e
+pub are_each : (column : ℕ) (ls : List Line) (e : List ℕ) → All (IsBlockLine column) ls → HasNone e
     → (rows_of column (texts (lines_at column ls)) ≡ Some (map row_by ls)) × written.AreLines (lines_at column ls) e
-    × HasNone (spell (lines_at column ls) e)
+    × HasNone (written.spell (lines_at column ls) e)
 are_each column [] e h none = (refl, tt, none)
 are_each column (l ∷ ls) e h none =
-    let z = are_each column ls e h.1 none in
-    (rw (h.0.row, z.0) refl, (h.0.inner, tt, z.1), both (spell_line column l []) _ h.0.none z.2)
+    let first = All-head (IsBlockLine column) l ls h in
+    let z = are_each column ls e (All-tail (IsBlockLine column) l ls h) none in
+    (rw (first.row, z.0) refl, (first.inner, tt, z.1), both (spell_line column l []) _ first.none z.2)
 
 pub header_none : (s : BlockStyle) (strips : Bool) (a : List ℕ) → HasNone a → HasNone (block_text s strips (10 ∷ a))
 header_none s strips a n = grind arith
 
-module _ (s : BlockStyle) (i column : ℕ) (strips : Bool) where
-  abbrev pub is_block : List ℕ → cut.BlockRead
-  is_block text = record { style = s; column = column; text = text }
-
-  pub text_body : (ts : List (List ℕ)) (after : List ℕ) (rs : List Row) → column_by None (collection_of i) ts ≡ column → is_at_end after ≡ false → is_further_text column after ≡ true → starts_with_tab ts ≡ false → rows_of column ts ≡ Some rs
-      → read_body (header_of (indicator_of s ∷ header_line strips)) (collection_of i) (body ts further_text) after ≡ Some (is_block (value_before_text (header_by s strips) rs))
-  text_body ts after rs col some left tabless rows = rw (header_is s strips, col, some, left, tabless, rows) refl
-
-  pub end_body : (ts : List (List ℕ)) (l : List ℕ) (rs : List Row) (r : Row) → column_by None (collection_of i) (ts ++ l ∷ []) ≡ column → starts_with_tab (ts ++ l ∷ []) ≡ false → rows_of column ts ≡ Some rs → row_of column l ≡ Some r
-      → read_body (header_of (indicator_of s ∷ header_line strips)) (collection_of i) (body ts (unbroken l)) [] ≡ Some (is_block (value_before_end (header_by s strips) column rs l r))
-  end_body ts l rs r col tabless rows last = rw (header_is s strips, col, tabless, rows, last) refl
+abbrev pub is_block : BlockStyle → (column : ℕ) → List ℕ → BlockRead
+is_block s column text = record { style = s; column = column; text = text }
 
 -- ---- folded blocks
 
@@ -290,14 +253,9 @@ folded_lines c column strips text ls deep h =
     let each = each_line column ls h.3 h.2 (λ e. absurd (omega (arith, deep, e))) in
     let rows : rows_of column (indented_lines column ls) ≡ Some (map row_by ls) = rw (← texts_are column ls) (are_each column ls [] each refl).0 in
     let col : column_by None (Some c) (indented_lines column ls) ≡ column = rw (← append-nil (indented_lines column ls)) (in_column_with (suc c) column ls [] deep h.0 h.3) in
-    let tabless = no_tab column ls deep h.3 in
+    let tabless : starts_with_tab (indented_lines column ls) ≡ false = grind (arith, nat_tests) in
     let value : Some (value_before_text (header_by BlockStyle.folded strips) (map row_by ls)) ≡ Some text = rw (tabless, col, rows) at h.4 in
     record { begins = h.0; ends = h.1; lines = h.3; each = each; tabless = tabless; value = cc }
-  where
-    no_tab : (column : ℕ) (ls : List Line) → c < column → AreLines column ls → starts_with_tab (indented_lines column ls) ≡ false
-    no_tab zero ls low are = absurd (omega (arith, low))
-    no_tab (suc n) (blank zero ∷ ls) low are = refl
-    no_tab (suc n) ls low are = refl
 
 -- ---- characters
 
@@ -347,52 +305,40 @@ pub content_last : (ls : List Line) → EndsInText ls → has_content (rows ls) 
 content_last [] h = absurd h
 content_last (l ∷ ls) h = grind (arith, content_last ls)
 
--- the text after a first line
-abbrev after : List Line → List ℕ
-after [] = []
-after (l ∷ ls) = 10 ∷ (content l ++ after ls)
-
 one_break : (k : ℕ) (r : List ℕ) → breaks (suc k) ++ r ≡ breaks k ++ 10 ∷ r
 one_break zero r = refl
 one_break (suc k) r = ap (λ x. 10 ∷ x) (one_break k r)
 
-text_from : (w : List ℕ) (k : ℕ) (ls : List Line) → EndsInText ls → text_after BlockStyle.literal w k (rows ls) ≡ breaks k ++ after ls
+-- the text after a line and so many empty ones, before an LF
+text_from : (w : List ℕ) (k : ℕ) (ls : List Line) → EndsInText ls
+    → text_after BlockStyle.literal w k (rows ls) ++ 10 ∷ [] ≡ breaks (suc k) ++ ended (contents ls)
 text_from w k [] h = absurd h
-text_from w k (full v ∷ ls) h = grind (arith, append_assoc, append-nil, one_break, text_from v 0 ls)
+text_from w k (full v ∷ ls) h = grind (arith, append_assoc, append-nil, text_from v 0 ls)
 text_from w k (blank n ∷ ls) h = grind (arith, one_break, text_from w (suc k) ls)
 
-text_is : (l : Line) (ls : List Line) → EndsInText (l ∷ ls) → text_of BlockStyle.literal (rows (l ∷ ls)) ≡ content l ++ after ls
-text_is l [] h = grind arith
-text_is l (m ∷ ls) h = grind (arith, text_from, text_is m ls)
-
--- ---- the lines make the text
-
-lines_make : (l : Line) (ls : List Line) → (content l ++ after ls) ++ 10 ∷ [] ≡ ended (contents (l ∷ ls))
-lines_make l [] = grind (arith, append-nil)
-lines_make l (m ∷ ls) = grind (arith, append_assoc, lines_make m ls)
+-- the lines make the text, before an LF
+text_is : (ls : List Line) → EndsInText ls → text_of BlockStyle.literal (rows ls) ++ 10 ∷ [] ≡ ended (contents ls)
+text_is [] h = absurd h
+text_is (l ∷ ls) h = grind (arith, append_assoc, append-nil, text_from, text_is ls)
 
 -- whether a text lacks an LF at its end
 abbrev pub strips_of : List ℕ → Bool
 strips_of text = not (ends_with nat_eq text (codes "\n"))
 
--- the last LF of a text that ends so
-abbrev last_feed : Bool → List ℕ
-last_feed clips = if clips then 10 ∷ [] else []
+abbrev lacking : Bool → List ℕ
+lacking strips = if strips then 10 ∷ [] else []
 
-make_text : (clips : Bool) (l : Line) (ls : List Line) (text : List ℕ) → contents (l ∷ ls) ≡ lines_of text → is_empty text ≡ false → ends_with nat_eq text (codes "\n") ≡ clips → (content l ++ after ls) ++ last_feed clips ≡ text
-make_text true l ls text e some h = lines_make l ls ∙ ap ended e ∙ lines_of_ended text ∙ rw (some, h) refl
-make_text false l ls text e some h = append-nil (content l ++ after ls) ∙ append_cancel_right (content l ++ after ls) text (10 ∷ []) (lines_make l ls ∙ ap ended e ∙ lines_of_ended text ∙ rw (some, h) refl)
-
-value_is : (clips : Bool) (l : Line) (ls : List Line) → EndsInText (l ∷ ls) → value_before_text (header_by BlockStyle.literal (not clips)) (rows (l ∷ ls)) ≡ (content l ++ after ls) ++ last_feed clips
-value_is clips l ls h = grind (arith, nat_tests, content_last, text_is)
+value_is : (strips : Bool) (text : List ℕ) (ls : List Line) → EndsInText ls → ended (contents ls) ≡ text ++ lacking strips → value_before_text (header_by BlockStyle.literal strips) (rows ls) ≡ text
+value_is true text ls h whole = rw (content_last ls h) (append-nil _ ∙ append_cancel_right _ text (10 ∷ []) (text_is ls h ∙ whole))
+value_is false text ls h whole = rw (content_last ls h) (text_is ls h ∙ whole ∙ append-nil text)
 
 -- no TAB begins the first line
-no_tab : (column : ℕ) (l : Line) (ls : List Line) (last text : List ℕ) → AreLines column (l ∷ ls) → (content l ++ after ls) ++ last ≡ text → (column ≡ 0 → literal_defs.starts_with_tab text ≡ false)
-    → starts_with_tab (indented_lines column (l ∷ ls)) ≡ false
-no_tab zero (full []) ls last text are whole free = absurd (are.0 refl)
-no_tab zero (full (c ∷ w)) ls last text are whole free = let e : literal_defs.starts_with_tab ((c ∷ (w ++ after ls)) ++ last) ≡ false = rw (← whole) at (free refl) in grind (arith, nat_tests)
-no_tab column (blank zero) ls last text are whole free = refl
-no_tab column l ls last text are whole free = refl
+no_tab : (column : ℕ) (ls : List Line) (text last : List ℕ) → AreLines column ls → ended (contents ls) ≡ text ++ last → is_empty text ≡ false → (column ≡ 0 → literal_defs.starts_with_tab text ≡ false)
+    → starts_with_tab (indented_lines column ls) ≡ false
+no_tab zero (full [] ∷ ls) text last are whole some free = absurd (are.0 refl)
+no_tab zero (full (c ∷ w) ∷ ls) text last are whole some free = let e = free refl in grind (arith, nat_tests)
+no_tab column (blank zero ∷ ls) text last are whole some free = refl
+no_tab column ls text last are whole some free = refl
 
 -- ---- the block
 
@@ -412,22 +358,17 @@ abbrev MayStandAt : ℕ → List ℕ → Type 0
 MayStandAt column text = column ≡ 0 → (literal_defs.starts_with_tab text ≡ false) × (list_any begins_as_marker (lines_of text) ≡ false)
 
 lines_by : (column : ℕ) (text : List ℕ) (ls : List Line) → LiteralText text → AreLinesOf text column ls → MayStandAt column text → AreBlockLines BlockStyle.literal column (strips_of text) text ls
-lines_by column text ls z are may = by ls are.0 are.1 (ends_lines ls (ap ends_full are.0 ∙ z.last))
-  where
-    by : (ls : List Line) → contents ls ≡ lines_of text → AreLines column ls → EndsInText ls → AreBlockLines BlockStyle.literal column (strips_of text) text ls
-    by [] e g h = absurd h
-    by (l ∷ ls) e g h =
-        let clips = ends_with nat_eq text (codes "\n") in
-        let texts = line_texts (l ∷ ls) (ap are_line_texts e ∙ text_lines text z.chars) in
-        let whole = make_text clips l ls text e z.some refl in
-        record {
-          begins = begins_lines column (l ∷ ls) g h (ap first_full_line_is_indented e ∙ z.first);
-          ends = h;
-          lines = g;
-          each = each_line column (l ∷ ls) g texts (λ x. ap (list_any begins_as_marker) e ∙ (may x).1);
-          tabless = no_tab column l ls (last_feed clips) text g whole (λ x. (may x).0);
-          value = value_is clips l ls h ∙ whole;
-        }
+lines_by column text ls z are may =
+    let h = ends_lines ls (ap ends_full are.0 ∙ z.last) in
+    let whole : ended (contents ls) ≡ text ++ lacking (strips_of text) = ap ended are.0 ∙ lines_of_ended text ∙ rw (z.some) (grind (arith, append-nil)) in
+    record {
+      begins = begins_lines column ls are.1 h (ap first_full_line_is_indented are.0 ∙ z.first);
+      ends = h;
+      lines = are.1;
+      each = each_line column ls are.1 (line_texts ls (ap are_line_texts are.0 ∙ text_lines text z.chars)) (λ x. ap (list_any begins_as_marker) are.0 ∙ (may x).1);
+      tabless = no_tab column ls text (lacking (strips_of text)) are.1 whole z.some (λ x. (may x).0);
+      value = value_is (strips_of text) text ls h whole;
+    }
 
 -- below a collection at a column
 pub literal_lines : (c column : ℕ) (text : List ℕ) (ls : List Line) → c < column → is_literal_text text ≡ true → AreLinesOf text column ls → AreBlockLines BlockStyle.literal column (strips_of text) text ls

@@ -1,13 +1,12 @@
 -- The documents of a text are valid trees, so those that can be written come back.
-use Rattle.proof_loads.proofs.Common.{[], All, at_work, documents_of, Ev, List, Loader, map, nested_stream, NestedDocument, new_loader, Ok, one_by_one, Position, ReadDocumentsComeBack, reading, somewhere, subst, Tree, with_events, with_somewhere, ◌≡◌}
+use Rattle.proof_loads.proofs.Common.{[], All, documents_of, Ev, List, Loader, map, nested_stream, NestedDocument, new_loader, Ok, one_by_one, Position, ReadDocumentsComeBack, reading, somewhere, subst, Tree, with_events, with_somewhere, ◌≡◌, arith}
 use Rattle.defs_tree.specs.Valid.{IsDistinct, FitsI64}
 use Rattle.defs_event.specs.Laws.{HasRead}
 use Rattle.defs_event.proofs.Kept.{loaded_kept, distinct_kept, fits_kept}
 use Rattle.proof_loads.proofs.Dumps.{dumps_are_read}
 
 documents_read : (trees : List Tree) (l : Loader) → HasRead (Ok trees) l → documents_of l ≡ trees
-documents_read trees (at_work u) h = h.0
-documents_read trees l h = absurd h
+documents_read trees l h = grind arith
 
 -- what every loaded tree has, all documents of the reading have
 kept_by_reading : (P : Tree → Type 0) (ds : List NestedDocument) (trees : List Tree) → reading ds ≡ Ok trees

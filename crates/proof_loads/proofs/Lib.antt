@@ -26,6 +26,6 @@ pub mod HasRows
 pub mod Settled
 pub mod Spelled
 pub mod StreamEnds
+mod Tests
 pub mod Texts
-mod TokensCommon
 pub mod TokensInTurn

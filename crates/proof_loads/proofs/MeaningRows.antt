@@ -1,13 +1,12 @@
 -- What short texts mean, by the definitions alone: from characters to trees, by computing.
-use Rattle.proof_loads.proofs.Common.{[], array, codes, hash, items_of, List, Means, Nest, nest, nest_pair, nested_mapping, nested_scalar, nested_sequence, no_nest_pairs, no_nests, None, pairs_of, refl, stream_by, string, Style, true, with_node, ℕ, ◌∷◌}
-use Rattle.defs_tree.specs.Typing.{typing, is_decimal}
+use Rattle.proof_loads.proofs.Common.{[], codes, hash, items_of, List, Means, Nest, nest, nest_pair, nested_mapping, nested_scalar, nested_sequence, no_nest_pairs, no_nests, None, pairs_of, refl, stream_by, Tree, Style, true, with_node, ℕ, ◌∷◌, typing, is_decimal}
 use Rattle.defs_token.proofs.Rows.{one_pair, at_key_column}
 
 abbrev leaf : List ℕ → Nest
 leaf text = nested_scalar text Style.plain 0 None
 
 -- a mapping of one pair
-pair_means : Means true (codes "a: b\n") (hash (pairs_of ((string (codes "a"), string (codes "b")) ∷ [])) ∷ [])
+pair_means : Means true (codes "a: b\n") (hash (pairs_of ((Tree.string (codes "a"), Tree.string (codes "b")) ∷ [])) ∷ [])
 unfolding typing is_decimal
 pair_means = record {
   tokens = _;
@@ -21,7 +20,7 @@ pair_means = record {
 
 -- a sequence at the column of its key
 sequence_means : Means true (codes "a:\n- b\nc: d\n")
-    (hash (pairs_of ((string (codes "a"), array (items_of (string (codes "b") ∷ []))) ∷ (string (codes "c"), string (codes "d")) ∷ [])) ∷ [])
+    (hash (pairs_of ((Tree.string (codes "a"), Tree.array (items_of (Tree.string (codes "b") ∷ []))) ∷ (Tree.string (codes "c"), Tree.string (codes "d")) ∷ [])) ∷ [])
 unfolding typing is_decimal
 sequence_means = record {
   tokens = _;

@@ -1,6 +1,5 @@
 -- Texts without NUL.
-use Rattle.proof_loads.proofs.TokensCommon.{[], and_parts, ap, body_value, Bool, false, is_line_character, is_nul, IsLineText, List, list_all, ne_eqb, not-true, parts, quote_of, Quotes, refl, Some, spaces, suc, true, up_to_nul, zero, ℕ, ◌++◌, ◌==◌, ◌∷◌, ◌≡◌, list_all-append}
-use Rattle.defs_layout.specs.QuotedText as laid
+use Rattle.proof_loads.proofs.Common.{[], and_parts, ap, body_value, Bool, false, is_line_character, is_nul, IsLineText, List, list_all, ne_eqb, not-true, parts, quote_of, Quotes, refl, Some, spaces, suc, true, up_to_nul, zero, ℕ, ◌++◌, ◌==◌, ◌∷◌, ◌≡◌, list_all-append}
 use Rattle.proof_lexers.specs.QuotedScan.{is_some}
 use Rattle.proof_lexers.proofs.Quoted.NoNul.{has_none}
 
@@ -31,5 +30,5 @@ spaces_none (suc n) a h = spaces_none n a h
 
 -- a body in quotes that has a value
 pub quoted_none : (quotes : Quotes) (body value : List ℕ) → body_value quotes body ≡ Some value → HasNone (quote_of quotes ∷ (body ++ quote_of quotes ∷ []))
-quoted_none laid.single body value h = let z = parts true body value h in both body (39 ∷ []) (has_none true 0 body z.all z.are) refl
-quoted_none laid.double body value h = let z = parts false body value h in both body (34 ∷ []) (has_none false 0 body z.all z.are) refl
+quoted_none Quotes.single body value h = let z = parts true body value h in both body (39 ∷ []) (has_none true 0 body z.all z.are) refl
+quoted_none Quotes.double body value h = let z = parts false body value h in both body (34 ∷ []) (has_none false 0 body z.all z.are) refl

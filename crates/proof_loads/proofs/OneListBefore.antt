@@ -1,22 +1,17 @@
 -- Tokens that are settled stay; a text has one fault, and the events before it are one list.
-use Rattle.proof_loads.proofs.Common.{[], AgreeAt, ap, append-nil, append_assoc, AreBehind, AreFirst, AreSettled, arith, BeginsPlaced, BeginsWith, Blames, Bool, both_ways, ComesAfter, EndsInAnchor, Err, ErrorReport, Ev, events_of, false, Fault, fetch, fits, HasPlacedTo, here, inl, inr, is_of_names, IsFaultOf, IsReached, IsRefusal, IsStream, Key, length, length-append, List, map-append, named, no_names, no_stream, no_token, NoneBegins, one_run, OneListOfEventsBefore, OneListOfPulledEventsBefore, OneListOfPushedEventsBefore, Option, Position, Problem, problem_of, Raw, Reaches, read, refl, ScannerState, SettledTokensStay, StandsAt, start, stood, stream_by, subst, sym, there, to_next, Tok, Token, toks, true, wants_memory, ℕ, ◌++◌, ◌+◌, ◌∙◌, ◌∷◌, ◌≡◌, ◌⊎◌, list_any}
-use Rattle.std.proofs.lemmas.List.{same_from_push}
+use Rattle.proof_loads.proofs.Common.{[], AgreeAt, ap, append-nil, append_assoc, AreBehind, AreFirst, AreSettled, arith, BeginsPlaced, BeginsWith, Blames, Bool, both_ways, ComesAfter, Err, ErrorReport, Ev, events_of, false, Fault, fetch, fits, HasPlacedTo, here, inl, inr, is_of_names, IsFaultOf, IsReached, IsRefusal, IsStream, Key, length, length-append, List, map-append, named, no_names, no_stream, no_token, NoneBegins, one_run, OneListOfEventsBefore, OneListOfPushedEventsBefore, Option, Position, Problem, Raw, Reaches, refl, ScannerState, StandsAt, start, stood, stream_by, subst, sym, there, to_next, Tok, Token, toks, true, wants_memory, ℕ, ◌++◌, ◌+◌, ◌∙◌, ◌∷◌, ◌≡◌, ◌⊎◌, list_any, same_from_push, one_fault}
 use Rattle.model_scanner.proofs.Given.{KeysFrom, reached}
 use Rattle.yaml_scanner.specs.Waits.{comes_before}
 use Rattle.yaml_tokens.specs.Problem.{fault_of}
-use Rattle.yaml_tokens.specs.declared.problem.Fault.TheVariants.{At}
-use Rattle.yaml_tokens.specs.declared.problem.Problem.TheVariants as problem
 use Rattle.model_parser.specs.declared.kind.Kind.{Kind}
-use Rattle.model_parser.specs.declared.kind.Kind.TheVariants as kind
 use Rattle.model_parser.specs.Kinds.{kind_of}
-use Rattle.model_scanner.proofs.Runs as runs
 use Rattle.model_parser.proofs.OnePlacing.{AreSame, one_stream, same_events, one_list_so_far}
 use Rattle.model_scanner.specs.Document.{fetch_stream_start}
 use Rattle.yaml_parser.specs.Apart.{StandsBefore}
 use Rattle.yaml_parser.proofs.Holding.{many}
 use Rattle.yaml_parser.proofs.Positions.{stood_raws, stood_positions}
 use Rattle.proof_loads.proofs.Texts.{same_beginning}
-use Rattle.proof_loads.proofs.Answers.{FaultAfter, fault_after, fault_taken, placed_stream, Takes}
+use Rattle.proof_loads.proofs.Answers.{FaultAfter, fault_taken, placed_stream, Takes}
 
 keys_from : (n : ℕ) (ks : List (Option Key)) → AreBehind n ks → KeysFrom n ks
 keys_from n [] b = tt
@@ -33,28 +28,25 @@ stays given t u (there going e run) b k =
     let s = reached given t u (there going e run) (record { stood = record { more = b.more; tokens = b.whole; keys = keys_from (length given) t.held.keys (k going) } }) in
     record { begins = record { more = s.stood.more; whole = s.stood.tokens }; keys = λ _. s.stood.keys }
 
-pub settled_stay : SettledTokensStay
-settled_stay text given r later run = (stays given r.last later run r.begins r.behind).begins
+-- ---- beginnings of lists
 
--- ---- of two lists that begin a third, one begins the other
+pub one_begins : (xs ys us vs : List Token) → xs ++ us ≡ ys ++ vs → BeginsWith xs ys ⊎ BeginsWith ys xs
+one_begins [] ys us vs e = inl (record { more = ys; whole = refl })
+one_begins (x ∷ xs) [] us vs e = inr (record { more = x ∷ xs; whole = refl })
+one_begins (x ∷ xs) (y ∷ ys) us vs e = elim (one_begins xs ys us vs cc) [
+  | inl d ↦ inl (record { more = d.more; whole = cc (d.whole) })
+  | inr d ↦ inr (record { more = d.more; whole = cc (d.whole) })
+]
 
-pub one_begins : (xs ys zs : List Token) → BeginsWith xs zs → BeginsWith ys zs → BeginsWith xs ys ⊎ BeginsWith ys xs
-one_begins [] ys zs b c = inl (record { more = ys; whole = refl })
-one_begins (x ∷ xs) [] zs b c = inr (record { more = x ∷ xs; whole = refl })
-one_begins (x ∷ xs) (y ∷ ys) zs b c =
-    let e : x ∷ (xs ++ b.more) ≡ y ∷ (ys ++ c.more) = sym b.whole ∙ c.whole in
-    let first : x ≡ y = cc in
-    let rest : xs ++ b.more ≡ ys ++ c.more = cc in
-    elim (one_begins xs ys (xs ++ b.more) (record { more = b.more; whole = refl }) (record { more = c.more; whole = rest })) [
-      | inl d ↦ inl (record { more = d.more; whole = cc (d.whole) })
-      | inr d ↦ inr (record { more = d.more; whole = cc (d.whole) })
-    ]
+-- of two lists that begin a third, one begins the other
+of_one : {xs ys zs : List Token} → BeginsWith xs zs → BeginsWith ys zs → BeginsWith xs ys ⊎ BeginsWith ys xs
+of_one {xs} {ys} b c = one_begins xs ys b.more c.more (sym b.whole ∙ c.whole)
 
 -- Settled tokens of one text, at any two points: one list begins the other.
 pub settled_agree : (text : List ℕ) (xs ys : List Token) → IsReached text xs → IsReached text ys → BeginsWith xs ys ⊎ BeginsWith ys xs
 settled_agree text xs ys r s = elim (one_run r.run s.run) [
-  | inl run ↦ one_begins xs ys s.last.held.tokens (stays xs r.last s.last run r.begins r.behind).begins s.begins
-  | inr run ↦ one_begins xs ys r.last.held.tokens r.begins (stays ys s.last r.last run s.begins s.behind).begins
+  | inl run ↦ of_one (stays xs r.last s.last run r.begins r.behind).begins s.begins
+  | inr run ↦ of_one r.begins (stays ys s.last r.last run s.begins s.behind).begins
 ]
 
 -- ---- where a text is refused
@@ -69,14 +61,11 @@ none_comes n m (x ∷ ks) k = grind (arith, none_comes n m ks)
 
 -- All settled tokens begin with those that are settled anywhere.
 pub settled_first : (text : List ℕ) (all given : List Token) → AreSettled text all → IsReached text given → BeginsWith given all
-settled_first text all given s r = elim (one_begins given all last.held.tokens there_too.begins s.begins) [ inl b ↦ b | inr b ↦ no_more b.more b.whole ]
+settled_first text all given s r = elim (of_one there_too.begins s.begins) [ inl b ↦ b | inr b ↦ no_more b.more b.whole ]
   where
-    last : ScannerState
-    last = s.refused.last
-
-    there_too : Stays given last
+    there_too : Stays given s.refused.last
     there_too = elim (one_run r.run s.refused.run) [
-      | inl run ↦ stays given r.last last run r.begins r.behind
+      | inl run ↦ stays given r.last _ run r.begins r.behind
       | inr run ↦ subst (Stays given) (stops run s.refused.refused) (record { begins = r.begins; keys = λ going. keys_from (length given) r.last.held.keys (r.behind going) })
     ]
 
@@ -84,29 +73,28 @@ settled_first text all given s r = elim (one_begins given all last.held.tokens t
     no_more [] e = record { more = []; whole = sym (append-nil given ∙ e ∙ append-nil all) }
     no_more (t ∷ more) e =
         let count : length given ≡ length all + 1 + length more = ap length e ∙ length-append all (t ∷ more) ∙ omega arith in
-        let keys : KeysFrom (length all + 1 + length more) last.held.keys = subst (λ n. KeysFrom n last.held.keys) count (there_too.keys s.refused.going) in
-        let whole : last.held.tokens ≡ all = s.all (none_comes (length all) (length more) last.held.keys keys) in
+        let keys : KeysFrom (length all + 1 + length more) s.refused.last.held.keys = subst (λ n. KeysFrom n s.refused.last.held.keys) count (there_too.keys s.refused.going) in
+        let whole : s.refused.last.held.tokens ≡ all = s.all (none_comes (length all) (length more) s.refused.last.held.keys keys) in
         let b = there_too.begins in
-        let too_long : length all ≡ length given + length b.more = ap length (sym whole ∙ b.whole) ∙ length-append given b.more in
-        absurd (omega (arith, count, too_long))
+        absurd (omega (arith, count, ap length whole, ap length b.whole, length-append given b.more))
 
 -- ---- of the scanner
 
 pub one_refusal : (text : List ℕ) (f g : ErrorReport) → IsRefusal text f → IsRefusal text g → f.memory ≡ false → f ≡ g
 one_refusal text f g r s m =
-    let same : r.fault ≡ s.fault = runs.one_fault text r.fault s.fault r.refused s.refused in
+    let same : r.fault ≡ s.fault = one_fault text r.fault s.fault r.refused s.refused in
     let none : (fault_of r.fault r.position).memory ≡ false = ap (λ x. x.memory) (sym r.shown) ∙ m in
     let placed : fault_of r.fault r.position ≡ fault_of r.fault s.position = grind (arith, none) in
-    r.shown ∙ placed ∙ ap (λ e. fault_of e s.position) same ∙ sym s.shown
+    cc
 
 -- ---- of the parser
 
 -- the kind of a token says which problem of names it may have
 abbrev name_problem : Kind → Problem
-name_problem kind.VersionDirective = problem.SecondVersion
-name_problem kind.TagDirective = problem.RepeatedHandle
-name_problem kind.Alias = problem.UnknownAnchor
-name_problem _ = problem.UndeclaredHandle
+name_problem Kind.VersionDirective = Problem.SecondVersion
+name_problem Kind.TagDirective = Problem.RepeatedHandle
+name_problem Kind.Alias = Problem.UnknownAnchor
+name_problem _ = Problem.UndeclaredHandle
 
 fits_name : (p : Problem) (k : Kind) → is_of_names p ≡ true → fits p k ≡ true → p ≡ name_problem k
 fits_name p k n f = grind arith
@@ -114,11 +102,12 @@ fits_name p k n f = grind arith
 one_place : (p : Problem) (before : List Token) (last : Token) (x y : Position) → StandsAt p x before last → StandsAt p y before last → x ≡ y
 one_place p before last x y s u = elim s [
   | inl a ↦ elim u [ inl b ↦ a.0 ∙ sym b.0 | inr b ↦ absurd (a.1 b.0 y b.1) ]
-  | inr a ↦ elim u [ inl b ↦ absurd (b.1 a.0 x a.1) | inr b ↦ anchors a.1 b.1 ]
+  | inr a ↦ elim u [
+    | inl b ↦ absurd (b.1 a.0 x a.1)
+    | inr b ↦
+        cc (a.1.at, b.1.at, (same_from_push a.1.before b.1.before a.1.anchor b.1.anchor (sym a.1.whole ∙ b.1.whole)).1)
+  ]
 ]
-  where
-    anchors : EndsInAnchor before x → EndsInAnchor before y → x ≡ y
-    anchors a b = a.at ∙ ap (λ t. t.position) (same_from_push a.before b.before a.anchor b.anchor (sym a.whole ∙ b.whole)).1 ∙ sym b.at
 
 -- Two faults that refuse the same token are of one problem,
 pub same_blame : (keep_tags : Bool) (tokens : List Token) (es fs : List (Ev × Position)) (f g : ErrorReport) (a : Blames f [] keep_tags tokens es) (b : Blames g [] keep_tags tokens fs) → (a.before ≡ b.before) × (a.last ≡ b.last) × (a.problem ≡ b.problem)
@@ -127,11 +116,10 @@ same_blame keep_tags tokens es fs f g a b =
     (same.0, same.1, problems (is_of_names a.problem) (is_of_names b.problem) refl refl same)
   where
     problems : (m n : Bool) → is_of_names a.problem ≡ m → is_of_names b.problem ≡ n → (a.before ≡ b.before) × (a.last ≡ b.last) → a.problem ≡ b.problem
-    problems true true c d same =
-        fits_name a.problem (kind_of a.last.tok) c a.fits_it ∙ ap (λ (t : Token). name_problem (kind_of t.tok)) same.1 ∙ sym (fits_name b.problem (kind_of b.last.tok) d b.fits_it)
+    problems true true c d same = cc (fits_name a.problem (kind_of a.last.tok) c a.fits_it, fits_name b.problem (kind_of b.last.tok) d b.fits_it)
     problems true false c d same = let s = a.some c in absurd (b.none d s.0 s.1 s.2)
     problems false true c d same = let s = b.some d in absurd (a.none c s.0 s.1 s.2)
-    problems false false c d same = a.says c ∙ ap (λ ts. problem_of (toks ts) a.last.tok) same.0 ∙ ap (λ (t : Token). problem_of (toks b.before) t.tok) same.1 ∙ sym (b.says d)
+    problems false false c d same = cc (a.says c, b.says d)
 
 -- and are the same.
 pub one_blame : (keep_tags : Bool) (tokens : List Token) (es fs : List (Ev × Position)) (f g : ErrorReport) → Blames f [] keep_tags tokens es → Blames g [] keep_tags tokens fs → f ≡ g
@@ -139,7 +127,7 @@ one_blame keep_tags tokens es fs f g a b =
     let same = same_blame keep_tags tokens es fs f g a b in
     let stands : StandsAt a.problem g.position a.before a.last = rw (same.2, same.0, same.1) (b.stands) in
     let place : f.position ≡ g.position = one_place a.problem a.before a.last f.position g.position a.stands stands in
-    a.shown ∙ ap (λ p. fault_of (At p f.position) f.position) same.2 ∙ ap (λ x. fault_of (At b.problem x) x) place ∙ sym b.shown
+    cc
 
 -- ---- of both
 
@@ -149,9 +137,7 @@ refused_first keep_tags before ts last events none b w =
     let first = before ++ last ∷ [] in
     let c : BeginsPlaced keep_tags (first ++ w.more) events = subst (λ us. BeginsPlaced keep_tags us events) w.whole b in
     let rest = toks w.more ++ toks c.more_tokens in
-    let all : toks ((first ++ w.more) ++ c.more_tokens) ≡ toks first ++ rest =
-    map-append (λ (t : Token). t.tok) (first ++ w.more) c.more_tokens ∙ ap (λ ts. ts ++ toks c.more_tokens) (map-append (λ (t : Token). t.tok) first w.more)
-    ∙ append_assoc (toks first) (toks w.more) (toks c.more_tokens) in
+    let all : toks ((first ++ w.more) ++ c.more_tokens) ≡ toks first ++ rest = simp (map-append, append_assoc) in
     none rest (events_of (events ++ c.more_events))
     (subst (λ ts. IsStream keep_tags ts (events_of (events ++ c.more_events))) all (placed_stream keep_tags _ (events ++ c.more_events) c.stream))
 
@@ -168,9 +154,8 @@ last_or_before (x ∷ xs) (y ∷ ys) more u e =
 
 both_begin : (xs ys : List Token) → BeginsWith xs ys → BeginsWith ys xs → xs ≡ ys
 both_begin xs ys b c =
-    let x = ap length b.whole ∙ length-append xs b.more in
-    let y = ap length c.whole ∙ length-append ys c.more in
-    same_beginning xs ys b.more [] (omega (arith, x, y)) (sym b.whole ∙ sym (append-nil ys))
+    same_beginning xs ys b.more []
+    (omega (arith, ap length b.whole, length-append xs b.more, ap length c.whole, length-append ys c.more)) (cc (append-nil ys))
 
 reached_all : (text : List ℕ) (given : List Token) → AreSettled text given → IsReached text given
 reached_all text given s = record { last = s.refused.last; run = s.refused.run; begins = s.begins; behind = λ going. s.behind }
@@ -236,8 +221,7 @@ events_before (no_token given es settled begins has r) = es
 events_before (no_stream before last es first blames begins none) = es
 
 come_before : {keep_tags : Bool} {text : List ℕ} {f : ErrorReport} (x : IsFaultOf keep_tags text f) (es : List (Ev × Position)) → f.memory ≡ false → ComesAfter x es → es ≡ events_before x
-come_before {f = f} (wants_memory w) es m h = absurd (both_ways f.memory m w.memory)
-come_before x es m h = h
+come_before x es m h = grind (arith, both_ways)
 
 -- Two faults of a text are the same, and so are the events before them.
 pub one_cause : (keep_tags : Bool) (text : List ℕ) (f g : ErrorReport) (x : IsFaultOf keep_tags text f) (y : IsFaultOf keep_tags text g) → f.memory ≡ false → g.memory ≡ false → (f ≡ g) × AgreeAt (events_before x) (events_before y)
@@ -245,32 +229,29 @@ one_cause keep_tags text f g (wants_memory w) y m n = absurd (both_ways f.memory
 one_cause keep_tags text f g x (wants_memory w) m n = absurd (both_ways g.memory n w.memory)
 one_cause keep_tags text f g (no_token given es settled begins has r) (no_token given' fs settled' begins' had s) m n =
     let same : given ≡ given' =
-    both_begin given given' (settled_first text given' given settled' (reached_all text given settled)) (settled_first text given given' settled (reached_all text given' settled')) in
+    both_begin _ _ (settled_first text _ _ settled' (reached_all text _ settled))
+    (settled_first text _ _ settled (reached_all text _ settled')) in
     (one_refusal text f g r s m, one_list_so_far to_next keep_tags given' es fs (subst (λ ts. HasPlacedTo to_next keep_tags ts es) same has) had)
 one_cause keep_tags text f g (no_token given es settled begins has r) (no_stream before last fs first b begins' none) m n =
-    absurd (refused_first keep_tags before given last es none begins (settled_first text given (before ++ last ∷ []) settled first.reached))
+    absurd (refused_first _ _ _ _ _ none begins (settled_first text _ _ settled first.reached))
 one_cause keep_tags text f g (no_stream before last es first a begins none) (no_token given fs settled begins' has r) m n =
-    absurd (refused_first keep_tags before given last fs none begins' (settled_first text given (before ++ last ∷ []) settled first.reached))
+    absurd (refused_first _ _ _ _ _ none begins' (settled_first text _ _ settled first.reached))
 one_cause keep_tags text f g (no_stream bs t es first a begins none) (no_stream cs u fs first' b begins' none') m n =
     let same : bs ++ t ∷ [] ≡ cs ++ u ∷ [] = elim (settled_agree text (bs ++ t ∷ []) (cs ++ u ∷ []) first.reached first'.reached) [
       | inl w ↦ same_tokens keep_tags bs cs t u fs none begins' w
       | inr w ↦ sym (same_tokens keep_tags cs bs u t es none' begins w)
     ] in
     let a' = subst (λ ts. Blames f [] keep_tags ts es) same a in
-    (one_blame keep_tags (cs ++ u ∷ []) es fs f g a' b, beside_one keep_tags text (cs ++ u ∷ []) es fs f g first' none' a' b)
+    (one_blame _ _ es fs f g a' b, beside_one _ text _ es fs f g first' none' a' b)
 
 pub one_list_before : OneListOfEventsBefore
 one_list_before keep_tags text f g xs ys x y m n a b = rw (come_before x xs m a, come_before y ys n b) (one_cause keep_tags text f g x y m n).1
 
 -- the same of two parsers
-agree_before : (k c : Bool) (text : List ℕ) (f g : ErrorReport) (es fs : List (Ev × Position)) → k ≡ c → FaultAfter k text f es → FaultAfter c text g fs → f.memory ≡ false → g.memory ≡ false → AgreeAt es fs
+pub agree_before : (k c : Bool) (text : List ℕ) (f g : ErrorReport) (es fs : List (Ev × Position)) → k ≡ c → FaultAfter k text f es → FaultAfter c text g fs → f.memory ≡ false → g.memory ≡ false → AgreeAt es fs
 agree_before k c text f g es fs same x y m n =
     let z = subst (λ b. FaultAfter b text f es) same x in
     one_list_before c text f g es fs z.why y.why m n z.after y.after
-
-pub one_pulled_list_before : OneListOfPulledEventsBefore
-one_pulled_list_before p q text f g setting steady other_steady scans scanned why other m n =
-    agree_before p.keep_tags q.keep_tags text f g (read p) (read q) setting (fault_after text p f scans steady why) (fault_after text q g scanned other_steady other) m n
 
 pub one_pushed_list_before : {R S : Type 0} (takes : Takes R) (others : Takes S)
     → OneListOfPushedEventsBefore takes others
@@ -282,5 +263,5 @@ one_pushed_list_before takes others p p' q q' r r' s s' text f g start began set
       other_events = y.events;
       took = x.took;
       other_took = y.took;
-      agree = agree_before p.keep_tags q.keep_tags text f g x.events y.events setting x.why y.why m n;
+      agree = agree_before _ _ text f g _ _ setting x.why y.why m n;
     }

@@ -1,5 +1,5 @@
 -- The scalars that are spelt without quotes, as texts that a plain scalar may be.
-use Rattle.proof_loads.proofs.TokensCommon.{[], AllDigits, and_false, and_from, and_parts, arith, Bool, codes, decimal, decimal_is_IsNumeral, digit_from_value, ends_with, ends_with-one, ends_with-step, false, has_indicator_first, is_decimal, is_quoted, is_real_character, is_real_text, is_unfit_for_plain, IsNumeral, IsPlain, List, list_all, list_any, ltb-true, nat_eq, nat_le, nat_tests, ne_eqb, not, or_parts, real, real_text-characters, refl, spelling, suc, Tree, true, typing, unquoted, ℕ, ◌&&◌, ◌==◌, ◌||◌, ◌∷◌, ◌≡◌, ◌≤◌, list_all-more}
+use Rattle.proof_loads.proofs.Common.{[], AllDigits, and_from, and_parts, arith, Bool, codes, decimal, decimal_is_IsNumeral, digit_from_value, ends_with, ends_with-one, ends_with-step, false, has_indicator_first, is_decimal, is_quoted, is_real_character, is_real_text, is_unfit_for_plain, IsNumeral, IsPlain, List, list_all, list_any, ltb-true, nat_eq, nat_le, nat_tests, ne_eqb, not, or_parts, real, real_text-characters, refl, spelling, suc, Tree, true, typing, unquoted, ℕ, ◌&&◌, ◌==◌, ◌||◌, ◌∷◌, ◌≡◌, ◌≤◌, list_all-more, is_blank_or_end, is_flow, is_blank, is_break, is_nul, is_one_of}
 use Rattle.defs_tree.specs.Quoting.{begins_with}
 use Rattle.defs_tree.proofs.DecimalReading.{is_decimal-read}
 use Rattle.defs_tree.proofs.TypingLaws.{real_text-cases}
@@ -67,8 +67,9 @@ word_text w h = grind (arith, and_parts, is_word, are_words, words_plain, word_c
 
 -- ---- what a plain scalar doesn't begin with
 
-pub first_space : (c : ℕ) → is_first c ≡ true → (c == 32) ≡ false
-first_space c h = grind (arith, nat_tests)
+pub first_char : (c : ℕ) → is_first c ≡ true → (is_plain_char c ≡ true) × ((c == 32) ≡ false) × ((c == 63) ≡ false) × (is_one_of (codes "|>") c ≡ false) × ((is_blank_or_end c || is_flow c || is_one_of (codes "#&*!%@`'\"") c) ≡ false)
+unfolding is_blank_or_end is_flow is_blank is_break is_nul
+first_char c h = (grind (arith, nat_tests), grind (arith, nat_tests), grind (arith, nat_tests), grind (arith, nat_tests), grind (arith, nat_tests))
 
 -- ---- strings
 
@@ -85,22 +86,18 @@ first_fits : (c : ℕ) (w : List ℕ) → is_unfit_for_plain c ≡ false → has
 unfolding is_unfit_for_plain
 first_fits c w h e f = grind (arith, nat_tests)
 
-no_dash : (c : ℕ) (w : List ℕ) → has_indicator_first (c ∷ w) ≡ false → ((c == 45) ≡ false) × ((c == 46) ≡ false)
-no_dash c w e = (grind (arith, nat_tests), grind (arith, nat_tests))
-
 string_plain : (s : List ℕ) → is_quoted s ≡ false → IsPlainText s
 string_plain [] h = let z = unquoted [] h in let e = z.nonempty in cc
 string_plain (c ∷ w) h =
     let z = unquoted (c ∷ w) h in
     let fit = or_parts (is_unfit_for_plain c) (list_any is_unfit_for_plain w) z.fit in
     let outer = or_parts (begins_with (codes " ") (c ∷ w)) (ends_with nat_eq (c ∷ w) (codes " ")) z.no_outer_space in
-    let dash = no_dash c w z.no_indicator_first in
     let first = first_fits c w fit.0 z.no_indicator_first outer.0 in
     record {
       first = first;
-      second = grind arith;
+      second = let indicator = z.no_indicator_first in grind (arith, nat_tests);
       chars = fit_chars w fit.1;
-      close = rw (first_space c first) at (no_last_space c w outer.1);
+      close = rw (first_char c first).1 at (no_last_space c w outer.1);
     }
 
 -- ---- integers
@@ -124,25 +121,10 @@ negative_plain (d ∷ ds) h = let range : (48 ≤ d) × (d ≤ 57) = digit_from_
 real_words : (w : List ℕ) → list_all is_real_character w ≡ true → are_words w ≡ true
 real_words w h = list_all-more is_real_character is_word (λ c e. grind (arith, nat_tests)) w h
 
-two_dashes : (w : List ℕ) → is_real_text (45 ∷ 45 ∷ w) ≡ true → ⊥
-two_dashes w h = let z = real_text-cases (45 ∷ 45 ∷ w) h in let f = is_decimal-read (45 ∷ 45 ∷ w) in grind arith
-
-two_points : (w : List ℕ) → is_real_text (46 ∷ 46 ∷ w) ≡ true → ⊥
-two_points w h = let z = real_text-cases (46 ∷ 46 ∷ w) h in let f = is_decimal-read (46 ∷ 46 ∷ w) in grind arith
-
-not_alone : (c : ℕ) (b : Bool) (x : ℕ) → (c == x) ≡ b → is_real_text (x ∷ []) ≡ false → is_real_text (c ∷ []) ≡ true → (c == x) ≡ false
-not_alone c a x e f h = grind arith
-
-not_double : (c d : ℕ) (w : List ℕ) (b : Bool) (x : ℕ) → ((c == x) && (d == x)) ≡ b → (is_real_text (x ∷ x ∷ w) ≡ true → ⊥) → is_real_text (c ∷ d ∷ w) ≡ true → ((c == x) && (d == x)) ≡ false
-not_double c d w a x e f h = grind arith
-
 real_second : (c : ℕ) (w : List ℕ) → is_real_text (c ∷ w) ≡ true → list_all is_real_character w ≡ true → is_second c w ≡ true
 unfolding typing is_decimal
-real_second c [] h e = rw (not_alone c (c == 45) 45 refl refl h, not_alone c (c == 46) 46 refl refl h) refl
-real_second c (d ∷ w) h e =
-    let q = and_parts (is_real_character d) (list_all is_real_character w) e in
-    let real_no_space : (d == 32) ≡ false = grind (arith, nat_tests) in
-    rw (not_double c d w ((c == 45) && (d == 45)) 45 refl (two_dashes w) h, not_double c d w ((c == 46) && (d == 46)) 46 refl (two_points w) h, real_no_space, and_false (c == 45)) refl
+real_second c [] h e = grind (arith, nat_tests)
+real_second c (d ∷ w) h e = let z = real_text-cases (c ∷ d ∷ w) h in let f = is_decimal-read (c ∷ d ∷ w) in grind (arith, nat_tests, and_parts)
 
 -- ---- all of them
 

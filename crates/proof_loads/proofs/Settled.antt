@@ -1,6 +1,5 @@
 -- After the stream's end or a fault the same answer comes again.
-use Rattle.proof_lexers.proofs.Plain.Turns.{or_true}
-use Rattle.proof_loads.proofs.Common.{[], Answer, AnswersAreSettled, ap, arith, ErrorReport, Ev, event, false, fault, IfSome, IsSettled, IsStreamEnd, List, MayFollow, no_call, None, one_call, Parsed, Pulls, PullsAll, Some, subst, sym, true, ◌++◌, ◌∙◌, ◌∷◌, ◌≡◌}
+use Rattle.proof_loads.proofs.Common.{or_true, [], Answer, AnswersAreSettled, arith, ErrorReport, Ev, event, fault, IsSettled, List, MayFollow, no_call, one_call, Parsed, Pulls, PullsAll, Some, true, ◌++◌, ◌∷◌, ◌≡◌}
 
 -- what an answer leaves of the parser
 abbrev Leaves : Parsed → Answer ErrorReport → Type 0
@@ -9,16 +8,10 @@ Leaves q (event e p) = Unit {0}
 Leaves q (fault f) = q.fault ≡ Some f
 
 leaves : (p q : Parsed) (a : Answer ErrorReport) → Pulls p a q → Leaves q a
-leaves p q (event Ev.stream_end at) g = g.ended ∙ or_true p.ended
-leaves p q (event e at) g = tt
-leaves p q (fault f) g = g.fault
+leaves p q a g = grind (arith, or_true)
 
 may_follow : (q r : Parsed) (a b : Answer ErrorReport) → Leaves q a → Pulls q b r → MayFollow a b
-may_follow q r (event Ev.stream_end at) (event e p) l g = subst (λ x. IsStreamEnd {Fault = ErrorReport} (event x p)) (sym (g.over l)) tt
-may_follow q r (event Ev.stream_end at) (fault f) l g = let no : false ≡ true = sym g.ended.0 ∙ l in cc
-may_follow q r (event e at) b l g = tt
-may_follow q r (fault f) (event e p) l g = let no : Some f ≡ None = sym l ∙ g.clear in cc
-may_follow q r (fault f) (fault g) l h = let same_fault : g ≡ f = (subst (λ o. IfSome o (λ x. (g ≡ x) × (r ≡ q))) l h.again).0 in ap (λ x. fault x) (same_fault)
+may_follow q r a b l g = grind arith
 
 -- of the last answer the parser is what that leaves
 abbrev Last : Parsed → List (Answer ErrorReport) → Type 0

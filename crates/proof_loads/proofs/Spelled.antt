@@ -2,9 +2,8 @@
 use Rattle.yaml_chars.proofs.SpelledLemmas.{Begins-spelled, Chars-spelled}
 use Rattle.std.specs.Str.{chars}
 use Rattle.std.specs.Str.Iter.{chars_steps}
-use Rattle.proof_loads.proofs.Common.{[], CharactersAreTheText, clean_up_to_end, has_no_nul, JsonTextsMeanTheirTree, MayBe, Option, spell_text, StringsAreTheText, TextsWithAFaultHaveNoRow, tree_of, true, ℕ, ◌∷◌, ◌≡◌}
+use Rattle.proof_loads.proofs.Common.{CharactersAreTheText, clean_up_to_end, has_no_nul, JsonTextsMeanTheirTree, MayBe, Option, StringsAreTheText, TextsWithAFaultHaveNoRow, true, ℕ, ◌≡◌}
 use Rattle.proof_loads.proofs.JsonTokens.Texts.{json_text_has_its_tokens}
-use Rattle.defs_layout.specs.JsonTokens.{json_text_tokens}
 use Rattle.proof_layouts.proofs.Json.Reading as json
 use Rattle.proof_loads.proofs.JsonNul.{json_texts_have_no_nul}
 use Rattle.proof_loads.proofs.RowTexts.{means}
@@ -15,8 +14,7 @@ characters_are_the_text steps start all s always came no_nul =
     (record { taken = s.taken; done = s.done; came = came; no_nul = no_nul; holds = λ a begins ends none. record { no_nul = none; begins = begins; ends = ends } }) (clean_up_to_end all)
 
 pub json_texts_are_read : JsonTextsMeanTheirTree
-json_texts_are_read keep_tags w is =
-    means keep_tags (spell_text w) (json_text_tokens w) (tree_of w.value ∷ []) (json_texts_have_no_nul w is) (json_text_has_its_tokens w is) (json.tokens_read_as_their_tree keep_tags w is)
+json_texts_are_read keep_tags w is = means (json_texts_have_no_nul w is) (json_text_has_its_tokens w is) (json.tokens_read_as_their_tree keep_tags w is)
 
 pub strings_are_the_text : StringsAreTheText
 strings_are_the_text start bytes s utf8 rest came no_nul scans =

@@ -1,5 +1,6 @@
 -- A stream's tokens hold the stream's end; so a text has no more tokens than a stream that it begins with.
-use Rattle.proof_loads.proofs.Common.{[], ap, append-nil, append_assoc, arith, Bool, false, has_no_nul, IsReached, IsRead, List, None, Option, Raw, refl, Some, StreamSays, subst, Tok, Token, tokens_are_of_a_row, toks, true, whole_stream, ℕ, ◌++◌, ◌||◌, ◌∙◌, ◌∷◌, ◌≡◌, list_any, or_right}
+use Rattle.proof_loads.proofs.Common.{[], ap, append-nil, append_assoc, arith, Bool, false, has_no_nul, IsReached, IsRead, List, None, Option, Raw, refl, Some, StreamSays, subst, Tok, Token, tokens_are_of_a_row, toks, true, whole_stream, ℕ, ◌++◌, ◌||◌, ◌∙◌, ◌∷◌, ◌≡◌, list_any, or_right, nil_from_length, length, length-append}
+use Rattle.proof_loads.proofs.Tests.{by_test}
 use Rattle.defs_event.specs.Kinds.{is_stream_end}
 use Rattle.defs_event.specs.Table.{Part, Row, takes, leaves, row_of, Work, reading, saying, before, Derives, says, by_taking, by_leaving}
 use Rattle.defs_event.specs.Grammar.{Held, Goal, stream, documents, directives, explicit_document, document_end, cases, grammar}
@@ -41,11 +42,7 @@ row_keeps h t w (Some (takes ps)) k = or_right _ _ (kept h t ps w k)
 row_keeps h t w (Some (leaves ps)) k = kept h t ps w k
 
 after : (g : Goal) (h : Held) (t : Tok) (w : Works) {r : Row Goal Raw} → row_of (cases g) t ≡ Some r → (is_last g || has_last w) ≡ true → after_row h t w (Some r) ≡ true
-after g h t w {r} q k = subst (λ o. after_row h t w o ≡ true) q (by (is_last g) refl k)
-  where
-    by : (b : Bool) → is_last g ≡ b → (b || has_last w) ≡ true → after_row h t w (row_of (cases g) t) ≡ true
-    by true e k = grind arith
-    by false e k = row_keeps h t w (row_of (cases g) t) k
+after g h t w {r} q k = subst (λ o. after_row h t w o ≡ true) q (grind (arith, row_keeps))
 
 -- the stream's end is among the tokens
 ends_at : (w : Works) (ts : List Tok) (es : List Raw) → Derives grammar w ts es → has_last w ≡ true → list_any is_stream_end ts ≡ true
@@ -66,15 +63,9 @@ record EndAmong (given : List Token) : Type 0 where
 
 end_among : (given : List Token) → list_any is_stream_end (toks given) ≡ true → EndAmong given
 end_among [] h = cc
-end_among (t ∷ given) h = by (is_stream_end t.tok) refl h (end_among given)
-  where
-    by : (b : Bool) → is_stream_end t.tok ≡ b → (b || list_any is_stream_end (toks given)) ≡ true → (list_any is_stream_end (toks given) ≡ true → EndAmong given) → EndAmong (t ∷ given)
-    by true e h rest = record { before = []; end = t; more = given; whole = refl; is_end = grind (arith, e) }
-    by false e h rest = let z = rest h in record { before = t ∷ z.before; end = z.end; more = z.more; whole = ap (λ xs. t ∷ xs) z.whole; is_end = z.is_end }
-
-nothing_after : (xs ys : List Token) → xs ++ ys ≡ [] → ys ≡ []
-nothing_after [] ys h = h
-nothing_after (x ∷ xs) ys h = cc
+end_among (t ∷ given) h = by_test (is_stream_end t.tok)
+    (λ e. record { before = []; end = t; more = given; whole = refl; is_end = grind (arith, e) })
+    (λ e. let z = end_among given (rw e at h) in record { before = t ∷ z.before; end = z.end; more = z.more; whole = ap (λ xs. t ∷ xs) z.whole; is_end = z.is_end })
 
 -- A text whose first tokens are a stream's is read as these.
 pub all_tokens : (text : List ℕ) (given : List Token) (es : List Raw) → has_no_nul text ≡ true → IsReached text given → StreamSays (toks given) es → IsRead text given
@@ -82,11 +73,11 @@ all_tokens text given es nul reached d =
     let among = end_among given (ends_at whole_stream (toks given) es d refl) in
     let more = reached.begins.more in
     let at : reached.last.held.tokens ≡ among.before ++ among.end ∷ (among.more ++ more) =
-    reached.begins.whole ∙ ap (λ xs. xs ++ more) among.whole ∙ append_assoc among.before (among.end ∷ among.more) more in
+    cc (append_assoc among.before (among.end ∷ among.more) more) in
     let last = end_is_last text reached.last among.before (among.more ++ more) among.end reached.run at among.is_end in
     tokens_are_of_a_row text given nul (record {
       end = reached.last;
       run = reached.run;
       ended = last.0;
-      tokens = reached.begins.whole ∙ ap (λ xs. given ++ xs) (nothing_after among.more more last.1) ∙ append-nil given;
+      tokens = reached.begins.whole ∙ ap (λ xs. given ++ xs) (nil_from_length more (omega (arith, ap length last.1, length-append among.more more))) ∙ append-nil given;
     })

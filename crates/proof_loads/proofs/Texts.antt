@@ -1,6 +1,6 @@
 -- A parser somewhere in a text that means trees, and two of them.
 use Rattle.std.proofs.Math.Seq.{take-append_seam}
-use Rattle.proof_loads.proofs.Common.{[], length-map, ap, append_assoc, AreFirst, Bool, ErrorReport, Ev, events_of, EventsOfReadTextsAreRead, Follows, Foretells, foretold_are_not_refused, IfSome, inl, inr, IsStream, length, List, map-append, Means, nested_stream, Option, Parsed, Position, read, ReadAs, ReadTextsAreNotRefused, ReadTextsHaveNoFaultButMemory, ReadTextsHaveOneListOfEvents, ReadTextsHaveTheirTrees, refl, Scanned, ScansIn, Some, streams_are_loaded, streams_are_not_cut, subst, sym, Tok, Token, toks, Tree, true, ℕ, ◌++◌, ◌∙◌, ◌≡◌, take}
+use Rattle.proof_loads.proofs.Common.{length-map, ap, append_assoc, AreFirst, Bool, ErrorReport, Ev, events_of, EventsOfReadTextsAreRead, Follows, Foretells, foretold_are_not_refused, IfSome, inl, inr, IsStream, length, List, map-append, Means, nested_stream, Option, Parsed, Position, read, ReadAs, ReadTextsAreNotRefused, ReadTextsHaveNoFaultButMemory, ReadTextsHaveOneListOfEvents, ReadTextsHaveTheirTrees, refl, Scanned, ScansIn, Some, streams_are_loaded, streams_are_not_cut, subst, sym, Tok, Token, toks, Tree, true, ℕ, ◌++◌, ◌∙◌, ◌≡◌, take}
 
 -- The tokens handed out, with some more, are read as the trees.
 pub record GoesOn (keep_tags : Bool) (given : List Token) (trees : List Tree) : Type 0 where
@@ -18,8 +18,8 @@ first_tokens text s scans = record { reached = scans.reached; begins = scans.beg
 
 pub texts_are_not_refused : ReadTextsAreNotRefused
 texts_are_not_refused p text trees x scans r =
-    let y = goes_on p.keep_tags text trees p.scanner.given x (first_tokens text p.scanner scans) in
-    streams_are_not_cut p.keep_tags (toks p.scanner.given) y.more trees y.reads r.none
+    let y = goes_on _ text trees _ x (first_tokens text _ scans) in
+    streams_are_not_cut _ _ y.more trees y.reads r.none
 
 -- what holds of a fault that may be kept, where it is
 pub if_kept : (P : ErrorReport → Type 0) (o : Option ErrorReport) (f : ErrorReport) → o ≡ Some f → IfSome o P → P f
@@ -37,20 +37,20 @@ pub foretells_beginning : (keep_tags : Bool) (tokens : List Tok) (all es more : 
 foretells_beginning keep_tags tokens all es more e foretold ts vs stream =
     let f = foretold ts vs stream in
     let parts : events_of all ≡ events_of es ++ events_of more = ap events_of e ∙ map-append (λ (v : Ev × Position). v.0) es more in
-    (events_of more ++ f.0, f.1 ∙ ap (λ xs. xs ++ f.0) parts ∙ append_assoc (events_of es) (events_of more) f.0)
+    (events_of more ++ f.0, cc (f.1, append_assoc (events_of es) (events_of more) f.0))
 
 pub events_are_read : EventsOfReadTextsAreRead
 events_are_read p text trees es more x scans follows e =
-    let y = goes_on p.keep_tags text trees p.scanner.given x (first_tokens text p.scanner scans) in
-    foretold_are_not_refused p.keep_tags (toks p.scanner.given) y.more trees es y.reads
-    (foretells_beginning p.keep_tags (toks p.scanner.given) (read p) es more e follows.only)
+    let y = goes_on _ text trees _ x (first_tokens text _ scans) in
+    foretold_are_not_refused _ _ y.more trees es y.reads
+    (foretells_beginning _ _ (read p) es more e follows.only)
 
 pub texts_have_their_trees : ReadTextsHaveTheirTrees
 texts_have_their_trees p text trees x scans whole =
-    let y = goes_on p.keep_tags text trees p.scanner.given x (first_tokens text p.scanner scans) in
+    let y = goes_on _ text trees _ x (first_tokens text _ scans) in
     let all = toks p.scanner.given ++ y.more in
     let stream : IsStream p.keep_tags all (events_of (read p)) = subst (IsStream p.keep_tags all) (whole.only y.more _ y.reads.stream).1 y.reads.stream in
-    streams_are_loaded p.keep_tags all trees (read p) y.reads stream
+    streams_are_loaded _ _ trees (read p) y.reads stream
 
 -- The text's events begin with those that were read.
 begins_all : (p : Parsed) (keep_tags : Bool) (text : List ℕ) (trees : List Tree) → (x : Means keep_tags text trees) → p.keep_tags ≡ keep_tags → ScansIn text p.scanner → Follows p → (more : List Ev) × (nested_stream x.read.documents ≡ events_of (read p) ++ more)
@@ -68,4 +68,4 @@ pub same_events : ReadTextsHaveOneListOfEvents
 same_events p q text trees x same_setting scans others follows other_follows l =
     let b = begins_all p p.keep_tags text trees x refl scans follows in
     let c = begins_all q p.keep_tags text trees x same_setting others other_follows in
-    same_beginning (events_of (read p)) (events_of (read q)) b.0 c.0 (rw (length-map, length-map) l) (sym b.1 ∙ c.1)
+    same_beginning _ _ b.0 c.0 (rw (length-map, length-map) l) (sym b.1 ∙ c.1)

@@ -1,5 +1,5 @@
 -- Layouts in turn are one layout: so they have its tokens.
-use Rattle.proof_loads.proofs.TokensCommon.{[], HasToks, IsRefused, layout_tokens, LayoutsInTurnAreNotRefused, LayoutsInTurnHaveTheirTokens, subst, ◌∷◌}
+use Rattle.proof_loads.proofs.Common.{[], HasToks, IsRefused, layout_tokens, LayoutsInTurnAreNotRefused, LayoutsInTurnHaveTheirTokens, subst, ◌∷◌}
 use Rattle.defs_layout.proofs.InTurn.{layouts_in_turn}
 use Rattle.proof_loads.proofs.HasRows.Steps.{none_is_refused, nothing_has_its_tokens}
 use Rattle.proof_loads.proofs.LayoutTokens.Texts.{layouts_have_their_tokens}

@@ -1,11 +1,9 @@
 -- Literal and folded blocks have rows: the pieces that they are, before what stands after them.
-use Rattle.proof_loads.proofs.TokensCommon.{[], and_false, another, ap, append-nil, append_assoc, are_empty, AreEmptyLines, arith, begins_with, block_may_end, block_read, block_scalar, BlockStyle, Bool, collection_of, column_by, comment_line, content_row, empty_line, empty_row, false, feed, free, full, GapLine, gives_block_scalar, has_content, indented_lines, indicator_of, innermost, is_at_end, is_blank, is_break, is_empty, is_further_text, is_in_line, is_nul, is_separation, is_waiting, IsGap, Line, line_past, List, map, map-append, nat_tests, None, not, Position, position_after, refl, Row, row_of, rows_of, Some, spaces, spell_append, spell_ending, spell_gap, spell_gap_line, spell_line, spell_lines, split, split_spell, starts_with_tab, Style, subst, suc, sym, texts, texts_append, Tok, true, value_before_end, value_before_text, ℕ, ◌++◌, ◌<◌, ◌∙◌, ◌∷◌, ◌≡◌, tab}
+use Rattle.proof_loads.proofs.Common.{[], and_false, another, ap, append-nil, append_assoc, are_empty, AreEmptyLines, arith, begins_with, block_may_end, block_read, block_scalar, BlockStyle, Bool, collection_of, column_by, comment_line, content_row, empty_line, empty_row, false, feed, free, full, GapLine, has_content, indented_lines, indicator_of, innermost, is_at_end, is_blank, is_break, is_empty, is_further_text, is_in_line, is_nul, is_separation, IsGap, Line, List, map, map-append, nat_tests, None, not, Position, position_after, refl, Row, row_of, rows_of, Some, spaces, spell_append, spell_ending, spell_gap, spell_gap_line, spell_line, spell_lines, split, split_spell, starts_with_tab, Style, subst, suc, sym, texts, Tok, true, value_before_end, value_before_text, ℕ, ◌++◌, ◌<◌, ◌∙◌, ◌∷◌, ◌≡◌, tab, zero, All, All-append, All-pop, All-replicate, blank}
 use Rattle.proof_lexers.proofs.Blocks.Written as written
 use Rattle.proof_lexers.proofs.Blocks.Written.{spell}
 use Rattle.proof_lexers.proofs.Blocks.Positions.{spell_more}
-use Rattle.proof_loads.proofs.BlockLines.{line_of, lines_at, empties, texts_are, spelt_feeds, spelt_more, Last, last_of, row_by, row_spaces, content_append, header_by, text_value, spaces_value, last_value, header_line, block_text, header_inner, IsInside, AreEach, AreBlockLines, tab_more, in_column_with, text_body, end_body, is_block, each_more, each_split, are_each, header_none, content_last}
-use Rattle.proof_loads.proofs.BlockLines as scans
-use Rattle.defs_token.specs.Key
+use Rattle.proof_loads.proofs.BlockLines.{line_of, lines_at, empties, texts_are, spelt_feeds, spelt_more, Last, last_of, row_by, row_spaces, content_append, header_by, text_value, spaces_value, last_value, header_line, block_text, header_inner, IsInside, IsBlockLine, a_blank, AreBlockLines, tab_more, in_column_with, header_is, is_block, are_each, header_none, content_last, outside}
 use Rattle.proof_loads.proofs.HasRows.Nodes.{none_ends, Parts, From, outside_reads, Reads, at, HasNone}
 use Rattle.proof_loads.proofs.HasRows.Json.{column_is}
 use Rattle.proof_loads.proofs.HasRows.Trails.{over_break, ending_parts, here_gap, Trail, next, marker, end, marker_text, trail_text, BeginsContent, content_first, IsTrail, IsLow, After, Here}
@@ -29,18 +27,15 @@ abbrev pub token_of : BlockStyle → List ℕ → Tok
 token_of BlockStyle.literal text = Tok.scalar Style.literal text
 token_of BlockStyle.folded text = Tok.scalar Style.folded text
 
-block_line : (must : Bool) (here : Position) (bs : List ℕ) (l : Key.Line) → must ≡ false → is_waiting l ≡ false → line_past must here bs gives_block_scalar false l ≡ Some (record { line = free; blocks = bs })
-block_line must a bs b e h = grind arith
-
 module _ (bs piece text whole more_text : List ℕ) (tokens : List Tok) (parts : Parts bs whole (piece ++ more_text)) where
   piece_reads : (s : BlockStyle) → IsBlockPiece bs s text piece more_text → ((p : Position) (awaits : Bool) → Reads (at (position_after p piece more_text) bs awaits block_scalar free []) more_text tokens)
       → From another bs [] whole (token_of s text ∷ tokens)
   piece_reads BlockStyle.literal z rest =
       outside_reads bs piece (Tok.scalar Style.literal text) whole more_text tokens parts z.none (λ s e. refl) free refl refl (λ p awaits l there. rw (none_ends bs _ there, column_is bs, z.read) (z.some, (refl, (z.column, refl, refl)))) z.may
-      (λ must here l no line. block_line must here bs l no line) (λ deeper here colon l. refl) (λ here awaits there. rest here awaits)
+      (λ must here l no line. grind arith) (λ deeper here colon l. refl) (λ here awaits there. rest here awaits)
   piece_reads BlockStyle.folded z rest =
       outside_reads bs piece (Tok.scalar Style.folded text) whole more_text tokens parts z.none (λ s e. refl) free refl refl (λ p awaits l there. rw (none_ends bs _ there, column_is bs, z.read) (z.some, (refl, (z.column, refl, refl)))) z.may
-      (λ must here l no line. block_line must here bs l no line) (λ deeper here colon l. refl) (λ here awaits there. rest here awaits)
+      (λ must here l no line. grind arith) (λ deeper here colon l. refl) (λ here awaits there. rest here awaits)
 
 -- ---- what stands after a block
 
@@ -81,12 +76,16 @@ Follows column (end g) = column ≡ 0 → AreEmptyLines g
 -- text at a column that is less
 further_at : (column n : ℕ) (r : List ℕ) → n < column → BeginsContent r → Next column (spaces n r)
 unfolding is_blank is_break is_nul
-further_at column n r low (content_first c x blank break hash nul) =
-    let z : scans.is_further c ≡ true = grind (arith, nat_tests) in
-    at_text (spaces n (c ∷ x)) (scans.not_at_end n c x z) (left column n c x low z) (scans.spaces_tab n c x z)
+further_at column n r low (content_first c x not_blank break hash nul) =
+    at_text (spaces n (c ∷ x)) (starts n).0 (left column low) (starts n).1
   where
-    left : (column n c : ℕ) (x : List ℕ) → n < column → scans.is_further c ≡ true → is_further_text column (spaces n (c ∷ x)) ≡ true
-    left column n c x h e = grind (arith, nat_tests, suc, scans.outside)
+    starts : (n : ℕ) → (is_at_end (spaces n (c ∷ x)) ≡ false) × (begins_with tab (spaces n (c ∷ x)) ≡ false)
+    starts zero = (grind (arith, nat_tests), grind (arith, nat_tests))
+    starts (suc n) = (refl, refl)
+
+    left : (column : ℕ) → n < column → is_further_text column (spaces n (c ∷ x)) ≡ true
+    left zero h = absurd (omega (arith, h))
+    left (suc m) h = outside (suc m) n c x h not_blank break nul
 
 pub nested_follows : (c column : ℕ) (bs : List ℕ) (t : Trail) → c < column → IsTrail t → IsLow t (c ∷ bs) → Follows column t
 unfolding is_blank is_break is_nul
@@ -114,14 +113,22 @@ module _ (s : BlockStyle) (i column : ℕ) (strips : Bool) (text : List ℕ) (ls
   in_column more = (in_column_with i column ls more inside h.begins h.lines, tab_more column ls more h.begins h.tabless)
 
   -- a block up to the end of the text, by its complete lines and its last
-  ends_so : (ms : List Line) (l : List ℕ) (r : Row) (more : List (List ℕ)) → AreEach column ms → row_of column l ≡ Some r → is_in_line l ≡ true → HasNone l → texts (lines_at column ms) ++ l ∷ [] ≡ indented_lines column ls ++ more
+  ends_so : (ms : List Line) (l : List ℕ) (r : Row) (more : List (List ℕ)) → All (IsBlockLine column) ms → row_of column l ≡ Some r → is_in_line l ≡ true → HasNone l → texts (lines_at column ms) ++ l ∷ [] ≡ indented_lines column ls ++ more
       → value_before_end (header_by s strips) column (map row_by ms) l r ≡ text → IsBlockPiece bs s text (spell (header ∷ lines_at column ms) l) []
   ends_so ms l r more each row inner none lines value =
       let z = are_each column ms l each none in
-      let body = end_body s i column strips (texts (lines_at column ms)) l _ r (ap (column_by None (collection_of i)) lines ∙ (in_column more).0) (ap starts_with_tab lines ∙ (in_column more).1) z.0 row in
       record {
         column = column;
-        read = rw (same, split_spell (header ∷ lines_at column ms) l (header_inner s strips, tt, z.1) inner) (body ∙ ap (λ t. Some (is_block s i column strips t)) value);
+        read = rw (
+          same,
+          split_spell (header ∷ lines_at column ms) l (header_inner s strips, tt, z.1) inner,
+          header_is s strips,
+          ap (column_by None (collection_of i)) lines ∙ (in_column more).0,
+          ap starts_with_tab lines ∙ (in_column more).1,
+          z.0,
+          row,
+        )
+            (ap (λ t. Some (is_block s column t)) value);
         may = refl;
         none = header_none s strips (spell (lines_at column ms) l) z.2;
         some = refl;
@@ -135,11 +142,11 @@ module _ (s : BlockStyle) (i column : ℕ) (strips : Bool) (text : List ℕ) (ls
     abbrev piece : List ℕ
     piece = spell (header ∷ lines_at column all_lines) []
 
-    each : AreEach column all_lines
-    each = each_more column ls n h.each
+    each : All (IsBlockLine column) all_lines
+    each = All-append (IsBlockLine column) ls (empties n) h.each (All-replicate (IsBlockLine column) n (blank 0) (a_blank column 0 (omega arith)))
 
-    all_texts : texts (lines_at column all_lines) ≡ indented_lines column ls ++ texts (lines_at column (empties n))
-    all_texts = ap texts (map-append (line_of column) ls (empties n)) ∙ texts_append (lines_at column ls) (lines_at column (empties n)) ∙ ap (λ x. x ++ texts (lines_at column (empties n))) (texts_are column ls)
+    all_texts : texts (lines_at column all_lines) ≡ indented_lines column ls ++ indented_lines column (empties n)
+    all_texts = texts_are column all_lines ∙ map-append (λ l. spell_line column l []) ls (empties n)
 
     all_rows : rows_of column (texts (lines_at column all_lines)) ≡ Some (map row_by ls ++ map row_by (empties n))
     all_rows = (are_each column all_lines [] each refl).0 ∙ ap Some (map-append row_by ls (empties n))
@@ -152,15 +159,15 @@ module _ (s : BlockStyle) (i column : ℕ) (strips : Bool) (text : List ℕ) (ls
 
     block_piece : (more_text : List ℕ) → Next column more_text → IsBlockPiece bs s text piece more_text
     block_piece [] at_end =
-        let more = texts (lines_at column (empties n)) ++ [] ∷ [] in
-        let lines : texts (lines_at column all_lines) ++ [] ∷ [] ≡ indented_lines column ls ++ more = ap (λ x. x ++ [] ∷ []) all_texts ∙ append_assoc (indented_lines column ls) (texts (lines_at column (empties n))) ([] ∷ []) in
+        let more = indented_lines column (empties n) ++ [] ∷ [] in
+        let lines : texts (lines_at column all_lines) ++ [] ∷ [] ≡ indented_lines column ls ++ more = rw all_texts (append_assoc (indented_lines column ls) (indented_lines column (empties n)) ([] ∷ [])) in
         let value = ap (λ rs. value_before_end (header_by s strips) column rs [] empty_row) (map-append row_by ls (empties n)) ∙ spaces_value s strips column (map row_by ls) n 0 some (omega arith) ∙ h.value in
         ends_so all_lines [] empty_row more each (row_spaces column 0 (omega arith)) refl refl lines value
     block_piece more_text (at_text further some_text is_further tabless) =
         let value = text_value s strips (map row_by ls) n some ∙ h.value in
-        let known = in_column (texts (lines_at column (empties n))) in
-        let body = text_body s i column strips (texts (lines_at column all_lines)) more_text _ (ap (column_by None (collection_of i)) all_texts ∙ known.0) some_text is_further (ap starts_with_tab all_texts ∙ known.1) all_rows ∙ ap (λ t. Some (is_block s i column strips t)) value in
-        let read : block_read (innermost bs) piece more_text ≡ Some (is_block s i column strips text) = rw (same, is_split, some_text) body in
+        let known = in_column (indented_lines column (empties n)) in
+        let read : block_read (innermost bs) piece more_text ≡ Some (is_block s column text) =
+        rw (same, is_split, some_text, header_is s strips, ap (column_by None (collection_of i)) all_texts ∙ known.0, some_text, is_further, ap starts_with_tab all_texts ∙ known.1, all_rows) (ap (λ t. Some (is_block s column t)) value) in
         let content = not_all_empty column (texts (lines_at column all_lines)) _ all_rows (rw (content_append, some) refl) in
         record { column = column; read = read; may = rw (read, is_split, content, tabless, some_text, and_false (is_empty (texts (lines_at column all_lines)))) refl; none = header_none s strips (spell (lines_at column all_lines) []) (are_each column all_lines [] each refl).2; some = refl }
 
@@ -184,11 +191,11 @@ module _ (s : BlockStyle) (i column : ℕ) (strips : Bool) (text : List ℕ) (ls
 
   block_ends : IsBlockPiece bs s text last_piece []
   block_ends =
-      let before = lines_at column end_of.init in
-      let q = each_split column end_of.init (full end_of.last) (rw (end_of.is) at h.each) in
-      let lines : texts before ++ last_text ∷ [] ≡ indented_lines column ls ++ [] =
-      sym (texts_append before (line_of column (full end_of.last) ∷ [])) ∙ ap texts (sym (map-append (line_of column) end_of.init (full end_of.last ∷ []))) ∙ ap (λ l. texts (lines_at column l)) (sym end_of.is) ∙ texts_are column ls ∙ sym (append-nil (indented_lines column ls)) in
-      let value = last_value s strips column (map row_by end_of.init) (content_row end_of.last) last_text refl ∙ ap (value_before_text (header_by s strips)) (sym (map-append row_by end_of.init (full end_of.last ∷ [])) ∙ ap (map row_by) (sym end_of.is)) ∙ h.value in
+      let q = All-pop (IsBlockLine column) ls end_of.init (Some (full end_of.last)) end_of.is h.each in
+      let lines = ap (λ x. x ++ last_text ∷ []) (texts_are column end_of.init) ∙ sym (map-append (λ l. spell_line column l []) end_of.init (full end_of.last ∷ [])) ∙ ap (indented_lines column) (sym end_of.is) ∙ sym (append-nil _) in
+      let rows : map row_by end_of.init ++ content_row end_of.last ∷ [] ≡ map row_by ls =
+      cc (map-append row_by end_of.init (full end_of.last ∷ []), end_of.is) in
+      let value = last_value s strips column (map row_by end_of.init) (content_row end_of.last) last_text refl ∙ ap (value_before_text (header_by s strips)) rows ∙ h.value in
       ends_so end_of.init last_text (content_row end_of.last) [] q.0 q.1.row q.1.inner q.1.none lines value
 
   last_spelt : block_text s strips (spell_lines column ls []) ≡ last_piece ++ []

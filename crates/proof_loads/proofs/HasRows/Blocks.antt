@@ -1,8 +1,8 @@
 -- Steps outside flow that begin at a column, after block collections that end there.
-use Rattle.proof_loads.proofs.TokensCommon.{[], act_of, another, ap, arith, awaits_past, begins_free_line, begins_with, begins_with_space_or_break, begun_by, begun_outside, Bool, colon_may_precede, dash_may_precede, false, free, further_lines_stand, gives_node, has_break, has_no_break, has_tab_before_piece, has_tab_within, inl, innermost, inside, is_at_gap, is_blank, is_break, is_deeper, is_in_column, is_marker, is_nul, is_separation, is_waiting, IsShown, last_line, le-ltb, least_column, length, length-append, line_past, line_past_separation, List, may_precede, nat_lt, not, not_ended, opened, Position, position_after, Previous, previous_by, put, quoted_may_end, refl, replicate, Some, stops, suc, taken, Tok, Token, toks, true, ℕ, ◌&&◌, ◌++◌, ◌+◌, ◌-◌, ◌<◌, ◌∙◌, ◌∷◌, ◌≡◌, ◌≤◌}
+use Rattle.proof_loads.proofs.Common.{[], act_of, another, ap, arith, awaits_past, begins_free_line, begins_with, begins_with_space_or_break, begun_by, begun_outside, Bool, colon_may_precede, dash_may_precede, false, free, further_lines_stand, gives_node, has_break, has_no_break, has_tab_before_piece, has_tab_within, inl, innermost, inside, is_at_gap, is_blank, is_break, is_deeper, is_in_column, is_marker, is_nul, is_separation, is_waiting, IsShown, last_line, le-ltb, least_column, length, length-append, line_past, line_past_separation, List, may_precede, nat_lt, not, not_ended, opened, Position, position_after, Previous, previous_by, put, quoted_may_end, refl, replicate, Some, stops, suc, taken, Tok, Token, toks, true, ℕ, ◌&&◌, ◌++◌, ◌+◌, ◌-◌, ◌<◌, ◌∙◌, ◌∷◌, ◌≡◌, ◌≤◌, map, append_assoc, or_true, if◌then◌else◌}
 use Rattle.proof_row.proofs.CutColumns.{column_grows}
 use Rattle.proof_scanner.proofs.Cut.Positions.{index_after}
-use Rattle.proof_loads.proofs.HasRows.Nodes.{or_true, deeper, Quiet, Reads, at, step_of, site_of, Steps, step, ended, HasNone, Line}
+use Rattle.proof_loads.proofs.HasRows.Nodes.{deeper, Quiet, Reads, at, step_of, site_of, Steps, step, ended, HasNone, Line}
 
 -- ---- columns
 
@@ -24,10 +24,6 @@ pub ends_are : (extra : List ℕ) (p : Position) (first : List Token) → toks (
 ends_are [] p first = refl
 ends_are (n ∷ extra) p first = ap (λ o. Tok.block_end ∷ o) (ends_are extra p first)
 
-pub ended_append : (extra : List ℕ) (a b : List Tok) → ended extra a ++ b ≡ ended extra (a ++ b)
-ended_append [] a b = refl
-ended_append (n ∷ extra) a b = ap (λ o. Tok.block_end ∷ o) (ended_append extra a b)
-
 -- ---- collections at a column
 
 -- after a separation a rest stands at a column, and a key may begin there
@@ -42,12 +38,10 @@ pub record Here (c : ℕ) (text rest : List ℕ) (p : Position) (before : Previo
 
 -- the collection of the column is open, or not yet
 abbrev pub stood : (is_open : Bool) → ℕ → List ℕ → List ℕ
-stood true c bs = c ∷ bs
-stood false c bs = bs
+stood is_open c bs = if is_open then c ∷ bs else bs
 
 abbrev pub starts : (is_open : Bool) → Tok → List Tok → List Tok
-starts true t o = o
-starts false t o = t ∷ o
+starts is_open t o = if is_open then o else t ∷ o
 
 -- where it is not, the column is deeper than the others
 abbrev pub MayBegin : (is_open : Bool) → ℕ → List ℕ → Type 0
@@ -100,7 +94,7 @@ module _ (c : ℕ) (bs w : List ℕ) (t : Tok) (key : Bool) (next : List ℕ) (c
         begins = λ past colon. rw (here.line, no_marker, stay, so_many, deep) (ends_are extra there _ ∙ ap (ended extra) (begins is_open there colon.here));
         none = (here.none, none);
       } in
-      rw (here.is, ← start_more is_open collection own (t ∷ tokens), ← ended_append extra (starts is_open collection own) (t ∷ tokens)) (step w' next s (rest is_open there waits here.column may))
+      rw (here.is, ← start_more is_open collection own (t ∷ tokens), ← append_assoc (map (λ n. Tok.block_end) extra) (starts is_open collection own) (t ∷ tokens)) (step w' next s (rest is_open there waits here.column may))
 
 -- ---- entries
 

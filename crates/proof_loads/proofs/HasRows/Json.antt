@@ -1,11 +1,10 @@
 -- JSON values have rows, with the white space between their parts; plain scalars on one line as pieces.
-use Rattle.proof_loads.proofs.TokensCommon.{[], after, after_blank, and_false, and_from, and_parts, another, ap, are_marks, are_pieces, AreElements, AreMembers, arith, array, begins_flow, begins_plain, begins_with, Blank, blank_character, Bool, codes, colon_may_precede, element, element_levels, element_tokens, Elements, empty_array, empty_object, ends_with_content, ends_with_dash, Entry, false, false_word, filled, first_entry, flow_collection, flow_entry, flow_mapping_end, flow_mapping_start, flow_sequence_end, flow_sequence_start, fresh, goes_on, goes_on_quoted, Had, has_dash_before_flow, has_no_break, has_tab_within, inl, innermost, innermost_column, inside, is_at_gap, is_blank, is_blank_or_end, is_blanks_and_comment, is_break, is_document_marker, is_empty, is_flow, is_keyed, is_nul, is_on_line, is_one_of, is_separation, is_whole_plain, double, IsJson, Json, json_tokens, last_element, last_member, leading, length, length-map, level_of, levels, List, list_all, map, mapping, member, member_levels, member_tokens, Members, nat_lt, nat_tests, not, not-true, null_word, object, Option, Piece, plain_element, plain_lines_fit, plain_scalar, plain_value, Position, position_after, quoted_may_end, quoted_scalar, refl, settled, Some, space, spell, spell_elements, spell_members, spell_number, spell_string, split, Stand, stops, string, string_token, Style, subst, suc, TabsBeginLines, Tok, true, true_word, zero, ℕ, ◌&&◌, ◌++◌, ◌+◌, ◌<◌, ◌==◌, ◌||◌, ◌∷◌, ◌≡◌, ◌≤◌, list_all-more}
+use Rattle.proof_loads.proofs.Common.{[], after, after_blank, and_false, and_from, and_parts, another, ap, are_marks, are_pieces, AreElements, AreMembers, arith, array, begins_flow, begins_plain, begins_with, Blank, blank_character, Bool, codes, colon_may_precede, element, element_levels, element_tokens, Elements, empty_array, empty_object, ends_with_content, ends_with_dash, Entry, false, false_word, filled, first_entry, flow_collection, flow_entry, flow_mapping_end, flow_mapping_start, flow_sequence_end, flow_sequence_start, fresh, goes_on, goes_on_quoted, Had, has_dash_before_flow, has_no_break, has_tab_within, inl, innermost, innermost_column, inside, is_at_gap, is_blank, is_blank_or_end, is_blanks_and_comment, is_break, is_document_marker, is_empty, is_flow, is_keyed, is_nul, is_on_line, is_one_of, is_separation, is_whole_plain, double, IsJson, Json, json_tokens, last_element, last_member, leading, length, length-map, level_of, levels, List, list_all, map, mapping, member, member_levels, member_tokens, Members, nat_lt, nat_tests, not, not-true, null_word, object, Option, Piece, plain_element, plain_lines_fit, plain_scalar, plain_value, Position, position_after, quoted_may_end, quoted_scalar, refl, settled, Some, spell, spell_elements, spell_members, spell_number, spell_string, split, Stand, stops, string, string_token, Style, subst, suc, TabsBeginLines, Tok, true, true_word, zero, ℕ, ◌&&◌, ◌++◌, ◌+◌, ◌<◌, ◌==◌, ◌||◌, ◌∷◌, ◌≡◌, ◌≤◌, list_all-more, or_true, if◌then◌else◌}
 use Rattle.proof_loads.proofs.HasRows.Strings.{IsOneLine, nothing, plain_step, value_is, body_of, quoted, quoted_is, quoted_piece, string_is}
-use Rattle.proof_loads.proofs.PlainTexts.{is_plain_char, are_plain, closes, IsPlainText, is_first, is_second, first_space, is_word, are_words, IsWord, word_text}
+use Rattle.proof_loads.proofs.PlainTexts.{is_plain_char, are_plain, closes, IsPlainText, is_first, is_second, first_char, is_word, are_words, IsWord, word_text}
 use Rattle.defs_layout.specs.JsonGap.{spell_gap}
 use Rattle.proof_loads.proofs.JsonTokens.Spaces.{AreSpaces, HasSpaces, HaveSpaces, MembersHaveSpaces}
-use Rattle.proof_loads.proofs.HasRows.Nodes.{IsDeep, deep_char, Parts, or_true, closing_bracket, deep_piece, none_ends, entry_of, awaiting, opening, closing, opening_bracket, From, Then, Shown, flow_reads, Place, outside, within, entries_before, entries_after, flows, place_reads, step_of, HasNone, of_class}
-use Rattle.defs_layout.specs.Json.{number}
+use Rattle.proof_loads.proofs.HasRows.Nodes.{IsDeep, deep_char, Parts, closing_bracket, deep_piece, none_ends, entry_of, awaiting, opening, closing, opening_bracket, From, Then, Shown, flow_reads, Place, outside, within, entries_before, entries_after, flows, place_reads, step_of, HasNone, of_class}
 use Rattle.proof_loads.proofs.JsonTokens.Numbers.{number_then, number_word}
 
 pub record PlainChar (c : ℕ) : Type 0 where
@@ -43,8 +42,7 @@ is_one_line (c ∷ w) h = let q = and_parts (not (is_break c)) (has_no_break w) 
 
 module _ (in_flow : Bool) (collection : Option ℕ) (next : List ℕ) where
   abbrev stand : (after_space : Bool) → Stand
-  stand true = after_blank
-  stand false = inside
+  stand after_space = if after_space then after_blank else inside
 
   goes_over : (b : Bool) (w : List ℕ) → are_plain w ≡ true → MayFlow in_flow w → goes_on in_flow collection (stand b) w next ≡ true
   goes_over b [] h flow = refl
@@ -56,10 +54,6 @@ ends_full c (d ∷ w) one h e = grind (arith, and_parts, ends_full d w)
 
 -- ---- where it begins
 
-pub first_char : (c : ℕ) → is_first c ≡ true → (is_plain_char c ≡ true) × ((c == 32) ≡ false) × ((c == 63) ≡ false) × (is_one_of (codes "|>") c ≡ false) × ((is_blank_or_end c || is_flow c || is_one_of (codes "#&*!%@`'\"") c) ≡ false)
-unfolding is_blank_or_end is_flow is_blank is_break is_nul
-first_char c h = (grind (arith, nat_tests), grind (arith, nat_tests), grind (arith, nat_tests), grind (arith, nat_tests), grind (arith, nat_tests))
-
 unmarked : (c : ℕ) (w next : List ℕ) → is_second c w ≡ true → is_document_marker (c ∷ (w ++ next)) ≡ false
 unfolding are_marks
 unmarked c w next h = grind (arith, nat_tests, and_parts, not, not-true)
@@ -68,12 +62,9 @@ no_gap : (d : ℕ) → is_plain_char d ≡ true → (d == 32) ≡ false → is_b
 unfolding is_blank_or_end
 no_gap d h e = let z = plain_char d h in rw (z.blank, e, z.break, z.nul) refl
 
-module _ (in_flow adjacent : Bool) (column : ℕ) where
-  begins : (c : ℕ) (w next : List ℕ) → is_first c ≡ true → is_second c w ≡ true → are_plain w ≡ true → MayFlow in_flow (c ∷ w) → begins_plain in_flow adjacent column (c ∷ (w ++ next)) ≡ true
-  begins c [] next first second plain flow =
-      rw (unmarked c [] next second, and_false (column == 0)) (grind (arith, nat_tests, and_parts, not-true, first_char, plain_char))
-  begins c (d ∷ w) next first second plain flow =
-      rw (unmarked c (d ∷ w) next second, and_false (column == 0)) (grind (arith, nat_tests, and_parts, not-true, first_char, plain_char, no_gap))
+begins : (in_flow adjacent : Bool) (column c : ℕ) (w next : List ℕ) → is_first c ≡ true → is_second c w ≡ true → are_plain w ≡ true → MayFlow in_flow (c ∷ w) → begins_plain in_flow adjacent column (c ∷ (w ++ next)) ≡ true
+begins in_flow adjacent column c w next first second plain flow =
+    rw (unmarked c w next second, and_false (column == 0)) (grind (arith, nat_tests, and_parts, not-true, first_char, plain_char, no_gap))
 
 -- ---- the piece
 
@@ -101,7 +92,7 @@ plain_piece in_flow collection [] next text flow stops = absurd text
 plain_piece in_flow collection (c ∷ v) next text flow stops =
     let one = (first_char c text.first).0 in
     let all : are_plain (c ∷ v) ≡ true = and_from _ _ one text.chars in
-    let full = ends_full c v one text.chars (rw (first_space c text.first) text.close) in
+    let full = ends_full c v one text.chars (rw (first_char c text.first).1 text.close) in
     let z = elements_are (c ∷ v) all in
     record {
       begins = λ adjacent column. begins in_flow adjacent column c v next text.first text.second text.chars flow;
@@ -178,8 +169,7 @@ stopped_past in_flow collection r stop (b ∷ g) s = grind (arith, stopped_past 
 
 pub no_comment_past : (r : List ℕ) → begins_with 35 r ≡ false → (g : List Blank) → begins_with 35 (spell_gap g r) ≡ false
 no_comment_past r h [] = h
-no_comment_past r h (space ∷ g) = refl
-no_comment_past r h (b ∷ g) = refl
+no_comment_past r h (b ∷ g) = grind arith
 
 module _ (in_flow : Bool) (r : List ℕ) (edge : Edge in_flow r) where
   rest_past : (g : List Blank) (piece : List ℕ) → (is_blanks_and_comment (leading is_on_line (spell_gap g r)) || goes_on_quoted in_flow piece (after is_blank (spell_gap g r))) ≡ true
@@ -217,7 +207,7 @@ pub record IsSolid (r : List ℕ) : Type 0 where
 -- so after white space
 pub solid_past : (g : List Blank) (r : List ℕ) → TabsBeginLines false g → IsSolid r → IsSolid (spell_gap g r)
 solid_past [] r h z = z
-solid_past (b ∷ g) r h z = record { no_tab = grind arith; no_comment = grind arith }
+solid_past (b ∷ g) r h z = grind arith
 
 pub colon_stands : (r : List ℕ) → IsSolid r → colon_may_precede r ≡ true
 colon_stands r z = rw (z.no_tab) refl
@@ -225,10 +215,10 @@ colon_stands r z = rw (z.no_tab) refl
 -- ---- what a value begins with
 
 value_solid : (v : Json) (r : List ℕ) → IsJson v → IsSolid (spell v r)
-value_solid (number n) r is =
+value_solid (Json.number n) r is =
     let word_solid : IsSolid ((spell_number n []) ++ r) = grind (arith, nat_tests, and_parts, is_word, are_words) in
     rw (number_then n r) (word_solid)
-value_solid v r is = record { no_tab = grind arith; no_comment = grind arith }
+value_solid v r is = grind arith
 
 elements_solid : (es : Elements) (r : List ℕ) → AreElements es → IsSolid (spell_elements es r)
 elements_solid (last_element v a) r are = value_solid v _ are.0
@@ -323,7 +313,7 @@ module _ (bs : List ℕ) where
     value_reads false_word is may pl text r tokens parts ends few rest = word_reads bs (codes "false") (record { chars = refl; begins = refl }) pl text r tokens parts ends rest
     value_reads null_word is may pl text r tokens parts ends few rest = word_reads bs (codes "null") (record { chars = refl; begins = refl }) pl text r tokens parts ends rest
     value_reads true_word is may pl text r tokens parts ends few rest = word_reads bs (codes "true") (record { chars = refl; begins = refl }) pl text r tokens parts ends rest
-    value_reads (number n) is may pl text r tokens parts ends few rest = word_reads bs (spell_number n []) (number_word n is) pl text r tokens (subst (Parts bs text) (number_then n r) parts) ends rest
+    value_reads (Json.number n) is may pl text r tokens parts ends few rest = word_reads bs (spell_number n []) (number_word n is) pl text r tokens (subst (Parts bs text) (number_then n r) parts) ends rest
     value_reads (string ps) is may pl text r tokens parts ends few rest =
         let z = quoted_piece double (body_of ps) _ (string_is ps is) in
         place_reads bs (quoted ps) (string_token ps) text r tokens (subst (Parts bs text) (quoted_is ps r) parts) z.none pl (deep_piece bs (quoted ps) r z.no_break) (λ s e. z.further _) refl

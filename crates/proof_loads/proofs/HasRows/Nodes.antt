@@ -1,9 +1,7 @@
 -- Texts that are read from a place on: how they begin with a separation and a piece, outside flow and in flow.
-use Rattle.proof_loads.proofs.TokensCommon.{[], act_of, and_parts, another, arith, awaits_at, awaits_past, begins_free_line, begins_line, begun_by, Bool, Entry, false, filled, flow_mapping_end, flow_mapping_start, flow_sequence_end, flow_sequence_start, FlowKind, free, fresh, further_lines_stand, gives_node, Had, has_break, has_no_break, has_tab_within, if◌then◌else◌, is_break, is_deeper, is_empty, is_in_flow, is_indented_by_spaces, is_marker, is_renewed, is_separation, is_waiting, IsShown, last_line, le-ltb, least_column, least_for, length, line_past, line_past_separation, List, mapping, may_precede, nat_le, ne_eqb, no_pair, not, not-true, not_ended, Option, Position, position_after, position_past, Previous, previous_by, refl, sequence, settled, Site, Some, Step, taken, Tok, toks, true, ℕ, ◌++◌, ◌-◌, ◌∷◌, ◌≡◌, ◌≤◌, entries_past, takes_pair, begun_inside, begun_outside}
-pub use Rattle.defs_token.specs.Key.{Line}
-pub use Rattle.proof_loads.proofs.HasRows.Steps.{at, ended, has_tokens, read_end, Reads, site_of, step, step_of, Steps}
+use Rattle.proof_loads.proofs.Common.{[], act_of, and_parts, another, arith, awaits_at, awaits_past, begins_free_line, begins_line, begun_by, Bool, Entry, false, filled, flow_mapping_end, flow_mapping_start, flow_sequence_end, flow_sequence_start, FlowKind, free, fresh, further_lines_stand, gives_node, Had, has_break, has_no_break, has_tab_within, if◌then◌else◌, is_break, is_deeper, is_empty, is_in_flow, is_indented_by_spaces, is_marker, is_renewed, is_separation, is_waiting, IsShown, last_line, le-ltb, least_column, least_for, length, line_past, line_past_separation, List, mapping, may_precede, nat_le, ne_eqb, no_pair, not, not-true, not_ended, Option, Position, position_after, position_past, Previous, previous_by, refl, sequence, settled, Site, Some, Step, taken, Tok, toks, true, ℕ, ◌++◌, ◌-◌, ◌∷◌, ◌≡◌, ◌≤◌, entries_past, takes_pair, begun_inside, begun_outside, or_true}
+pub use Rattle.proof_loads.proofs.HasRows.Steps.{Line, at, ended, has_tokens, read_end, Reads, site_of, step, step_of, Steps}
 pub use Rattle.proof_loads.proofs.Nul.{both, HasNone, of_class, quoted_none, text_none}
-pub use Rattle.proof_lexers.proofs.Plain.Turns.{or_true}
 
 -- ---- columns
 
@@ -49,8 +47,7 @@ Quiet before = (f : List ℕ) → begins_free_line before f ≡ has_break f
 -- ---- entries of flow collections
 
 abbrev pub kind_of : (is_object : Bool) → FlowKind
-kind_of true = mapping
-kind_of false = sequence
+kind_of b = if b then mapping else sequence
 
 -- an entry without a single pair; one that awaits a value, and one that has had it
 abbrev pub entry_of : (is_object : Bool) → Had → Entry
@@ -64,20 +61,16 @@ filled_by b = entry_of b (if b then settled else filled)
 
 -- the brackets of an object and an array
 abbrev pub opening : (is_object : Bool) → Tok
-opening true = flow_mapping_start
-opening false = flow_sequence_start
+opening b = if b then flow_mapping_start else flow_sequence_start
 
 abbrev pub closing : (is_object : Bool) → Tok
-closing true = flow_mapping_end
-closing false = flow_sequence_end
+closing b = if b then flow_mapping_end else flow_sequence_end
 
 abbrev pub opening_bracket : (is_object : Bool) → ℕ
-opening_bracket true = 123
-opening_bracket false = 91
+opening_bracket b = if b then 123 else 91
 
 abbrev pub closing_bracket : (is_object : Bool) → ℕ
-closing_bracket true = 125
-closing_bracket false = 93
+closing_bracket b = if b then 125 else 93
 
 -- ---- what is read
 

@@ -1,10 +1,8 @@
 -- Rows from an account on, given from their last step to their first. A text that has a row has the row's tokens by the scanner's model.
-use Rattle.proof_loads.proofs.TokensCommon.{[], Account, account_past, another, ap, append_assoc, begins_free_line, Bool, Colon, ends_with_stream, Entry, false, Fault, first_account, first_position, free, has_no_nul, HasTokens, HasToks, is_in_flow, is_renewed, is_separation, is_waiting, IsRefused, IsRowFrom, IsShown, line_past_separation, List, map-append, may_stand, not_refused, on_one_line, one_list, past_piece, Position, position_after, Previous, put, refl, Site, site_at, Some, spelled, Step, stream_position, subst, sym, Tok, Token, tokens_before, tokens_from, tokens_of_row, toks, true, up_to_nul, ℕ, ◌++◌, ◌∙◌, ◌∷◌, ◌≡◌}
-use Rattle.defs_token.specs.Key.{Line}
+use Rattle.proof_loads.proofs.Common.{[], Account, account_past, another, ap, append_assoc, begins_free_line, Bool, Colon, ends_with_stream, Entry, false, Fault, first_account, first_position, free, has_no_nul, HasTokens, HasToks, is_in_flow, is_renewed, is_separation, is_waiting, IsRefused, IsRowFrom, IsShown, line_past_separation, List, map-append, may_stand, not_refused, on_one_line, one_list, past_piece, Position, position_after, Previous, put, refl, Site, site_at, Some, spelled, Step, stream_position, subst, sym, Tok, Token, tokens_before, tokens_from, tokens_of_row, toks, true, up_to_nul, ℕ, ◌++◌, ◌∙◌, ◌∷◌, ◌≡◌, clean_up_to_end, texts_with_a_row_are_read, map}
+pub use Rattle.defs_token.specs.Key.{Line}
 use Rattle.proof_loads.proofs.Nul.{HasNone, both, whole}
 use Rattle.defs_token.specs.Step.{Row}
-use Rattle.proof_row.proofs.Pieces.{clean_up_to_end}
-use Rattle.proof_scanner.proofs.Complete.{texts_with_a_row_are_read}
 
 -- From an account on a text has a row, with these tokens.
 pub record Reads (a : Account) (text : List ℕ) (tokens : List Tok) : Type 0 where
@@ -38,19 +36,17 @@ pub record Steps (a : Account) (w : Step) (next : List ℕ) (b : Account) (first
 
 -- a step before a text that is read from the account after it
 pub step : {a b : Account} (w : Step) (next : List ℕ) {first tokens : List Tok} → Steps a w next b first → Reads b next tokens → Reads a (w.separation ++ (w.piece ++ next)) (first ++ (w.shown ∷ tokens))
-step {a} {b} w next {first} {tokens} s z = by (subst (λ n. Steps a w n b first) (sym z.is_text) s)
-  where
-    by : Steps a w (spelled z.steps z.last) b first → Reads a (w.separation ++ (w.piece ++ next)) (first ++ (w.shown ∷ tokens))
-    by s =
-        let past : account_past a w (spelled z.steps z.last) ≡ Some b = rw s.stands s.leads in
-        record {
-          steps = w ∷ z.steps;
-          last = z.last;
-          is_text = ap (λ n. w.separation ++ (w.piece ++ n)) z.is_text;
-          is_row = ((s.is_separated, s.is_shown), subst (λ o. IsRowFrom o z.steps z.last) (sym past) z.is_row);
-          are_tokens = rw (past, map-append, map-append, s.begins, z.are_tokens) (append_assoc first (w.shown ∷ []) tokens);
-          none = both w.separation (w.piece ++ next) s.none.0 (both w.piece next s.none.1 z.none);
-        }
+step {a} {b} w next {first} {tokens} s z =
+    let h : Steps a w (spelled z.steps z.last) b first = subst (λ n. Steps a w n b first) (sym z.is_text) s in
+    let past : account_past a w (spelled z.steps z.last) ≡ Some b = rw h.stands h.leads in
+    record {
+      steps = w ∷ z.steps;
+      last = z.last;
+      is_text = ap (λ n. w.separation ++ (w.piece ++ n)) z.is_text;
+      is_row = ((h.is_separated, h.is_shown), subst (λ o. IsRowFrom o z.steps z.last) (sym past) z.is_row);
+      are_tokens = rw (past, map-append, map-append, h.begins, z.are_tokens) (append_assoc first (w.shown ∷ []) tokens);
+      none = both w.separation (w.piece ++ next) h.none.0 (both w.piece next h.none.1 z.none);
+    }
 
 pub has_tokens : (text : List ℕ) (tokens : List Tok) → Reads first_account text tokens → HasToks text (Tok.stream_start ∷ tokens)
 has_tokens text tokens z =
@@ -60,8 +56,7 @@ has_tokens text tokens z =
 
 -- the ends of block collections, before other tokens
 abbrev pub ended : List ℕ → List Tok → List Tok
-ended [] o = o
-ended (n ∷ bs) o = Tok.block_end ∷ ended bs o
+ended bs o = map (λ n. Tok.block_end) bs ++ o
 
 -- the end of a text
 pub read_end : (p : Position) (bs : List ℕ) (awaits : Bool) (before : Previous) (l : Line) (last : List ℕ) → is_waiting l ≡ false → is_separation false last [] ≡ true → HasNone last → Reads (at p bs awaits before l []) last (ended bs (Tok.stream_end ∷ []))

@@ -1,5 +1,6 @@
 -- Bodies of flow scalars on one line, and their values: strings of JSON texts, and texts in quotes as layouts write them.
-use Rattle.proof_loads.proofs.TokensCommon.{[], and_parts, ap, append_assoc, are_pieces, arith, body_value, Bool, character_of, content, digit_value, double, double_quoted_element, double_quoted_value, doubled, Element, elements, eqb-true, escape, escaped_code, false, flat_map, four_digits, further_lines_stand, has_document_marker, has_no_break, hexadecimal_digit, if◌then◌else◌, is_blank, is_break, is_character_code, is_digit, is_hex_digit, is_line_character, is_nul, is_piece, is_surrogate, is_unescaped, IsLineText, itself, letter_of, List, list_all, ltb-true, nat_lt, nat_tests, not, not-true, numeric_escape, or_parts, Option, Piece, plain_element, quote_of, quoted_lines_fit, Quotes, refl, short, Short, single, single_quoted_element, single_quoted_value, Some, spell_pieces, spell_string, Spelled, style_of, sym, Tok, true, unescaped, unicode, value_by, without_last, written_character, written_escapes, ℕ, ◌%◌, ◌*◌, ◌++◌, ◌+◌, ◌/◌, ◌<◌, ◌==◌, ◌||◌, ◌∙◌, ◌∷◌, ◌≡◌}
+use Rattle.proof_loads.proofs.Common.{[], and_parts, ap, append_assoc, are_pieces, arith, body_value, Bool, character_of, content, digit_value, double, double_quoted_element, double_quoted_value, doubled, Element, elements, eqb-true, escape, escaped_code, false, flat_map, four_digits, further_lines_stand, has_document_marker, has_no_break, hexadecimal_digit, if◌then◌else◌, is_blank, is_break, is_character_code, is_digit, is_hex_digit, is_line_character, is_nul, is_piece, is_surrogate, is_unescaped, IsLineText, itself, letter_of, List, list_all, ltb-true, nat_lt, nat_tests, not, not-true, numeric_escape, or_parts, Option, Piece, plain_element, quote_of, quoted_lines_fit, Quotes, refl, short, Short, single, single_quoted_element, single_quoted_value, Some, spell_pieces, spell_string, Spelled, style_of, sym, Tok, true, unescaped, unicode, value_by, without_last, written_character, written_escapes, ℕ, ◌%◌, ◌*◌, ◌++◌, ◌+◌, ◌/◌, ◌<◌, ◌==◌, ◌||◌, ◌∙◌, ◌∷◌, ◌≡◌}
+use Rattle.proof_loads.proofs.Tests.{by_test}
 use Rattle.defs_text.specs.FlowScalar.{blank, lines_of, last_line, text_of}
 use Rattle.proof_loads.proofs.Nul.{HasNone, quoted_none}
 
@@ -21,11 +22,9 @@ content_goes x z are no_break = record { all = content x ∷ z.all; are = are; i
 -- a character that stands for itself, before a body
 pub plain_step : (at : ℕ → List ℕ → Option Spelled) (c : ℕ) (body text : List ℕ) → at c body ≡ plain_element c body → is_break c ≡ false → IsOneLine at body text → IsOneLine at (c ∷ body) (c ∷ text)
 unfolding plain_element
-plain_step at c body text e no_break z = by (is_blank c) refl
-  where
-    by : (b : Bool) → is_blank c ≡ b → IsOneLine at (c ∷ body) (c ∷ text)
-    by true h = record { all = blank c ∷ z.all; are = rw (e, no_break, h, z.are) refl; in_line = rw (z.in_line) refl; text_is = rw (z.text_is) refl; no_break = rw no_break (z.no_break) }
-    by false h = content_goes c z (rw (e, no_break, h, z.are) refl) (rw no_break (z.no_break))
+plain_step at c body text e no_break z = by_test (is_blank c)
+    (λ h. record { all = blank c ∷ z.all; are = rw (e, no_break, h, z.are) refl; in_line = rw (z.in_line) refl; text_is = rw (z.text_is) refl; no_break = rw no_break (z.no_break) })
+    (λ h. content_goes c z (rw (e, no_break, h, z.are) refl) (rw no_break (z.no_break)))
 
 no_marker : (body : List ℕ) → has_no_break body ≡ true → has_document_marker body ≡ false
 no_marker [] h = refl
@@ -154,21 +153,20 @@ coded c low =
 named : (l x c : ℕ) → (c == x) ≡ true → is_break l ≡ false → ((body : List ℕ) → escape (l ∷ body) ≡ Some (record { element = content x; further = 1 })) → Goes double (92 ∷ l ∷ []) c
 named l x c e no_break is = rw (eqb-true c x e) (named_goes l x no_break is)
 
-if_goes : (b : Bool) (x y : List ℕ) (c : ℕ) → (b ≡ true → Goes double x c) → (b ≡ false → Goes double y c) → Goes double (if b then x else y) c
-if_goes true x y c f g = f refl
-if_goes false x y c f g = g refl
+if_goes : (quotes : Quotes) (b : Bool) (x y : List ℕ) (c : ℕ) → (b ≡ true → Goes quotes x c) → (b ≡ false → Goes quotes y c) → Goes quotes (if b then x else y) c
+if_goes quotes b x y c f g = by_test b (λ e. rw e (f e)) (λ e. rw e (g e))
 
 character_goes : (c : ℕ) → Goes double (written_character c) c
 unfolding written_character is_break escape is_nul
 character_goes c =
-    if_goes (c == 34) _ _ c (λ e. named 34 34 c e refl (λ body. refl)) (λ quote.
-    if_goes (c == 92) _ _ c (λ e. named 92 92 c e refl (λ body. refl)) (λ backslash.
-    if_goes (c == 8) _ _ c (λ e. named 98 8 c e refl (λ body. refl)) (λ e8.
-    if_goes (c == 9) _ _ c (λ e. named 116 9 c e refl (λ body. refl)) (λ e9.
-    if_goes (c == 10) _ _ c (λ e. named 110 10 c e refl (λ body. refl)) (λ e10.
-    if_goes (c == 12) _ _ c (λ e. named 102 12 c e refl (λ body. refl)) (λ e12.
-    if_goes (c == 13) _ _ c (λ e. named 114 13 c e refl (λ body. refl)) (λ e13.
-    if_goes (nat_lt c 32 || (c == 127)) _ _ c (λ e. coded c (grind (arith, nat_tests)))
+    if_goes double (c == 34) _ _ c (λ e. named 34 34 c e refl (λ body. refl)) (λ quote.
+    if_goes double (c == 92) _ _ c (λ e. named 92 92 c e refl (λ body. refl)) (λ backslash.
+    if_goes double (c == 8) _ _ c (λ e. named 98 8 c e refl (λ body. refl)) (λ e8.
+    if_goes double (c == 9) _ _ c (λ e. named 116 9 c e refl (λ body. refl)) (λ e9.
+    if_goes double (c == 10) _ _ c (λ e. named 110 10 c e refl (λ body. refl)) (λ e10.
+    if_goes double (c == 12) _ _ c (λ e. named 102 12 c e refl (λ body. refl)) (λ e12.
+    if_goes double (c == 13) _ _ c (λ e. named 114 13 c e refl (λ body. refl)) (λ e13.
+    if_goes double (nat_lt c 32 || (c == 127)) _ _ c (λ e. coded c (grind (arith, nat_tests)))
     (λ high. itself_goes c (or_parts (nat_lt c 32) (c == 127) high).0 quote backslash))))))))
 
 pub double_is : (w : List ℕ) → IsBody double (written_escapes w) w
@@ -183,11 +181,8 @@ plain_goes c h quote body text z = plain_step single_quoted_element c body text 
 
 doubled_goes : (c : ℕ) → is_line_character c ≡ true → Goes single (doubled c) c
 unfolding single_quoted_element is_nul is_break
-doubled_goes c h = by (c == 39) refl
-  where
-    by : (b : Bool) → (c == 39) ≡ b → Goes single (if b then 39 ∷ 39 ∷ [] else c ∷ []) c
-    by true e = rw (eqb-true c 39 e) (λ body text z. content_goes 39 z (rw (z.are) refl) z.no_break)
-    by false e = plain_goes c h e
+doubled_goes c h =
+    if_goes single (c == 39) _ _ c (λ e. rw (eqb-true c 39 e) (λ body text z. content_goes 39 z (rw (z.are) refl) z.no_break)) (plain_goes c h)
 
 pub single_is : (w : List ℕ) → IsLineText w → IsBody single (flat_map doubled w) w
 single_is [] h = nothing

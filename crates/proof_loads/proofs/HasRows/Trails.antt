@@ -1,10 +1,10 @@
 -- What stands after a value of a layout: gaps and comments as separations, and how the next piece is read.
-use Rattle.proof_loads.proofs.TokensCommon.{[], after_blank, another, ap, append_assoc, are_marks, arith, Bool, codes, comment, Comment, comment_line, empty_line, false, free, GapLine, has_break, has_tab_within, innermost, inside, is_blank, is_blank_or_end, is_blanks_and_comment, is_break, is_document_marker, is_line_character, is_nul, is_on_line, is_separation, is_value_indicator, is_waiting, IsComment, IsGap, IsLineText, last_line, leading, least_column, List, nat_le, nat_tests, next_line, no_comment, not, on_line, Option, Position, position_after, position_past, Previous, refl, Some, spaces, spell_comment, spell_ending, spell_gap, split, Stand, stops, suc, sym, Tok, true, zero, ℕ, ◌&&◌, ◌++◌, ◌+◌, ◌<◌, ◌==◌, ◌||◌, ◌∙◌, ◌∷◌, ◌≡◌, ◌≤◌}
+use Rattle.proof_loads.proofs.Common.{[], after_blank, another, ap, append_assoc, are_marks, arith, Bool, codes, comment, Comment, comment_line, empty_line, false, free, GapLine, has_break, has_tab_within, innermost, inside, is_blank, is_blank_or_end, is_blanks_and_comment, is_break, is_document_marker, is_line_character, is_nul, is_on_line, is_separation, is_value_indicator, is_waiting, IsComment, IsGap, IsLineText, last_line, leading, least_column, List, nat_le, nat_tests, next_line, no_comment, not, on_line, Option, Position, position_after, position_past, Previous, refl, Some, spaces, spell_comment, spell_ending, spell_gap, split, Stand, stops, suc, sym, Tok, true, zero, ℕ, ◌&&◌, ◌++◌, ◌+◌, ◌<◌, ◌==◌, ◌||◌, ◌∙◌, ◌∷◌, ◌≡◌, ◌≤◌, map, map-append, or_true}
 use Rattle.defs_token.specs.Plain.{is_deeper}
 use Rattle.proof_loads.proofs.HasRows.Json.{Ends}
-use Rattle.proof_loads.proofs.HasRows.Nodes.{or_true, Parts, Quiet, Then, Reads, at, ended, HasNone, both, text_none, Line}
+use Rattle.proof_loads.proofs.HasRows.Nodes.{Parts, Quiet, Then, Reads, at, ended, HasNone, both, text_none, Line}
 use Rattle.proof_scanner.proofs.Sound.LastLines.{break_append, last_first}
-pub use Rattle.proof_loads.proofs.HasRows.Blocks.{AreAbove, colon_reads, Comes, dash_reads, ended_append, ends_are, Here, IsScalarPiece, key_reads, Marked, question_reads, ShownAt, stood}
+pub use Rattle.proof_loads.proofs.HasRows.Blocks.{AreAbove, colon_reads, Comes, dash_reads, ends_are, Here, IsScalarPiece, key_reads, Marked, question_reads, ShownAt, stood}
 pub use Rattle.proof_loads.proofs.BlockLines.{spaces_are}
 
 -- a gap, and at a column of the next line the rest; a gap, and the `---` of a next document with the rest; or a gap up to the end
@@ -56,12 +56,10 @@ After t bs tokens =
 -- after a collection that ends there too
 pub one_more : (t : Trail) (n : ℕ) (bs : List ℕ) (tokens : List Tok) → EndsAt t n → After t bs tokens → After t (n ∷ bs) (Tok.block_end ∷ tokens)
 one_more t n bs tokens ends rest extra p awaits before l text all arrives =
-    rw (← append_assoc extra (n ∷ []) bs, ← same extra) (rest (extra ++ n ∷ []) p awaits before l text (more t extra ends all) arrives)
+    let same : ended (extra ++ n ∷ []) tokens ≡ ended extra (Tok.block_end ∷ tokens) =
+    rw map-append (append_assoc (map (λ m. Tok.block_end) extra) (Tok.block_end ∷ []) tokens) in
+    rw (← append_assoc extra (n ∷ []) bs, ← same) (rest (extra ++ n ∷ []) p awaits before l text (more t extra ends all) arrives)
   where
-    same : (extra : List ℕ) → ended (extra ++ n ∷ []) tokens ≡ ended extra (Tok.block_end ∷ tokens)
-    same [] = refl
-    same (m ∷ extra) = ap (λ o. Tok.block_end ∷ o) (same extra)
-
     more : (t : Trail) (extra : List ℕ) → EndsAt t n → AllEnd t extra → AllEnd t (extra ++ n ∷ [])
     more t [] ends all = grind arith
     more t (m ∷ extra) ends all = grind (arith, more t extra)

@@ -1,19 +1,16 @@
 -- Layouts have rows: scalars, values, arrays and hashes, roots, and documents one after the other. So has a text of one quoted scalar.
-use Rattle.proof_loads.proofs.TokensCommon.{[], act_of, all_field_tokens, all_of, Anchor, anchors_after, anchors_after_field, and_false, another, ap, append-nil, append_assoc, are_marks, AreDocuments, AreEmptyLines, AreEntries, AreFields, arith, awaits_at, awaits_past, before_by, before_past, begins_with, begins_with_space_or_break, begun, begun_by, Block, block_tokens, BlockStyle, body_value, Bool, codes, colon_may_precede, Comment, dash_may_precede, Documents, documents_tokens, double, double_quoted, double_quoted_element, doubled, Element, elements, empty_hash, empty_line, Entries, entry_tokens, false, Field, field_tokens, Fields, first_account, first_position, flat_map, folded_header, free, further_lines_stand, GapLine, gives_node, goes_on_with_name, has_no_break, has_tab_before_piece, inl, Inline, inline_tokens, innermost, inr, is_adjacent, is_anchor_name, is_ascii_alphanumeric, is_at_gap, is_blank, is_blank_or_end, is_break, is_flow, is_name, is_nul, is_one_of, is_waiting, IsAfterRoot, IsBlock, IsComment, IsField, IsGap, IsInline, IsLayout, IsLineText, IsRoot, IsScalar, IsValue, Layout, leading, least_column, least_for, length, Lines, lines_fit, List, list_all, marked, may_precede, MayFollowScalarKey, nat_tests, next_line, no_comment, None, Option, parts, plain, Position, position_after, Previous, previous_by, quote_of, quoted, quoted_lines_fit, quoted_may_end, Quotes, refl, replicate, Root, root_tokens, Scalar, scalar, scalar_token, single, single_quoted, single_quoted_element, Site, Some, spaces, spell_block, spell_comment, spell_documents, spell_ending, spell_entries, spell_field, spell_fields, spell_gap, spell_inline, spell_lines, spell_literal, spell_root, spell_scalar, spell_value, Spelled, spelling, style_of, subst, suc, taken, Tok, true, Value, value_tokens, written_escapes, zero, ℕ, ◌++◌, ◌+◌, ◌-◌, ◌∷◌, ◌≡◌, ◌≤◌, ◌⊎◌}
-use Rattle.proof_loads.proofs.PlainTexts.{spelt_plain, IsPlainText, first_space}
-use Rattle.proof_loads.proofs.HasRows.Nodes.{none_ends, deep_piece, Parts, Quiet, From, node_reads, outside, or_true, Shown, Reads, at, step_of, Steps, step, ended, read_end, HasNone, of_class, quoted_none, Line}
-use Rattle.proof_loads.proofs.HasRows.Json.{column_is, empty_reads, value_reads, plain_piece, plain_char, first_char}
+use Rattle.proof_loads.proofs.Common.{[], all_field_tokens, all_of, Anchor, anchors_after, anchors_after_field, and_false, another, ap, append-nil, append_assoc, are_marks, AreDocuments, AreEmptyLines, AreEntries, AreFields, arith, awaits_at, awaits_past, before_by, before_past, begins_with, begins_with_space_or_break, begun, begun_by, Block, block_tokens, BlockStyle, body_value, Bool, codes, colon_may_precede, Comment, dash_may_precede, Documents, documents_tokens, double, double_quoted, double_quoted_element, doubled, Element, elements, empty_hash, empty_line, Entries, entry_tokens, false, Field, field_tokens, Fields, first_account, first_position, flat_map, folded_header, free, further_lines_stand, GapLine, goes_on_with_name, has_no_break, has_tab_before_piece, inl, Inline, inline_tokens, innermost, inr, is_adjacent, is_anchor_name, is_ascii_alphanumeric, is_at_gap, is_blank, is_blank_or_end, is_break, is_flow, is_name, is_nul, is_one_of, is_waiting, IsAfterRoot, IsBlock, IsComment, IsField, IsGap, IsInline, IsLayout, IsLineText, IsRoot, IsScalar, IsValue, Layout, leading, least_column, least_for, length, Lines, lines_fit, List, list_all, marked, MayFollowScalarKey, nat_tests, next_line, no_comment, None, Option, parts, plain, Position, position_after, Previous, previous_by, quote_of, quoted, quoted_lines_fit, Quotes, refl, replicate, Root, root_tokens, Scalar, scalar, scalar_token, single, single_quoted, single_quoted_element, Site, Some, spaces, spell_block, spell_comment, spell_documents, spell_ending, spell_entries, spell_field, spell_fields, spell_gap, spell_inline, spell_lines, spell_literal, spell_root, spell_scalar, spell_value, Spelled, spelling, style_of, subst, suc, taken, Tok, true, Value, value_tokens, written_escapes, zero, ℕ, ◌++◌, ◌+◌, ◌-◌, ◌∷◌, ◌≡◌, ◌≤◌, ◌⊎◌, map, or_true}
+use Rattle.proof_loads.proofs.PlainTexts.{spelt_plain, IsPlainText, first_char}
+use Rattle.proof_loads.proofs.HasRows.Nodes.{none_ends, deep_piece, Parts, From, node_reads, outside, Reads, at, step_of, Steps, step, ended, read_end, HasNone, of_class, quoted_none, Line}
+use Rattle.proof_loads.proofs.HasRows.Json.{column_is, empty_reads, value_reads, plain_piece, plain_char}
 use Rattle.proof_loads.proofs.HasRows.Strings.{IsBody, quoted_piece, double_is, single_is, between, in_quotes}
-use Rattle.proof_loads.proofs.HasRows.Trails.{Trail, end, trail_text, Rest, arrive, trail_ends, in_line, here_after, spaced, here_beside, next, BeginsContent, content_first, IsTrail, EndsAt, After, marker, marker_text, here_gap, Here, Comes, Marked, ShownAt, dash_reads, question_reads, colon_reads, IsScalarPiece, key_reads, ends_are, ended_append}
+use Rattle.proof_loads.proofs.HasRows.Trails.{one_more, Trail, end, trail_text, Rest, arrive, trail_ends, in_line, here_after, spaced, here_beside, next, BeginsContent, content_first, IsTrail, EndsAt, After, marker, marker_text, here_gap, Here, Comes, Marked, ShownAt, dash_reads, question_reads, colon_reads, IsScalarPiece, key_reads, ends_are}
 use Rattle.defs_layout.specs.Json
 use Rattle.defs_token.specs.Piece as piece
-use Rattle.defs_layout.specs.Layout.{empty_array, spell}
-use Rattle.defs_layout.specs.Layout as layout
+use Rattle.defs_layout.specs.Layout.{empty_array, spell, spell_mark}
 use Rattle.proof_loads.proofs.JsonTokens.Spaces.{json_spaces}
-use Rattle.proof_loads.proofs.HasRows.Trails
 use Rattle.proof_loads.proofs.BlockLines.{strips_of, headed_literal, literal_lines, root_literal_lines, block_text, folded_lines}
 use Rattle.proof_loads.proofs.HasRows.BlockScalars.{nested_follows, block_is_read, at_text}
-use Rattle.defs_text.specs.FlowScalar as flow
 use Rattle.defs_layout.specs.QuotedText as laid
 
 -- ---- pieces
@@ -27,7 +24,12 @@ piece_of (single_quoted text) = 39 ∷ (flat_map doubled text ++ 39 ∷ [])
 pub piece_spelt : (s : Scalar) (r : List ℕ) → spell_scalar s r ≡ piece_of s ++ r
 piece_spelt s r = grind (arith, append_assoc)
 
--- a body between quotes
+-- a body between quotes is what its token shows
+quotes_shown : (quotes : Quotes) (body text : List ℕ) → body_value quotes body ≡ Some text
+    → (bs : List ℕ) (key : Bool) (r : List ℕ) → begins_with 39 r ≡ false → ShownAt bs (in_quotes quotes body) (Tok.scalar (style_of quotes) text) key r
+quotes_shown double body text value bs key r quote all p awaits before l f stay = (refl, ((body, refl, value), refl))
+quotes_shown single body text value bs key r quote all p awaits before l f stay = (refl, ((body, refl, value, quote), refl))
+
 quotes_piece : (quotes : Quotes) (body text : List ℕ) → IsBody quotes body text
     → IsScalarPiece (in_quotes quotes body) (Tok.scalar (style_of quotes) text)
 quotes_piece quotes body text one =
@@ -38,13 +40,8 @@ quotes_piece quotes body text one =
       none = z.none;
       further = z.further;
       precedes = λ bs r ends. grind arith;
-      shown = λ bs key r stop quote. shown quotes z.value bs key r quote;
+      shown = λ bs key r stop quote. quotes_shown quotes body text z.value bs key r quote;
     }
-  where
-    shown : (quotes : Quotes) → body_value quotes body ≡ Some text → (bs : List ℕ) (key : Bool) (r : List ℕ) → begins_with 39 r ≡ false
-        → ShownAt bs (in_quotes quotes body) (Tok.scalar (style_of quotes) text) key r
-    shown double value bs key r quote all p awaits before l f stay = (refl, ((body, refl, value), refl))
-    shown single value bs key r quote all p awaits before l f stay = (refl, ((body, refl, value, quote), refl))
 
 pub scalar_piece : (s : Scalar) → IsScalar s → IsScalarPiece (piece_of s) (scalar_token s)
 scalar_piece (plain t) h =
@@ -136,7 +133,7 @@ opens_below k g n a h e f = grind (arith, nat_tests, has_tab_before_piece, next_
 -- ---- what stands at a column
 
 plain_begins : (w r : List ℕ) → IsPlainText w → BeginsContent (w ++ r)
-plain_begins w r h = grind (arith, nat_tests, plain_char, first_char, content_first, first_space)
+plain_begins w r h = grind (arith, nat_tests, plain_char, first_char, content_first)
 
 scalar_begins : (s : Scalar) (r : List ℕ) → IsScalar s → BeginsContent (spell_scalar s r)
 unfolding is_blank is_break is_nul
@@ -165,7 +162,7 @@ unfolding is_blank is_break is_nul
 value_opens c a (Value.beside more i k) r h = opens_beside more _ (content_tabless (spell_inline i (spell_comment k r)) (grind (arith, scalar_begins, content_first)))
 value_opens c a (Value.folded more column strips text ls) r h = let folded_begins : BeginsContent (folded_header strips ++ _) = grind (arith, content_first) in opens_beside more _ (content_tabless _ folded_begins)
 value_opens c a (Value.compact more b) r h = opens_beside more _ (content_tabless _ (block_begins (c + 2 + more) a b r h))
-value_opens c a (layout.below k g column b) r h = opens_below k g column _ h.0 h.1 (block_begins column a b r h.3)
+value_opens c a (Value.below k g column b) r h = opens_below k g column _ h.0 h.1 (block_begins column a b r h.3)
 value_opens c a (Value.at_key k g es) r h = opens_below k g c _ h.0 h.1 (entries_begin c es r)
 value_opens c a (Value.json more v) r h = opens_beside more _ (content_tabless (Json.spell v r) (grind (arith, content_first)))
 value_opens c a (Value.literal more column text ls) r h = opens_beside more _ (content_tabless (spell_literal column text ls r) (grind (arith, content_first)))
@@ -192,7 +189,7 @@ ReadsIn c spells gives =
 
 collection_reads : (c : ℕ) (spells : List ℕ → List ℕ) (collection : Tok) (gives : List Tok → List Tok) → Begins c spells collection gives → ReadsIn c spells (λ o. collection ∷ gives (Tok.block_end ∷ o))
 collection_reads c spells collection gives one bs t tokens deep trail ends rest p awaits before l text here =
-    one bs t (Tok.block_end ∷ tokens) (record { trail = trail; low = grind arith; after = Trails.one_more t c bs tokens ends rest }) false [] p awaits before l text tt (λ e. deep) here
+    one bs t (Tok.block_end ∷ tokens) (record { trail = trail; low = grind arith; after = one_more t c bs tokens ends rest }) false [] p awaits before l text tt (λ e. deep) here
 
 -- what comes at the column of a collection that is open, after an entry of it
 comes_after : (c : ℕ) (g : List GapLine) (bs r : List ℕ) (collection : Tok) (tokens : List Tok) → Comes c bs r collection tokens → After (next g c r) (c ∷ bs) tokens
@@ -241,11 +238,11 @@ mutual
   read_value : (c : ℕ) (a : List Anchor) (v : Value) → IsValue c a v → ReadsValue c v
   read_value c a (Value.beside more v k) h bs t tokens rest p awaits l fits line deep = inline_reads k t (c ∷ bs) tokens h.1 rest v h.0 _ (spaced (c ∷ bs) more _) p awaits l line deep
   read_value c a (Value.literal more column text ls) h bs t tokens rest p awaits l fits line deep =
-      block_is_read BlockStyle.literal (suc c) column (strips_of text) text ls h.0 (literal_lines c column text ls h.0 h.1 h.2) (c ∷ bs) refl tokens _ t (subst (Parts (c ∷ bs) _) (headed_literal text (spell_lines column ls (trail_text t))) (spaced (c ∷ bs) more _))
+      block_is_read _ (suc c) _ _ _ _ h.0 (literal_lines c column text ls h.0 h.1 h.2) (c ∷ bs) refl tokens _ t (subst (Parts (c ∷ bs) _) (headed_literal text (spell_lines column ls (trail_text t))) (spaced (c ∷ bs) more _))
       rest.trail (nested_follows c column bs t h.0 rest.trail rest.low) rest.after p awaits l line deep
   read_value c a (Value.folded more column strips text ls) h bs t tokens rest p awaits l fits line deep =
       let headed : folded_header strips ++ (spell_lines column ls (trail_text t)) ≡ block_text BlockStyle.folded strips (spell_lines column ls (trail_text t)) = grind arith in
-      block_is_read BlockStyle.folded (suc c) column strips text ls h.0 (folded_lines c column strips text ls h.0 h.1) (c ∷ bs) refl tokens _ t (subst (Parts (c ∷ bs) _) headed (spaced (c ∷ bs) more _))
+      block_is_read _ (suc c) _ _ _ _ h.0 (folded_lines c column strips text ls h.0 h.1) (c ∷ bs) refl tokens _ t (subst (Parts (c ∷ bs) _) headed (spaced (c ∷ bs) more _))
       rest.trail (nested_follows c column bs t h.0 rest.trail rest.low) rest.after p awaits l line deep
   read_value c a (Value.json more v) h bs t tokens rest p awaits l fits line deep =
       value_reads (c ∷ bs) v h.1 (λ e. (json_spaces v [] h.3).0) outside _ (trail_text t) tokens (spaced (c ∷ bs) more _) (trail_ends no_comment t (c ∷ bs) rest.trail rest.low) (let few = h.2 in omega (arith, few))
@@ -253,7 +250,7 @@ mutual
   read_value c a (Value.compact more b) h bs t tokens rest p awaits l (inl (col, is_free)) line deep =
       rw is_free (block_reads (c + 2 + more) a b h (c ∷ bs) t tokens (omega arith) rest.trail (let low = rest.low in grind arith) rest.after p awaits another free _ (here_beside (c + 2 + more) more _ p (omega (arith, col))))
   read_value c a (Value.compact more b) h bs t tokens rest p awaits l (inr none) line deep = absurd none
-  read_value c a (layout.below k g n b) h bs t tokens rest p awaits l fits line deep =
+  read_value c a (Value.below k g n b) h bs t tokens rest p awaits l fits line deep =
       block_reads n a b h.3 (c ∷ bs) t tokens (omega (arith, h.2)) rest.trail (let low = rest.low in grind arith) rest.after p awaits another l _ (here_after k g n _ p another l h.0 h.1 (λ f. refl) line)
   read_value c a (Value.at_key k g es) h bs t tokens rest p awaits l fits line deep = entries_read c a es h.2 bs t tokens rest true [] p awaits another l _ tt (λ e. cc) (here_after k g c _ p another l h.0 h.1 (λ f. refl) line)
   read_value c a (Value.anchored more name v) h bs t tokens rest p awaits l fits line deep =
@@ -324,7 +321,7 @@ root_reads (Root.block column block) is front g gap t ends tokens p awaits l lin
 root_reads (Root.inline i) is front g gap t ends tokens p awaits l line here rest =
     inline_reads no_comment t [] tokens tt (record { trail = grind (arith, empty_gap); low = grind arith; after = rest }) i is _ (root_parts (here g 0 _ gap)) p awaits l line (omega arith)
 root_reads (Root.literal text ls) is front g gap t ends tokens p awaits l line here rest =
-    block_is_read BlockStyle.literal 0 0 (strips_of text) text ls refl (root_literal_lines text ls is.0 is.1) [] refl tokens _ t (subst (Parts [] _) (headed_literal text (spell_lines 0 ls (trail_text t))) (root_parts (here g 0 _ gap)))
+    block_is_read _ 0 _ _ _ _ refl (root_literal_lines text ls is.0 is.1) [] refl tokens _ t (subst (Parts [] _) (headed_literal text (spell_lines 0 ls (trail_text t))) (root_parts (here g 0 _ gap)))
     (grind (arith, empty_gap)) (grind (arith, at_text)) rest p awaits l line (omega arith)
 
 -- ---- markers
@@ -339,7 +336,7 @@ marker_reads r tokens rest extra p awaits before l text here =
     let all_left : (length extra) - 0 ≡ (length extra) = omega arith in
     let first : Steps (at p extra awaits before l []) (step_of here.by w Tok.document_start false) next (at (position_after there w next) [] (awaits_past false Tok.document_start [] (awaits_at false there.col extra awaits) next) another taken []) (ended extra []) =
     grind (arith, or_true, and_false, ends_are) in
-    rw (append-nil, here.is, ← ended_append extra [] (Tok.document_start ∷ tokens)) (step (step_of here.by w Tok.document_start false) next first (rest _ _))
+    rw (append-nil, here.is, ← append_assoc (map (λ n. Tok.block_end) extra) [] (Tok.document_start ∷ tokens)) (step (step_of here.by w Tok.document_start false) next first (rest _ _))
 
 -- ---- documents
 
@@ -358,14 +355,14 @@ documents_read (Documents.document d g ds) are front p awaits l line here =
 pub layout_reads : (w : Layout) → IsLayout w → Reads first_account (spell w []) (marked w.is_marked (documents_tokens w.documents))
 layout_reads w is = by w.is_marked
   where
-    by : (b : Bool) → Reads first_account (layout.spell_mark b (spell_documents w.documents [])) (marked b (documents_tokens w.documents))
+    by : (b : Bool) → Reads first_account (spell_mark b (spell_documents w.documents [])) (marked b (documents_tokens w.documents))
     by true = marker_reads (spell_documents w.documents []) (documents_tokens w.documents) (λ p waits. documents_read w.documents is (λ a. 10 ∷ a) p waits taken refl (front_after p)) [] first_position false another free _ (here_gap [] 0 _ first_position another tt refl)
     by false = documents_read w.documents is (λ a. a) first_position false free refl (λ g n r gap. here_gap g n r first_position another gap refl)
 
 -- outside all collections no line is refused for its column
 any_lines : (escaped : Bool) (ls : Lines) → lines_fit 0 escaped ls ≡ true
-any_lines escaped (flow.last_line l) = grind (arith, nat_tests)
-any_lines escaped (flow.line l e ls) = grind (arith, nat_tests, any_lines e ls)
+any_lines escaped (Lines.last_line l) = grind (arith, nat_tests)
+any_lines escaped (Lines.line l e ls) = grind (arith, nat_tests, any_lines e ls)
 
 fits : (at : ℕ → List ℕ → Option Spelled) (quote : ℕ) (body : List ℕ) (es : List Element) → elements at 0 body ≡ Some es → quoted_lines_fit 0 at (quote ∷ (body ++ quote ∷ [])) ≡ true
 fits at quote body es e = rw (between quote body, e) (grind (arith, any_lines))
@@ -375,28 +372,22 @@ feeds : (n : ℕ) → (g : List GapLine) × IsGap g × (spell_ending g [] ≡ re
 feeds zero = ([], tt, refl)
 feeds (suc n) = let z = feeds n in (empty_line ∷ z.0, (tt, z.1), ap (λ x. 10 ∷ x) z.2)
 
--- a scalar in quotes, by its token
-module _ (piece : List ℕ) (t : Tok) (g : List GapLine) (gap : IsGap g) where
-  abbrev after : List ℕ
-  after = spell_ending g []
-
-  alone_reads : act_of t ≡ gives_node → begun_by t ≡ [] → Quiet (previous_by t) → HasNone piece → Shown another [] [] (step_of [] piece t false) after → ((s : Site) → s.blocks ≡ [] → further_lines_stand (least_for t s) t piece ≡ true)
-      → may_precede false [] t piece after ≡ true → Reads first_account (piece ++ after) (t ∷ Tok.stream_end ∷ [])
-  alone_reads node none quiet clean shown further follows =
-      node_reads [] piece t (piece ++ after) after (Tok.stream_end ∷ []) (record { by = []; is = refl; separates = refl; tabless = λ awaits. refl; deep = λ p deep. deep; none = refl }) clean (λ p deep. omega arith) further node shown follows
-      (rw none (arrive no_comment (end g) [] (Tok.stream_end ∷ []) tt gap (end_reads g) (previous_by t) quiet)) first_position false free refl (omega arith)
+further : (quotes : Quotes) (body value : List ℕ) → body_value quotes body ≡ Some value → (s : Site) → s.blocks ≡ []
+    → further_lines_stand (least_for (Tok.scalar (style_of quotes) value) s) (Tok.scalar (style_of quotes) value) (in_quotes quotes body) ≡ true
+further single body value h s e = let z = parts true body value h in rw e (fits single_quoted_element 39 body z.all z.are)
+further double body value h s e = let z = parts false body value h in rw e (fits double_quoted_element 34 body z.all z.are)
 
 pub quoted_reads : (quotes : Quotes) (body value : List ℕ) (n : ℕ) → body_value quotes body ≡ Some value
     → Reads first_account (laid.spell (record { quotes = quotes; body = body; breaks = n })) (Tok.scalar (style_of quotes) value ∷ Tok.stream_end ∷ [])
 quoted_reads quotes body value n h =
     let f = feeds n in
-    let ends = trail_ends no_comment (end f.0) [] f.1 tt in
-    rw (← append_assoc (quote_of quotes ∷ body) (quote_of quotes ∷ []) (replicate n 10), ← f.2) (by quotes f.0 f.1 h (ends.done (in_quotes quotes body)))
-  where
-    by : (quotes : Quotes) (g : List GapLine) → IsGap g → body_value quotes body ≡ Some value → quoted_may_end false (in_quotes quotes body) (spell_ending g []) ≡ true → Reads first_account (in_quotes quotes body ++ spell_ending g []) (Tok.scalar (style_of quotes) value ∷ Tok.stream_end ∷ [])
-    by laid.single g gap h follows =
-        let z = parts true body value h in
-        alone_reads (in_quotes laid.single body) (Tok.scalar (style_of laid.single) value) g gap refl refl (λ f. refl) (quoted_none laid.single body value h) (λ p awaits l there. (refl, ((body, refl, h, no_quote no_comment (end g)), refl))) (λ s e. rw e (fits single_quoted_element 39 body z.all z.are)) follows
-    by laid.double g gap h follows =
-        let z = parts false body value h in
-        alone_reads (in_quotes laid.double body) (Tok.scalar (style_of laid.double) value) g gap refl refl (λ f. refl) (quoted_none laid.double body value h) (λ p awaits l there. (refl, ((body, refl, h), refl))) (λ s e. rw e (fits double_quoted_element 34 body z.all z.are)) follows
+    let piece = in_quotes quotes body in
+    let t = Tok.scalar (style_of quotes) value in
+    let after = spell_ending f.0 [] in
+    let none : begun_by t ≡ [] = grind arith in
+    let follows = (trail_ends no_comment (end f.0) [] f.1 tt).done piece in
+    rw (← append_assoc (quote_of quotes ∷ body) (quote_of quotes ∷ []) (replicate n 10), ← f.2)
+    (node_reads [] piece t (piece ++ after) after (Tok.stream_end ∷ []) (record { by = []; is = refl; separates = refl; tabless = λ awaits. refl; deep = λ p deep. deep; none = refl }) (quoted_none quotes body value h) (λ p deep. omega arith)
+    (further quotes body value h) (grind arith)
+    (λ p awaits l there. quotes_shown quotes body value h [] false after (no_quote no_comment (end f.0)) [] p awaits another l [] refl) (grind (arith, follows))
+    (rw none (arrive no_comment (end f.0) [] (Tok.stream_end ∷ []) tt f.1 (end_reads f.0) (previous_by t) (λ w. grind arith))) first_position false free refl (omega arith))

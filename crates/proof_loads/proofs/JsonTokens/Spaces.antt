@@ -1,5 +1,5 @@
 -- JSON values between whose parts only spaces stand: those that are written on one line without TAB.
-use Rattle.proof_loads.proofs.TokensCommon.{[], and_parts, arith, array, Blank, element, Elements, empty_array, empty_object, false_word, is_on_one_line, Json, last_element, last_member, List, list_all, member, Members, null_word, object, Piece, space, spell, spell_elements, spell_members, spell_number, spell_pieces, spell_string, true, true_word, ℕ, ◌++◌, ◌∷◌, ◌≡◌}
+use Rattle.proof_loads.proofs.Common.{[], and_parts, arith, array, Blank, element, Elements, empty_array, empty_object, is_on_one_line, Json, last_element, last_member, List, list_all, member, Members, object, Piece, space, spell, spell_elements, spell_members, spell_number, spell_pieces, spell_string, true, ℕ, ◌++◌, ◌∷◌, ◌≡◌}
 use Rattle.defs_layout.specs.JsonGap.{spell_gap}
 use Rattle.proof_loads.proofs.JsonTokens.Numbers.{number_then}
 
@@ -52,9 +52,6 @@ after_string ps r h = after_one 34 r (after_pieces ps (34 ∷ r) (after_one 34 (
 
 mutual
   pub json_spaces : (v : Json) (r : List ℕ) → OnOneLine (spell v r) → HasSpaces v × OnOneLine r
-  json_spaces false_word r h = (tt, after (102 ∷ 97 ∷ 108 ∷ 115 ∷ 101 ∷ []) r h)
-  json_spaces null_word r h = (tt, after (110 ∷ 117 ∷ 108 ∷ 108 ∷ []) r h)
-  json_spaces true_word r h = (tt, after (116 ∷ 114 ∷ 117 ∷ 101 ∷ []) r h)
   json_spaces (array g es) r h = grind (arith, gap_spaces, after_one, elements_spaces es)
   json_spaces (object g ms) r h = grind (arith, gap_spaces, after_one, members_spaces ms)
   json_spaces v r h = grind (arith, gap_spaces, after_one, after, spell_number, number_then, after_string)

@@ -1,7 +1,5 @@
 -- JSON texts and their tokens: what the theorem says of some, and what the model does at a tab that the definition leaves out.
-use Rattle.proof_loads.proofs.TokensCommon.{[], arith, At, codes, Elements, Err, exponent, false, fraction, HasToks, is_unescaped, itself, Json, number, plus, refl, scan, scan_on_literals, Short, short, Style, Tok, true, unicode, ◌∷◌, ◌≡◌}
-use Rattle.yaml_tokens.specs.declared.problem.Problem.TheVariants as problem
-use Rattle.defs_layout.specs.JsonGap as gap
+use Rattle.proof_loads.proofs.Common.{[], arith, At, codes, Elements, Err, exponent, false, fraction, HasToks, is_unescaped, itself, Json, number, plus, refl, scan, scan_on_literals, Short, short, Style, Tok, true, unicode, ◌∷◌, ◌≡◌, Blank, Problem}
 use Rattle.proof_loads.proofs.JsonTokens.Texts.{json_text_has_its_tokens}
 
 -- `["a\u0041\n", -2.5e+3]`
@@ -11,13 +9,13 @@ unfolding is_unescaped
 array = json_text_has_its_tokens
     (record {
       before = [];
-      value = Json.array [] (Elements.element (Json.string (itself 97 ∷ unicode 48 48 52 49 ∷ short Short.new_line ∷ [])) [] (gap.space ∷ [])
+      value = Json.array [] (Elements.element (Json.string (itself 97 ∷ unicode 48 48 52 49 ∷ short Short.new_line ∷ [])) [] (Blank.space ∷ [])
           (Elements.last_element (Json.number (number true (codes "2") (fraction (codes "5")) (exponent false plus (codes "3")))) []));
       after = [];
     })
     (record { before = tt; value = search; after = tt; depth = omega arith })
 
 -- a tab after a colon and a number: `{"k":` TAB `1}`
-tab_after_colon : scan 4 (codes "{\"k\":\t1}") ≡ Err (At problem.TabAfterColon (record { index = 6; line = 1; col = 6 }))
+tab_after_colon : scan 4 (codes "{\"k\":\t1}") ≡ Err (At Problem.TabAfterColon (record { index = 6; line = 1; col = 6 }))
 unfolding scan_on_literals
 tab_after_colon = refl

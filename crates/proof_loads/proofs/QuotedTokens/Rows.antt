@@ -1,6 +1,5 @@
 -- Quoted scalars as texts: what the laws say of some.
-use Rattle.proof_loads.proofs.TokensCommon.{[], are_marks, begins_with_marker, codes, double, double_quoted_element, double_quoted_value, escape, HasToks, is_blank, is_break, is_character_code, is_nul, numeric_escape, plain_element, refl, single, single_quoted_element, single_quoted_value, Style, Tok, ◌∷◌}
-use Rattle.yaml_tokens.specs.declared.problem.Problem.TheVariants as problem
+use Rattle.proof_loads.proofs.Common.{[], are_marks, begins_with_marker, codes, double, double_quoted_element, double_quoted_value, escape, HasToks, is_blank, is_break, is_character_code, is_nul, numeric_escape, plain_element, refl, single, single_quoted_element, single_quoted_value, Style, Tok, ◌∷◌, Problem}
 use Rattle.proof_lexers.specs.QuotedEnds.{IsBadEscape, unknown, no_digit, no_character}
 use Rattle.proof_loads.proofs.QuotedTokens.Tokens.{quoted_texts_have_their_tokens}
 
@@ -15,13 +14,13 @@ unfolding is_blank is_break is_nul are_marks plain_element double_quoted_element
 lines = quoted_texts_have_their_tokens _ _ (record { quotes = double; body = codes "a\n b \n\n c \\\n  d\\x41\\t"; breaks = 0 }, codes "a b\nc dA\t", refl, refl, refl)
 
 -- a letter that escapes nothing, a code with too few digits, and half a pair of UTF-16
-no_letter : IsBadEscape (codes "q\"") problem.UnknownEscape
+no_letter : IsBadEscape (codes "q\"") Problem.UnknownEscape
 unfolding is_break
 no_letter = unknown 113 (codes "\"") refl refl refl
 
-few_digits : IsBadEscape (codes "x4\"") problem.HexadecimalDigit
+few_digits : IsBadEscape (codes "x4\"") Problem.HexadecimalDigit
 few_digits = no_digit 120 2 (codes "4\"") refl refl refl
 
-half : IsBadEscape (codes "uD800") problem.EscapedCode
+half : IsBadEscape (codes "uD800") Problem.EscapedCode
 unfolding is_character_code
 half = no_character 117 4 0xD800 (codes "D800") refl refl refl refl

@@ -1,5 +1,5 @@
-use Rattle.proof_loads.proofs.OneListBefore.{settled_stay}
+use Rattle.proof_loads.proofs.OneListBefore.{stays}
 use Rattle.proof_loads.proofs.laws.settled_tokens_stay.Goals as goal
 
 pub returns : goal.returns
-returns c = settled_stay
+returns c text given r later run = (stays given r.last later run r.begins r.behind).begins
