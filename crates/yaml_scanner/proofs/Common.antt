@@ -44,7 +44,7 @@ pub use Rattle.yaml_scanner.specs.Scanned.{HandsBoth, inside, IsRefusal, LeavesN
 pub use Rattle.yaml_scanner.specs.Shape.{held, state}
 pub use Rattle.yaml_scanner.specs.Work.{Fetches, Moves, work}
 pub use Rattle.yaml_scanner.specs.declared.fetcher.Fetcher.{Fetcher}
-pub use Rattle.yaml_scanner.proofs.KeyLemmas.{none_front, none_lowered, with_top_seen}
+pub use Rattle.yaml_scanner.proofs.KeyLemmas.{none_any, none_lowered, with_top_seen}
 pub use Rattle.yaml_scanner.specs.ImplicitKeys.{is_front, lowered, no_implicit, seen}
 pub use Rattle.yaml_scanner.specs.Levels.{Columns, ends_open, value_level}
 pub use Rattle.yaml_scanner.specs.Tokens.{handed, has_end, is_end, key_tokens, Tokens, waiting}

@@ -1,8 +1,9 @@
 -- What was fetched and handed out is a run of the model.
 use Rattle.std.specs.Prelude.{IfSome}
-use Rattle.yaml_scanner.proofs.Common.{[], ap, append-nil, append_assoc, AreBehind, AreSettled, arith, At, BeginsWith, Bool, both_ways, codes, drop, Err, ErrorReport, false, Fault, fetch, Fetcher, Fetches, Follows, FollowsIn, handed, has_end, has_no_nul, HasTokens, held, here, ImplicitKey, inl, inr, inside, is_end, is_front, IsReached, IsRefusal, IsRefused, IsShort, LeavesNoRow, length, length-drop, length-take, List, list_any, lowered, map, nat_tests, None, not_refused, nothing_held, Ok, one_fault, one_list, one_more, Option, option_map, OutOfMemory, Position, position_of, Possible-taken, Reaches, Reads, refl, run_to_end, Scanned, Scans, seen, Some, start, state, subst, suc, sym, take, take-append-drop, Tok, Token, Tokens, true, zero, ℕ, ◌++◌, ◌+◌, ◌-◌, ◌<◌, ◌||◌, ◌∙◌, ◌∷◌, ◌≡◌, ◌≢◌, ◌≤◌}
+use Rattle.yaml_scanner.proofs.Common.{[], Key, rules, ap, append-nil, append_assoc, AreBehind, AreSettled, arith, At, BeginsWith, Bool, both_ways, codes, drop, Err, ErrorReport, false, Fault, fetch, Fetcher, Fetches, Follows, FollowsIn, handed, has_end, has_no_nul, HasTokens, held, here, ImplicitKey, inl, inr, inside, is_end, is_front, IsReached, IsRefusal, IsRefused, IsShort, LeavesNoRow, length, length-drop, length-take, List, list_any, lowered, map, nat_tests, None, not_refused, nothing_held, Ok, one_fault, one_list, one_more, Option, option_map, OutOfMemory, Position, position_of, Possible-taken, Reaches, Reads, refl, run_to_end, Scanned, Scans, seen, Some, start, state, subst, suc, sym, take, take-append-drop, Tok, Token, Tokens, true, zero, ℕ, ◌++◌, ◌+◌, ◌-◌, ◌<◌, ◌||◌, ◌∙◌, ◌∷◌, ◌≡◌, ◌≢◌, ◌≤◌}
 use Rattle.yaml_tokens.specs.Problem.{fault_of}
 use Rattle.yaml_tokens.specs.declared.problem.Problem.{Problem}
+use Rattle.std.proofs.lemmas.List.{take_all}
 use Rattle.model_scanner.proofs.Given.{GivenStands, KeysFrom, reached}
 use Rattle.model_scanner.proofs.Ends.{end_is_last}
 use Rattle.yaml_scanner.specs.declared.fetcher.Backlog.{Backlog}
@@ -69,19 +70,12 @@ keys_behind n m [] l = tt
 keys_behind n m (None ∷ ks) l = (tt, keys_behind n m ks l)
 keys_behind n m (Some k ∷ ks) l = (omega arith, keys_behind n m ks l)
 
-none_waits : (n : ℕ) (xs : List Token) → drop n xs ≡ [] → take n xs ≡ xs
-none_waits n xs e = sym (append-nil (take n xs)) ∙ ap (λ ys. take n xs ++ ys) (sym e) ∙ take-append-drop n xs
-
 -- all tokens were handed out; or a key may come before the next one
 all_handed : (n : ℕ) (xs : List Token) (ks : List (Option ImplicitKey)) → (0 < length xs - n → list_any is_front ks ≡ true) → list_any (comes_before (length (take n xs))) (seen n ks) ≡ false → xs ≡ take n xs
 all_handed n xs ks short none = by (length xs - n) refl
   where
-    nothing_left : (ys : List Token) → length ys ≡ 0 → ys ≡ []
-    nothing_left [] e = refl
-    nothing_left (y ∷ ys) e = absurd cc
-
     by : (k : ℕ) → length xs - n ≡ k → xs ≡ take n xs
-    by zero e = sym (none_waits n xs (nothing_left (drop n xs) (length-drop n xs ∙ e)))
+    by zero e = sym (take_all n xs (omega (arith, e)))
     by (suc k) e =
         let count : length (take n xs) ≡ n = length-take n xs ∙ (let z = e in omega (arith, z)) in
         absurd (both_ways (list_any (comes_before (length (take n xs))) (seen n ks)) none (rw count (is_numbered n ks (short (omega (arith, e))))))
@@ -135,9 +129,7 @@ held_up x b mark n g f front count at = λ a p.
 
 -- the room is of no account
 pub with_room : {T : Type 0} (x : Fetcher T) (n : ℕ) → Follows x → Follows (record x { room = n })
-with_room x n f = λ a p.
-    let old = f a p in
-    record { run = old.run; all = old.all; done = old.done; reached = old.reached; begins = old.begins; whole = old.whole; refused = old.refused; settled = old.settled; open_end = old.open_end; backlog = old.backlog }
+with_room x n f = λ a p. let old : FollowsIn a x = f a p in search rules
 
 -- ---- a token is handed out
 
@@ -149,10 +141,21 @@ is_the_end t e = absurd cc
 split_at : (n : ℕ) (xs given : List Token) (t : Token) → take n xs ≡ given ++ t ∷ [] → xs ≡ given ++ t ∷ drop n xs
 split_at n xs given t e = sym (take-append-drop n xs) ∙ ap (λ ys. ys ++ drop n xs) e ∙ append_assoc given (t ∷ []) (drop n xs)
 
-keys_lower : (n m : ℕ) (ks : List (Option ImplicitKey)) → n ≤ m → KeysFrom n (seen m ks)
-keys_lower n m [] l = tt
-keys_lower n m (None ∷ ks) l = (tt, keys_lower n m ks l)
-keys_lower n m (Some k ∷ ks) l = (omega arith, keys_lower n m ks l)
+from_behind : (n : ℕ) (ks : List (Option Key)) → AreBehind n ks → KeysFrom n ks
+from_behind n [] h = tt
+from_behind n (None ∷ ks) h = (tt, from_behind n ks h.1)
+from_behind n (Some k ∷ ks) h = (h.0, from_behind n ks h.1)
+
+-- what is settled are the first of all tokens
+begins_of : (a : List ℕ) (given ts : List Token) → IsReached a given → HasTokens a ts → BeginsWith given ts
+begins_of a given ts r h = by r.last.held.ended refl
+  where
+    by : (b : Bool) → r.last.held.ended ≡ b → BeginsWith given ts
+    by true e = record { more = r.begins.more; whole = one_list a ts r.last.held.tokens h (record { end = r.last; run = r.run; ended = e; tokens = refl }) ∙ r.begins.whole }
+    by false e =
+        let stands : GivenStands given r.last.held = record { stood = record { more = r.begins.more; tokens = r.begins.whole; keys = from_behind (length given) r.last.held.keys (r.behind e) } } in
+        let s = reached given r.last h.end (run_to_end a ts r.last h r.run) stands in
+        record { more = s.stood.more; whole = sym h.tokens ∙ s.stood.tokens }
 
 -- the end is still to be handed out
 open_after : (xs : List Token) (t : Token) (o : Bool) → o ≡ false → has_end xs ≡ false → (o || is_end t.tok) ≡ false → has_end (xs ++ t ∷ []) ≡ false
@@ -168,25 +171,6 @@ module _ {T : Type 0} (x : Fetcher T) (a : List ℕ) (t : Token) (old : FollowsI
   run_after : x.tokens.ended ≡ false → list_any is_front x.keys ≡ false → Reaches (start a) (state (drop x.window.at a) after)
   run_after e front = rw (lowered_seen x.tokens.given x.keys front) (old.run kept e)
 
-  stands_after : GivenStands (take count x.tokens.all) (held after)
-  stands_after = record {
-    stood = record {
-      more = drop count x.tokens.all;
-      tokens = sym (take-append-drop count x.tokens.all);
-      keys = keys_lower (length (take count x.tokens.all)) count (map lowered x.keys) (length_at_most count x.tokens.all);
-    };
-  }
-
-  begins_after : (b : Bool) → x.tokens.ended ≡ b → (x.tokens.ended ≡ false → list_any is_front x.keys ≡ false) → (ts : List Token) → HasTokens a ts → BeginsWith (take count x.tokens.all) ts
-  begins_after true e front ts h = record {
-    more = drop count x.tokens.all;
-    whole = one_list a ts x.tokens.all h (old.all kept e).whole ∙ sym (take-append-drop count x.tokens.all);
-  }
-  begins_after false e front ts h =
-      let run = run_to_end a ts (state (drop x.window.at a) after) h (run_after e (front e)) in
-      let s = reached (take count x.tokens.all) (state (drop x.window.at a) after) h.end run stands_after in
-      record { more = s.stood.more; whole = sym h.tokens ∙ s.stood.tokens }
-
   split : take count x.tokens.all ≡ handed x.tokens ++ t ∷ [] → x.tokens.all ≡ handed x.tokens ++ t ∷ drop count x.tokens.all
   split e = split_at count x.tokens.all (handed x.tokens) t e
 
@@ -194,7 +178,7 @@ module _ {T : Type 0} (x : Fetcher T) (a : List ℕ) (t : Token) (old : FollowsI
   whole_after true e g i =
       let z = (old.all kept e).whole in
       let l = end_is_last a z.end (handed x.tokens) (drop count x.tokens.all) t z.run (z.tokens ∙ split g) (is_the_end t.tok i) in
-      rw (none_waits count x.tokens.all l.1) z
+      rw (take_all count x.tokens.all (omega (arith, sym (length-drop count x.tokens.all) ∙ ap length l.1))) z
   whole_after false e g i =
       let l = end_is_last a (state (drop x.window.at a) x) (handed x.tokens) (drop count x.tokens.all) t (old.run kept e) (split g) (is_the_end t.tok i) in
       let f = l.0 in
@@ -223,7 +207,7 @@ module _ {T : Type 0} (x : Fetcher T) (a : List ℕ) (t : Token) (old : FollowsI
     all = λ k e. old.all k e;
     done = old.done;
     reached = reached_after x.tokens.ended refl front;
-    begins = begins_after x.tokens.ended refl front;
+    begins = λ ts. begins_of a (take count x.tokens.all) ts (reached_after x.tokens.ended refl front);
     whole = λ o. whole_after x.tokens.ended refl g (grind (arith, over, o));
     refused = rw kept tt;
     settled = rw kept tt;
@@ -273,10 +257,9 @@ is_refusal e None a n r = tt
 is_refusal OutOfMemory (Some m) a n r = λ none. absurd cc
 is_refusal (At q p) (Some m) a n r = λ none. record { fault = At q p; position = m; refused = r (λ e. absurd cc); shown = refl; stands = λ s. faults_stand a (At q p) n (r (λ e. absurd cc)) s; rowless = has_no_row a q p m n (r (λ e. absurd cc)) }
 
-one_refusal : (d : Fault) (kept : Option Position) (a : List ℕ) → IfSome kept (λ _. d ≢ OutOfMemory → IsRefused a d) → (e : Fault) → IsRefused a e → IfSome (option_map (fault_of d) kept) (λ x. x.memory ≡ false → (p : Position) × (x ≡ fault_of e p))
-one_refusal d None a r e i = tt
-one_refusal OutOfMemory (Some m) a r e i = λ n. absurd cc
-one_refusal (At q p) (Some m) a r e i = λ n. (m, ap (λ d. fault_of d m) (one_fault a (At q p) e (r (λ e. absurd cc)) i))
+one_refusal : (a : List ℕ) (o : Option ErrorReport) → IfSome o (λ x. x.memory ≡ false → IsRefusal a x) → (e : Fault) → IsRefused a e → IfSome o (λ x. x.memory ≡ false → (p : Position) × (x ≡ fault_of e p))
+one_refusal a None r e i = tt
+one_refusal a (Some x) r e i = λ n. let z = r n in (z.position, z.shown ∙ ap (λ d. fault_of d z.position) (one_fault a z.fault e z.refused i))
 
 all_settled : (e : Fault) (kept : Option Position) (early : Bool) (a : List ℕ) (given : List Token) → IfSome kept (λ _. early ≡ false → e ≢ OutOfMemory → AreSettled a given) → early ≡ false → IfSome (option_map (fault_of e) kept) (λ x. x.memory ≡ false → AreSettled a given)
 all_settled e None early a given s late = tt
@@ -292,6 +275,7 @@ scans_from x f = record {
   done = λ k e. (f x.window.taken (Possible-taken x.window)).done (none_kept x.fault x.kept k) e;
   scans = λ a m.
       let s = f a (record { begins = m.begins; ends = m.ends }) in
+      let refused = is_refusal x.fault x.kept a m.no_nul s.refused in
       let read : (ts : List Token) → IsRead a ts → HasTokens a ts = λ ts row. texts_with_a_row_are_read a ts m.no_nul row in
       record {
         no_nul = m.no_nul;
@@ -305,8 +289,8 @@ scans_from x f = record {
         some = λ k b. has_started x a s (none_kept x.fault x.kept k) m.no_nul b;
         sound = λ ts row. memory_sound x.fault x.kept a s.refused ts (read ts row);
         wants = memory_says x.fault x.kept;
-        refused = is_refusal x.fault x.kept a m.no_nul s.refused;
-        same = one_refusal x.fault x.kept a s.refused;
+        refused = refused;
+        same = one_refusal a (option_map (fault_of x.fault) x.kept) refused;
         settled = all_settled x.fault x.kept x.early a (handed x.tokens) s.settled;
         waits = s.backlog;
       };

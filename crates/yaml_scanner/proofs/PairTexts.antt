@@ -33,13 +33,7 @@ record SimpleChar (c : ℕ) : Type 0 where
 
 simple_char : (c : ℕ) → is_simple c ≡ true → SimpleChar c
 unfolding is_break is_blank is_simple
-simple_char c h = record {
-  break = grind (arith, nat_tests);
-  blank = λ e. grind (arith, nat_tests);
-  colon = grind (arith, nat_tests);
-  hash = grind (arith, nat_tests);
-  nul = grind (arith, nat_tests);
-}
+simple_char c h = grind (arith, nat_tests)
 
 -- a character that a simple text begins with
 pub record Opener (c : ℕ) : Type 0 where
@@ -56,18 +50,7 @@ pub record Opener (c : ℕ) : Type 0 where
 
 opener : (c : ℕ) → opens_simple c ≡ true → Opener c
 unfolding is_break is_blank opens_simple is_alphanumeric class_of
-opener c h = record {
-  break = grind (arith, nat_tests);
-  blank = grind (arith, nat_tests);
-  tab = grind (arith, nat_tests);
-  space = grind (arith, nat_tests);
-  hash = grind (arith, nat_tests);
-  nul = grind (arith, nat_tests);
-  percent = grind (arith, nat_tests);
-  dash = grind (arith, nat_tests);
-  point = grind (arith, nat_tests);
-  class = grind (arith, nat_tests);
-}
+opener c h = grind (arith, nat_tests)
 
 -- a simple text, as lemmas take it apart
 pub record Simple (text : List ℕ) : Type 0 where
@@ -177,26 +160,14 @@ module _ (i : ℕ) (start : Position) where
   abbrev pub over : List ℕ → ℕ → ℕ → ℕ → List ℕ → Result (Read Plain) Fault
   over r index line col text = Ok (record { rest = r; position = record { index = index; line = line; col = col }; value = record { text = text; leading = true } })
 
-  shifted : {j k c d : ℕ} (r : List ℕ) (line : ℕ) (text : List ℕ) → j ≡ k → c ≡ d → over r j line c text ≡ over r k line d text
-  shifted r line text e f = rw (e, f) refl
-
-  none_before : (k : ℕ) → 0 + k ≡ k
-  none_before k = omega arith
-
-  nothing_more : (k : ℕ) → k + 0 ≡ k
-  nothing_more k = omega arith
-
-  one_more : (k n : ℕ) → k + 1 + n ≡ k + suc n
-  one_more k n = omega arith
-
-  over_spaces : (n e : ℕ) (a : List ℕ) (index line col : ℕ) (text : List ℕ) → is_break e ≡ false → is_blank e ≡ false → nat_lt (col + n) i ≡ true → scan (indented n (e ∷ a)) (below index line col text) ≡ over (e ∷ a) (index + n) line (col + n) text
+  over_spaces : (n e : ℕ) (a : List ℕ) (index line col at_end end : ℕ) (text : List ℕ) → is_break e ≡ false → is_blank e ≡ false → index + n ≡ at_end → col + n ≡ end → nat_lt end i ≡ true
+      → scan (indented n (e ∷ a)) (below index line col text) ≡ over (e ∷ a) at_end line end text
   unfolding goes_on is_shallow is_break is_blank
-  over_spaces zero e a index line col text solid visible low =
-      let here : nat_lt col i ≡ true = subst (λ c. nat_lt c i ≡ true) (nothing_more col) low in
-      let stops : scan (e ∷ a) (below index line col text) ≡ over (e ∷ a) index line col text = rw (solid, visible, here) refl in
-      stops ∙ shifted (e ∷ a) line text (sym (nothing_more index)) (sym (nothing_more col))
-  over_spaces (suc n) e a index line col text solid visible low =
-      over_spaces n e a (index + 1) line (col + 1) text solid visible (subst (λ c. nat_lt c i ≡ true) (sym (one_more col n)) low) ∙ shifted (e ∷ a) line text (one_more index n) (one_more col n)
+  over_spaces zero e a index line col at_end end text solid visible f g low =
+      let here : index ≡ at_end = omega arith in
+      let there : col ≡ end = omega arith in
+      rw (here, there, solid, visible, low) refl
+  over_spaces (suc n) e a index line col at_end end text solid visible f g low = over_spaces n e a (index + 1) line (col + 1) at_end end text solid visible (omega arith) (omega arith) low
 
   -- over a line feed and the next line's spaces
   pub plain_value : (c : ℕ) (w : List ℕ) (n e : ℕ) (a : List ℕ) → all_simple w ≡ true → closes false w ≡ true → i ≤ start.col + 1 → is_break e ≡ false → is_blank e ≡ false → nat_lt n i ≡ true
@@ -205,5 +176,4 @@ module _ (i : ℕ) (start : Position) where
   plain_value c w n e a all close deep solid visible low =
       begins_scan c w (10 ∷ indented n (e ∷ a)) all close deep
       ∙ ap (λ p. scan (10 ∷ indented n (e ∷ a)) (at false p (c ∷ w) [])) (along_is (c ∷ w) start)
-      ∙ over_spaces n e a (start.index + length (c ∷ w) + 1) (start.line + 1) 0 (c ∷ w) solid visible (subst (λ c. nat_lt c i ≡ true) (sym (none_before n)) low)
-      ∙ shifted (e ∷ a) (start.line + 1) (c ∷ w) refl (none_before n)
+      ∙ over_spaces n e a (start.index + length (c ∷ w) + 1) (start.line + 1) 0 _ n (c ∷ w) solid visible refl (omega arith) low
