@@ -1,6 +1,6 @@
 -- What was fetched and handed out is a run of the model.
 use Rattle.std.specs.Prelude.{IfSome}
-use Rattle.yaml_scanner.proofs.Common.{[], Key, rules, ap, append-nil, append_assoc, AreBehind, AreSettled, arith, At, BeginsWith, Bool, both_ways, codes, drop, Err, ErrorReport, false, Fault, fetch, Fetcher, Fetches, Follows, FollowsIn, handed, has_end, has_no_nul, HasTokens, held, here, ImplicitKey, inl, inr, inside, is_end, is_front, IsReached, IsRefusal, IsRefused, IsShort, LeavesNoRow, length, length-drop, length-take, List, list_any, lowered, map, nat_tests, None, not_refused, nothing_held, Ok, one_fault, one_list, one_more, Option, option_map, OutOfMemory, Position, position_of, Possible-taken, Reaches, Reads, refl, run_to_end, Scanned, Scans, seen, Some, start, state, subst, suc, sym, take, take-append-drop, Tok, Token, Tokens, true, zero, ℕ, ◌++◌, ◌+◌, ◌-◌, ◌<◌, ◌||◌, ◌∙◌, ◌∷◌, ◌≡◌, ◌≢◌, ◌≤◌}
+use Rattle.yaml_scanner.proofs.Common.{[], suc, zero, Key, rules, ap, append_assoc, AreBehind, AreSettled, arith, At, BeginsWith, Bool, both_ways, codes, drop, Err, ErrorReport, false, Fault, fetch, Fetcher, Fetches, Follows, FollowsIn, handed, has_end, has_no_nul, HasTokens, held, here, ImplicitKey, inl, inr, inside, is_end, is_front, IsReached, IsRefusal, IsRefused, IsShort, LeavesNoRow, length, length-drop, length-take, List, list_any, lowered, map, nat_tests, None, not_refused, nothing_held, Ok, one_fault, one_list, one_more, Option, option_map, OutOfMemory, Position, position_of, Possible-taken, Reaches, Reads, refl, run_to_end, Scanned, Scans, seen, Some, start, state, subst, sym, take, take-append-drop, Tok, Token, Tokens, true, ℕ, ◌++◌, ◌+◌, ◌-◌, ◌<◌, ◌||◌, ◌∙◌, ◌∷◌, ◌≡◌, ◌≢◌, ◌≤◌}
 use Rattle.yaml_tokens.specs.Problem.{fault_of}
 use Rattle.yaml_tokens.specs.declared.problem.Problem.{Problem}
 use Rattle.std.proofs.lemmas.List.{take_all}
@@ -10,7 +10,7 @@ use Rattle.yaml_scanner.specs.declared.fetcher.Backlog.{Backlog}
 use Rattle.yaml_scanner.specs.Rowless.{HasNoRow}
 use Rattle.yaml_scanner.specs.Waits.{comes_before}
 use Rattle.yaml_scanner.proofs.GivenLemmas.{lowered_seen}
-use Rattle.yaml_scanner.proofs.WhereLemmas.{in_text, at_end, not_started, has_started}
+use Rattle.yaml_scanner.proofs.WhereLemmas.{Standing, in_text, at_end, not_started, has_started, standing}
 use Rattle.yaml_scanner.proofs.QueueLemmas.{has_end_append}
 use Rattle.defs_token.specs.Cut.{IsCut, IsCutOfBeginning, tokens_of, end_token}
 use Rattle.proof_scanner.proofs.Cut.Faults.Fetches.{faults_stand}
@@ -80,20 +80,12 @@ all_handed n xs ks short none = by (length xs - n) refl
         let count : length (take n xs) ≡ n = length-take n xs ∙ (let z = e in omega (arith, z)) in
         absurd (both_ways (list_any (comes_before (length (take n xs))) (seen n ks)) none (rw count (is_numbered n ks (short (omega (arith, e))))))
 
--- what is settled where a fetch refuses a text, and no token waits that could be handed out
-settled_at : {T : Type 0} (x : Fetcher T) (a : List ℕ) (e : Fault) → Reaches (start a) (state (drop x.window.at a) x) → x.tokens.ended ≡ false → fetch (state (drop x.window.at a) x) ≡ Err e → IsShort x → AreSettled a (handed x.tokens)
-settled_at x a e run going refused short = record {
-  fault = e;
-  refused = record { last = state (drop x.window.at a) x; run = run; going = going; refused = refused };
-  begins = record { more = drop x.tokens.given x.tokens.all; whole = sym (take-append-drop x.tokens.given x.tokens.all) };
-  behind = keys_behind (length (handed x.tokens)) x.tokens.given x.keys (length_at_most x.tokens.given x.tokens.all);
-  all = all_handed x.tokens.given x.tokens.all x.keys short;
-}
-
 -- a refusal, which is then kept
 pub stopped : {T : Type 0} (x y : Fetcher T) (mark : Position) (early : Bool) → x.kept ≡ None → x.tokens.ended ≡ false → (early ≡ false → IsShort x) → Follows x → Reads x.window y.window (λ a b. y.fault ≢ OutOfMemory → fetch (state a x) ≡ Err y.fault) → Fetches x y → Follows (record y { kept = Some mark; early = early })
 stopped x y mark early n g short f d m = λ a p.
     let old = f a (d.back a p) in
+    let q = x.tokens in
+    let refused : y.fault ≢ OutOfMemory → IsRefused a y.fault = λ e. record { last = state (drop x.window.at a) x; run = old.run n g; going = g; refused = d.reads a p e } in
     record {
       run = λ c _. absurd cc;
       all = λ c _. absurd cc;
@@ -101,8 +93,14 @@ stopped x y mark early n g short f d m = λ a p.
       reached = rw m.given old.reached;
       begins = λ ts h. rw m.given (old.begins ts h);
       whole = λ o. rw m.given (old.whole (sym m.over ∙ o));
-      refused = λ q. record { last = state (drop x.window.at a) x; run = old.run n g; going = g; refused = d.reads a p q };
-      settled = λ late q. rw m.given (settled_at x a y.fault (old.run n g) g (d.reads a p q) (short late));
+      refused = refused;
+      settled = λ late e. rw m.given record {
+        fault = y.fault;
+        refused = refused e;
+        begins = record { more = drop q.given q.all; whole = sym (take-append-drop q.given q.all) };
+        behind = keys_behind (length (handed q)) q.given x.keys (length_at_most q.given q.all);
+        all = all_handed q.given q.all x.keys (short late);
+      };
       open_end = λ o. rw m.given (old.open_end (sym m.over ∙ o));
       backlog = rw m.backlog old.backlog;
     }
@@ -137,10 +135,6 @@ is_the_end : (t : Tok) → is_end t ≡ true → t ≡ Tok.stream_end
 is_the_end Tok.stream_end e = refl
 is_the_end t e = absurd cc
 
--- all tokens are those handed out and those that wait
-split_at : (n : ℕ) (xs given : List Token) (t : Token) → take n xs ≡ given ++ t ∷ [] → xs ≡ given ++ t ∷ drop n xs
-split_at n xs given t e = sym (take-append-drop n xs) ∙ ap (λ ys. ys ++ drop n xs) e ∙ append_assoc given (t ∷ []) (drop n xs)
-
 from_behind : (n : ℕ) (ks : List (Option Key)) → AreBehind n ks → KeysFrom n ks
 from_behind n [] h = tt
 from_behind n (None ∷ ks) h = (tt, from_behind n ks h.1)
@@ -157,68 +151,51 @@ begins_of a given ts r h = by r.last.held.ended refl
         let s = reached given r.last h.end (run_to_end a ts r.last h r.run) stands in
         record { more = s.stood.more; whole = sym h.tokens ∙ s.stood.tokens }
 
--- the end is still to be handed out
-open_after : (xs : List Token) (t : Token) (o : Bool) → o ≡ false → has_end xs ≡ false → (o || is_end t.tok) ≡ false → has_end (xs ++ t ∷ []) ≡ false
-open_after xs t o e h l = rw (has_end_append xs (t ∷ []), h) (grind arith)
-
-module _ {T : Type 0} (x : Fetcher T) (a : List ℕ) (t : Token) (old : FollowsIn a x) (kept : x.kept ≡ None) (over : x.tokens.over ≡ false) where
-  abbrev count : ℕ
-  count = x.tokens.given + 1
-
-  abbrev after : Fetcher T
-  after = record x { tokens = record x.tokens { given = x.tokens.given + 1; over = x.tokens.over || is_end t.tok }; keys = map lowered x.keys }
-
-  run_after : x.tokens.ended ≡ false → list_any is_front x.keys ≡ false → Reaches (start a) (state (drop x.window.at a) after)
-  run_after e front = rw (lowered_seen x.tokens.given x.keys front) (old.run kept e)
-
-  split : take count x.tokens.all ≡ handed x.tokens ++ t ∷ [] → x.tokens.all ≡ handed x.tokens ++ t ∷ drop count x.tokens.all
-  split e = split_at count x.tokens.all (handed x.tokens) t e
-
-  whole_after : (b : Bool) → x.tokens.ended ≡ b → take count x.tokens.all ≡ handed x.tokens ++ t ∷ [] → is_end t.tok ≡ true → HasTokens a (take count x.tokens.all)
-  whole_after true e g i =
-      let z = (old.all kept e).whole in
-      let l = end_is_last a z.end (handed x.tokens) (drop count x.tokens.all) t z.run (z.tokens ∙ split g) (is_the_end t.tok i) in
-      rw (take_all count x.tokens.all (omega (arith, sym (length-drop count x.tokens.all) ∙ ap length l.1))) z
-  whole_after false e g i =
-      let l = end_is_last a (state (drop x.window.at a) x) (handed x.tokens) (drop count x.tokens.all) t (old.run kept e) (split g) (is_the_end t.tok i) in
-      let f = l.0 in
-      absurd cc
-
-  reached_after : (b : Bool) → x.tokens.ended ≡ b → (x.tokens.ended ≡ false → list_any is_front x.keys ≡ false) → IsReached a (take count x.tokens.all)
-  reached_after true e front =
-      let z = (old.all kept e).whole in
+-- Tokens more are handed out, up to a number, where no key may come before them. The stream's end is the last of all.
+module _ {T : Type 0} (x : Fetcher T) (a : List ℕ) (old : FollowsIn a x) (kept : x.kept ≡ None) (n : ℕ) (ks : List (Option ImplicitKey)) (over : Bool)
+    (same : x.tokens.ended ≡ false → seen n ks ≡ seen x.tokens.given x.keys) where
+  reached_after : IsReached a (take n x.tokens.all)
+  reached_after =
+      let z = standing x a old kept in
       record {
-        last = z.end;
+        last = z.last;
         run = z.run;
-        begins = record { more = drop count x.tokens.all; whole = z.tokens ∙ sym (take-append-drop count x.tokens.all) };
-        behind = λ g. absurd (cc (g, z.ended));
-      }
-  reached_after false e front =
-      record {
-        last = state (drop x.window.at a) after;
-        run = run_after e (front e);
-        begins = record { more = drop count x.tokens.all; whole = sym (take-append-drop count x.tokens.all) };
-        behind = λ _. keys_behind (length (take count x.tokens.all)) count (map lowered x.keys) (length_at_most count x.tokens.all);
+        begins = record { more = drop n x.tokens.all; whole = z.tokens ∙ sym (take-append-drop n x.tokens.all) };
+        behind = λ g.
+            let e = sym z.ended ∙ g in
+            rw (z.keys e, ← same e) (keys_behind (length (take n x.tokens.all)) n ks (length_at_most n x.tokens.all));
       }
 
-  follows_after : (x.tokens.ended ≡ false → list_any is_front x.keys ≡ false) → take count x.tokens.all ≡ handed x.tokens ++ t ∷ [] → FollowsIn a after
-  follows_after front g = record {
-    run = λ _ e. run_after e (front e);
-    all = λ k e. old.all k e;
+  pub given_on : (over ≡ true → HasTokens a (take n x.tokens.all)) → (over ≡ false → has_end (take n x.tokens.all) ≡ false) → FollowsIn a (record x { tokens = record x.tokens { given = n; over = over }; keys = ks })
+  given_on whole none = record {
+    run = λ _ e. rw (same e) (old.run kept e);
+    all = old.all;
     done = old.done;
-    reached = reached_after x.tokens.ended refl front;
-    begins = λ ts. begins_of a (take count x.tokens.all) ts (reached_after x.tokens.ended refl front);
-    whole = λ o. whole_after x.tokens.ended refl g (grind (arith, over, o));
+    reached = reached_after;
+    begins = λ ts. begins_of a (take n x.tokens.all) ts reached_after;
+    whole = whole;
     refused = rw kept tt;
     settled = rw kept tt;
-    open_end = λ o. rw g (open_after (handed x.tokens) t x.tokens.over over (old.open_end over) o);
+    open_end = none;
     backlog = old.backlog;
   }
+
+-- once the stream's end is handed out, all tokens are
+whole_after : {T : Type 0} (x : Fetcher T) (a : List ℕ) (t : Token) (n : ℕ) → Standing x a → take n x.tokens.all ≡ handed x.tokens ++ t ∷ [] → is_end t.tok ≡ true → HasTokens a (take n x.tokens.all)
+whole_after x a t n z first i =
+    let whole = z.tokens ∙ sym (take-append-drop n x.tokens.all) ∙ ap (λ ts. ts ++ drop n x.tokens.all) first ∙ append_assoc (handed x.tokens) (t ∷ []) (drop n x.tokens.all) in
+    let l = end_is_last a z.last (handed x.tokens) (drop n x.tokens.all) t z.run whole (is_the_end t.tok i) in
+    record { end = z.last; run = z.run; ended = l.0; tokens = z.tokens ∙ sym (take_all n x.tokens.all (omega (arith, sym (length-drop n x.tokens.all) ∙ ap length l.1))) }
 
 -- a token more is handed out
 pub handed_on : {T : Type 0} (x : Fetcher T) (q : Tokens) (ks : List (Option ImplicitKey)) (t : Token) → x.kept ≡ None → x.tokens.over ≡ false → (x.tokens.ended ≡ false → list_any is_front x.keys ≡ false)
     → q ≡ record x.tokens { given = x.tokens.given + 1; over = x.tokens.over || is_end t.tok } → handed q ≡ handed x.tokens ++ t ∷ [] → ks ≡ map lowered x.keys → Follows x → Follows (record x { tokens = q; keys = ks })
-handed_on x q ks t k o front e g i f = λ a p. rw (e, i) (follows_after x a t (f a p) k o front (sym (ap handed e) ∙ g))
+handed_on x q ks t k o front e g i f = λ a p.
+    let old = f a p in
+    let first = sym (ap handed e) ∙ g in
+    rw (e, i) (given_on x a old k (x.tokens.given + 1) (map lowered x.keys) (x.tokens.over || is_end t.tok) (λ n. lowered_seen x.tokens.given x.keys (front n))
+    (λ l. whole_after x a t (x.tokens.given + 1) (standing x a old k) first (grind (arith, o, l)))
+    (λ l. rw (first, has_end_append (handed x.tokens) (t ∷ []), old.open_end o) (grind arith)))
 
 -- ---- as callers see it
 

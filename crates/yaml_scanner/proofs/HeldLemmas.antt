@@ -1,5 +1,5 @@
 -- Lemmas about what the scanner holds.
-use Rattle.yaml_scanner.proofs.Common.{[], arith, le-ltb, lt-ltb, At, Bool, Columns, drop_stale, end_level, ends_open, Err, false, Fault, Held, in_flow, Indent, is_required, Key, level, Levels, List, MatchOption, nat_lt, nat_tests, None, Ok, Option, Position, refl, remove_implicit_key, Some, stale, sym, Token, top_key, true, unroll_indent, unroll_non_block_indents, unrolled, with_levels, with_top, without_open, ℕ, ◌<◌, ◌∙◌, ◌∷◌, ◌≡◌, ◌≤◌}
+use Rattle.yaml_scanner.proofs.Common.{[], arith, le-ltb, lt-ltb, At, Bool, Columns, drop_stale, end_level, ends_open, Err, false, Fault, Held, in_flow, Indent, is_required, Key, level, Levels, List, MatchOption, None, Ok, Option, Position, refl, remove_implicit_key, Some, stale, Token, top_key, true, unroll_indent, unroll_non_block_indents, unrolled, with_levels, with_top, without_open, ℕ, ◌<◌, ◌∷◌, ◌≡◌, ◌≤◌}
 use Rattle.yaml_tokens.specs.declared.problem.Problem.TheVariants as problem
 
 pub removed : (h : Held) (ks : List (Option Key)) (b : Bool) → b ≡ is_required (top_key h.keys) → b ≡ false → ks ≡ with_top None h.keys → remove_implicit_key h ≡ Ok (record h { keys = ks })

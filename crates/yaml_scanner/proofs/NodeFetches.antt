@@ -124,18 +124,17 @@ module _ (p : Position) (ts : List Token) (ks : List (Option Key)) (l : ℕ) (ls
     one_deeper (record (with_tokens text) { indents = (levels b).indents; indent = (levels b).indent; tokens = ts ++ (starts b (start text) ++ key ∷ scalar text ∷ []) }) refl (in_block b left),
   ) (simp append_assoc)
 
-  before_past : (text : List ℕ) → before_position (past (along text p)) ≡ along text p
-  before_past text = same_place (omega arith) refl (omega arith)
-
   -- what the code holds then
   pub colon_is : (b : Bool) → nat_lt i (p.col + 1) ≡ b → (text : List ℕ) → with_key p text (record before { position = past (along text p) }) ≡ after_colon b text
   unfolding unroll_non_block_indents
-  colon_is b left text = rw (
-    outer ts,
-    before_past text,
-    rolls b p.col None Tok.block_mapping_start (along text p) (plainly text) ts [] refl block left (sym (append-nil ts)) (rw (append-nil ts) refl),
-    one_deeper (record (plainly text) { indents = (levels b).indents; indent = (levels b).indent; tokens = ts ++ (starts b (start text) ++ []) }) refl (in_block b left),
-  ) (simp (append_assoc, append-nil))
+  colon_is b left text =
+      let place : before_position (past (along text p)) ≡ along text p = same_place (omega arith) refl (omega arith) in
+      rw (
+        outer ts,
+        place,
+        rolls b p.col None Tok.block_mapping_start (along text p) (plainly text) ts [] refl block left (sym (append-nil ts)) (rw (append-nil ts) refl),
+        one_deeper (record (plainly text) { indents = (levels b).indents; indent = (levels b).indent; tokens = ts ++ (starts b (start text) ++ []) }) refl (in_block b left),
+      ) (simp (append_assoc, append-nil))
 
   colon_fetch : (b : Bool) → nat_lt i (p.col + 1) ≡ b → (text : List ℕ) (d : ℕ) (a : List ℕ) → 0 < length text → length text ≤ 1024 → is_blank_or_breakz d ≡ true → (d == 9) ≡ false
       → fetch (at (58 ∷ d ∷ a) (after_scalar text)) ≡ Ok (at (d ∷ a) (after_colon b text))
@@ -164,13 +163,9 @@ module _ (p : Position) (ts : List Token) (ks : List (Option Key)) (l : ℕ) (ls
   after_line k w n = in_mapping (line_end p w n) (ts ++ scalar w ∷ []) (k ∷ ks) i ds true true adjacent
 
   -- the scalar began on an earlier line, and need not be a key
-  late : (w : List ℕ) (n : ℕ) → is_far p (line_end p w n) ≡ true
-  unfolding is_far
-  late w n = rw (lt-ltb p.line (p.line + 1) (omega arith)) refl
-
   line_stale : (w : List ℕ) (n : ℕ) → must_be_key before ≡ false → stale (after_line (Some key_here) w n) ≡ Ok (after_line None w n)
-  unfolding stale drop_stale
-  line_stale w n need = let z = none_overdue (line_end p w n) ks free in rw (late w n, need, z.0, z.1) refl
+  unfolding stale drop_stale is_far
+  line_stale w n need = let z = none_overdue (line_end p w n) ks free in rw (lt-ltb p.line (p.line + 1) (omega arith), need, z.0, z.1) refl
 
   pub line_runs : (text : List ℕ) (n : ℕ) (b : List ℕ) → IsSimpleText text → (nat_lt 32 (slice_index b 0) && nat_lt (slice_index b 0) 127) ≡ true → n < i → must_be_key before ≡ false
       → fetch_rest (at (text ++ 10 ∷ indented n b) before) ≡ Ok (at b (with_line p text (record before { position = line_end p text n })))

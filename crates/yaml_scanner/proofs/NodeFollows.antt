@@ -1,9 +1,9 @@
 -- A key or another scalar that was fetched at once, against the model's steps.
-use Rattle.yaml_scanner.proofs.Common.{[], along, ends_open, ap, arith, AwaitsNode, Bool, cleared, Columns, Err, false, Fault, fetch, fetch_next, fetch_rest, Fetched, Fetcher, Fetches, Follows, Held, held, IfErr, Indent, IsShort, Key, length, level, List, must_be_key, ne_eqb, None, Ok, once, OnOk, Option, past, Position, position_of, Reads-saw, Reads-then, refl, Result, Runs, ScannerState, seen, Sees, skip_to_next_token, Some, stale, Stands, state, subst, sym, TakesKey, TakesLine, TakesNode, Token, top_needs_block_end, true, twice, unroll_indent, value_level, WindowView, with_key, with_line, without_open, ℕ, ◌&&◌, ◌+◌, ◌<◌, ◌==◌, ◌∙◌, ◌∷◌, ◌≡◌, ◌≤◌}
+use Rattle.yaml_scanner.proofs.Common.{[], along, ends_open, ap, arith, AwaitsNode, Bool, Columns, Err, false, Fault, fetch, fetch_next, fetch_rest, Fetched, Fetcher, Fetches, Follows, Held, held, IfErr, IsShort, Key, List, must_be_key, ne_eqb, None, Ok, once, OnOk, Option, past, Position, position_of, Reads-saw, Reads-then, refl, Result, Runs, ScannerState, seen, Sees, skip_to_next_token, Some, stale, Stands, state, sym, TakesKey, TakesLine, top_needs_block_end, true, twice, unroll_indent, value_level, WindowView, with_key, with_line, ℕ, ◌&&◌, ◌+◌, ◌<◌, ◌==◌, ◌∙◌, ◌∷◌, ◌≡◌, ◌≤◌}
 use Rattle.yaml_scanner.proofs.ReadsLemmas.{Reads-map, Reads-along}
 use Rattle.yaml_scanner.proofs.FollowLemmas.{fetched_on, stopped}
 use Rattle.yaml_scanner.proofs.PairTexts.{same_place, along_is}
-use Rattle.yaml_scanner.proofs.HeldLemmas.{without_block}
+use Rattle.yaml_scanner.proofs.HeldLemmas.{without_block, without_more}
 use Rattle.yaml_scanner.proofs.LevelLemmas.{is_block}
 use Rattle.yaml_scanner.proofs.PairFetches.{in_mapping}
 use Rattle.yaml_scanner.proofs.PairFollows.{keys_seen, levels_split, fetched_twice}
@@ -31,21 +31,17 @@ stands_outside col l none left = stands_in col 0 l (rw none refl) (omega (arith,
 
 -- inside a level that opens no collection
 pub stands_open : (col limit : ℕ) (l : Columns) → value_level l.indents ≡ Some limit → l.indent ≤ col + 1 → limit < col + 1 → Stands col l limit
-unfolding without_open
 stands_open col limit l lone low left =
     let s = levels_split l.indents limit lone in
     record {
       outer = record { indent = limit; indents = s.0 };
-      rest = λ ts. ap (λ ds. without_open l.indent ds ts) s.1 ∙ by s.0 ts ∙ without_block limit s.0 ts (is_block s.0 s.2);
+      rest = λ ts. without_more l.indent limit l.indents s.0 ts s.1 ∙ without_block limit s.0 ts (is_block s.0 s.2);
       shallow = low;
       deep = omega (arith, left);
       block = is_block s.0 s.2;
       there = λ e. absurd (omega (arith, left, e));
-      low = λ _. (omega arith, ap (λ ds. (l.indent == col + 1) && top_needs_block_end ds) s.1 ∙ grind arith);
+      low = λ _. (omega arith, rw s.1 (grind arith));
     }
-  where
-    by : (ds : List Indent) (ts : List Token) → without_open l.indent (level limit false ∷ ds) ts ≡ without_open limit ds ts
-    by ds ts = refl
 
 -- ---- a node
 
@@ -71,11 +67,8 @@ module _ {T : Type 0} (x y : Fetcher T) (w : WindowView T) (limit : ℕ) (z : Aw
       twice tt (Reads-along _ _ _ _ refl window (Reads-map _ _ t.reads (λ a b r.
       rw (now, old, r.0) (key_runs p x.tokens.all k.0 x.levels.indent x.levels.indents o.indent o.indents x.leading x.adjacent_value_at k.1 z.stands.shallow z.stands.rest z.stands.deep z.stands.block z.stands.there key b t.simple t.short r.1))))
 
-  need_not : (ks : List (Option Key)) → ((x.levels.indent == p.col + 1) && top_needs_block_end x.levels.indents) ≡ false → must_be_key (here ks) ≡ false
-  unfolding must_be_key
-  need_not ks e = e
-
   pub line_does : {X E : Type 0} (v : X) (text : List ℕ) → TakesLine [] limit x.window w text → held y ≡ with_line p text (held (record x { window = w })) → Fetched {E = E} fetch_rest x (Ok v) y
+  unfolding must_be_key
   line_does v text t new =
       let k = keys_seen x.tokens.given x.keys z.no_open_key z.level in
       let old = is_here k.0 k.2 in
@@ -86,7 +79,7 @@ module _ {T : Type 0} (x y : Fetcher T) (w : WindowView T) (limit : ℕ) (z : Aw
       let after_is : position_of w ≡ line_end p text t.spaces = same_place (omega (arith, moved)) t.line t.col in
       let now : held y ≡ with_line p text (record (here k.0) { position = line_end p text t.spaces }) = new ∙ ap (λ q. with_line p text (record (held x) { position = q })) after_is ∙ ap (λ h. with_line p text (record h { position = line_end p text t.spaces })) old in
       once (Reads-along _ _ _ _ refl window (Reads-map _ _ t.reads (λ a b r.
-      rw (now, old, r.0) (line_runs p x.tokens.all k.0 x.levels.indent x.levels.indents o.indent o.indents x.leading x.adjacent_value_at k.1 z.stands.shallow z.stands.rest z.stands.deep z.stands.block z.stands.there text t.spaces b t.simple r.1 (omega (arith, low, few)) (need_not k.0 fits.1)))))
+      rw (now, old, r.0) (line_runs p x.tokens.all k.0 x.levels.indent x.levels.indents o.indent o.indents x.leading x.adjacent_value_at k.1 z.stands.shallow z.stands.rest z.stands.deep z.stands.block z.stands.there text t.spaces b t.simple r.1 (omega (arith, low, few)) fits.1))))
 
 -- ---- a fetch
 

@@ -1,13 +1,9 @@
 -- Lemmas about directives, anchors and tags.
-use Rattle.yaml_scanner.proofs.Common.{after_line, ap, At, Bool, cleared, Err, false, fetch_stream_end, has_required, Held, if◌then◌else◌, Key, List, next_line, Ok, Option, Position, position_of, push, refl, sym, Tok, true, unroll_indent, WindowView, ℕ, ◌+◌, ◌==◌, ◌∙◌, ◌≡◌}
+use Rattle.yaml_scanner.proofs.Common.{after_line, arith, At, Bool, cleared, Err, false, fetch_stream_end, has_required, Held, Key, List, next_line, Ok, Option, Position, position_of, push, refl, sym, Tok, true, unroll_indent, WindowView, ℕ, ◌∙◌, ◌≡◌}
 use Rattle.yaml_tokens.specs.declared.problem.Problem.TheVariants as problem
 
-line_position : {T : Type 0} (s : WindowView T) (t : Bool) → (s.col == 0) ≡ t → position_of (if t then s else record s { line = s.line + 1; col = 0 }) ≡ (if t then position_of s else record (position_of s) { line = s.line + 1; col = 0 })
-line_position s true e = refl
-line_position s false e = refl
-
 pub next_position : {T : Type 0} (s u : WindowView T) → u ≡ after_line s → position_of u ≡ next_line (position_of s)
-next_position s u e = ap position_of e ∙ line_position s (s.col == 0) refl
+next_position s u e = rw e (grind arith)
 
 pub stream_ended : (a : List ℕ) (h u v w : Held) (b : Bool) (ks : List (Option Key)) (p m : Position) → p ≡ next_line h.position → b ≡ has_required h.keys → b ≡ false → ks ≡ cleared h.keys → u ≡ record h { position = p; keys = ks } → v ≡ unroll_indent 0 u → m ≡ v.position
     → w ≡ record (push m Tok.stream_end v) { key_allowed = false; ended = true } → fetch_stream_end (record { rest = a; held = h }) ≡ Ok (record { rest = a; held = w })

@@ -1,8 +1,7 @@
 -- What the model's fetches do at a key or a value of a block mapping that is a simple text.
-use Rattle.yaml_scanner.proofs.Common.{[], along, ap, arith, Bool, class_of, cleared, comes_marker, drop_open, drop_open_level, drop_stale, ends_open, false, fetch, fetch_content, fetch_first_column, fetch_here, fetch_indented, fetch_next, fetch_plain_scalar, fetch_token, fetch_value, Held, if◌then◌else◌, in_block, Indent, indented, insert, is_blank, is_blank_or_breakz, is_break, is_far, is_overdue, is_value, IsSimpleText, Key, le-ltb, length, level, List, list_any, lt-ltb, map, moved, nat_le, nat_lt, nat_tests, ne_eqb, None, Ok, Option, past, Position, refl, roll_one_col_indent, save_implicit_key, ScannerState, skip, skip_to_next_token, slice_index, Some, stale, still, Style, sym, Tok, Token, token, top_needs_block_end, true, unroll_indent, unroll_non_block_indents, unrolled, without_open, ℕ, ◌&&◌, ◌++◌, ◌+◌, ◌<◌, ◌==◌, ◌||◌, ◌∙◌, ◌∷◌, ◌≡◌, ◌≤◌}
-use Rattle.yaml_scanner.proofs.HeldLemmas.{unroll_shallow, unrolled_done, without_block}
-use Rattle.yaml_scanner.proofs.LevelLemmas.{is_block}
-use Rattle.yaml_scanner.proofs.PairTexts.{Opener, Simple, simple_text, along_is, plain_value}
+use Rattle.yaml_scanner.proofs.Common.{[], along, ap, arith, Bool, class_of, cleared, comes_marker, drop_open, drop_open_level, drop_stale, ends_open, false, fetch, fetch_content, fetch_first_column, fetch_here, fetch_indented, fetch_next, fetch_plain_scalar, fetch_token, fetch_value, Held, if◌then◌else◌, in_block, Indent, is_blank, is_blank_or_breakz, is_break, is_far, is_overdue, is_value, Key, le-ltb, length, level, List, list_any, map, moved, nat_le, nat_lt, nat_tests, ne_eqb, None, Ok, Option, Position, refl, roll_one_col_indent, ScannerState, skip, skip_to_next_token, Some, stale, still, sym, Token, top_needs_block_end, true, unroll_indent, ℕ, ◌&&◌, ◌+◌, ◌==◌, ◌||◌, ◌∷◌, ◌≡◌, ◌≤◌}
+use Rattle.yaml_scanner.proofs.HeldLemmas.{unroll_shallow}
+use Rattle.yaml_scanner.proofs.PairTexts.{Opener, along_is}
 
 -- ---- what a fetch does beside its token
 

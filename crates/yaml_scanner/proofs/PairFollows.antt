@@ -1,9 +1,11 @@
 -- Two tokens that are handed out at once, against the model's runs.
-use Rattle.yaml_scanner.proofs.Common.{[], unrolled, along, ap, append_assoc, arith, AwaitsKey, AwaitsValue, Bool, cleared, Columns, ErrorReport, false, Fault, Fetcher, Fetches, FetchesTwice, Follows, handed, HandsBoth, held, ImplicitKey, Indent, inside, is_end, Key, key_tokens, length, length-append, level, levels_after, List, map, no_implicit, None, is_front, none_any, none_lowered, one_more, Option, option_map, OutOfMemory, past, Position, position_of, Reads, refl, Scanned, seen, Some, StandsAt, state, Style, subst, suc, sym, take, take-append-add, take-append_seam, take-length, TakesKey, TakesValue, Tok, Token, token, Tokens, top_needs_block_end, true, value_level, WindowView, work, ℕ, ◌++◌, ◌+◌, ◌-◌, ◌<◌, ◌||◌, ◌∙◌, ◌∷◌, ◌≡◌, ◌≤◌}
+use Rattle.yaml_scanner.proofs.Common.{[], unrolled, along, ap, append_assoc, arith, AwaitsKey, AwaitsValue, Bool, cleared, Columns, ErrorReport, false, Fault, Fetcher, Fetches, FetchesTwice, Follows, handed, has_end, HandsBoth, held, ImplicitKey, Indent, inside, is_end, Key, key_tokens, length, length-append, level, levels_after, List, map, no_implicit, None, one_more, Option, option_map, OutOfMemory, past, Position, position_of, Reads, refl, Scanned, seen, Some, StandsAt, state, Style, suc, sym, take, take-append-add, take-append_seam, take-length, TakesKey, TakesValue, Tok, Token, token, top_needs_block_end, true, value_level, WindowView, work, ℕ, ◌++◌, ◌+◌, ◌-◌, ◌<◌, ◌∙◌, ◌∷◌, ◌≡◌, ◌≤◌}
 use Rattle.yaml_tokens.specs.Problem.{fault_of}
 use Rattle.yaml_scanner.proofs.ReadsLemmas.{Reads-map}
-use Rattle.yaml_scanner.proofs.FollowLemmas.{fetched_on, handed_on, went_on}
+use Rattle.yaml_scanner.proofs.FollowLemmas.{fetched_on, given_on, went_on}
+use Rattle.std.proofs.lemmas.Simd.{map-map}
 use Rattle.yaml_scanner.proofs.KeyLemmas.{cleared_all}
+use Rattle.yaml_scanner.proofs.QueueLemmas.{has_end_append}
 use Rattle.yaml_scanner.proofs.HeldLemmas.{unrolled_done, unrolled_more}
 use Rattle.yaml_scanner.proofs.PairTexts.{same_place, along_is}
 use Rattle.yaml_scanner.proofs.PairFetches.{in_mapping}
@@ -20,27 +22,31 @@ fetched_twice x y k g f d m n = λ a p.
 pub memory_kept : (e : Fault) (m : Position) (r : ErrorReport) → r ≡ fault_of e m → e ≡ OutOfMemory → r.memory ≡ true
 memory_kept e m r h f = rw (h, f) refl
 
+-- ---- what is held
+
+pub seen_free : (g : ℕ) (ks : List (Option ImplicitKey)) → map no_implicit ks ≡ ks → cleared (seen g ks) ≡ seen g ks
+seen_free g ks e = sym (cleared_all g ks) ∙ ap (seen g) e
+
+seen_alike : (g h : ℕ) (ks : List (Option ImplicitKey)) → map no_implicit ks ≡ ks → seen g ks ≡ seen h ks
+seen_alike g h ks e = sym (seen_free g ks e) ∙ simp map-map refl ∙ seen_free h ks e
+
+-- the innermost level has no key, and the levels outside it have none
+pub keys_seen : (g : ℕ) (ks : List (Option ImplicitKey)) → map no_implicit ks ≡ ks → 0 < length ks → (js : List (Option Key)) × (cleared js ≡ js) × (seen g ks ≡ None ∷ js)
+keys_seen g [] e h = absurd (omega (arith, h))
+keys_seen g (None ∷ ks) e h = (seen g ks, seen_free g ks cc, refl)
+keys_seen g (Some k ∷ ks) e h = absurd cc
+
 -- ---- tokens
 
--- a token is handed out that is not the end, where nothing may be a key
-one_handed : {T : Type 0} (x : Fetcher T) (gs us : List Token) (t : Token) → x.kept ≡ None → x.tokens.over ≡ false → map no_implicit x.keys ≡ x.keys → x.tokens.all ≡ gs ++ t ∷ us → x.tokens.given ≡ length gs → is_end t.tok ≡ false → Follows x
-    → Follows (record x { tokens = record x.tokens { given = x.tokens.given + 1 } })
-one_handed x gs us t k o free all given end f =
-    let q : Tokens = record x.tokens { given = x.tokens.given + 1 } in
-    let made : q ≡ record x.tokens { given = x.tokens.given + 1; over = x.tokens.over || is_end t.tok } = ap (λ b. record x.tokens { given = x.tokens.given + 1; over = b }) (rw (end, o) refl) in
-    let before : handed x.tokens ≡ gs = rw (all, given) (take-append_seam gs (t ∷ us)) in
-    let after : handed q ≡ handed x.tokens ++ t ∷ [] = rw (before, all, given) (take-append-add gs (t ∷ us) 1) in
-    handed_on x q x.keys t k o (λ _. none_any is_front refl x.keys free) made after (sym (none_lowered x.keys free)) f
-
+-- two tokens are handed out, none of which is the end, where nothing may be a key
 both_handed : {T : Type 0} (x : Fetcher T) (gs us : List Token) (t u : Token) → x.kept ≡ None → x.tokens.over ≡ false → map no_implicit x.keys ≡ x.keys → x.tokens.all ≡ gs ++ t ∷ u ∷ us → x.tokens.given ≡ length gs → is_end t.tok ≡ false → is_end u.tok ≡ false → Follows x
     → Follows (record x { tokens = record x.tokens { given = x.tokens.given + 2 } })
-both_handed x gs us t u k o free all given te ue f =
-    let y = record x { tokens = record x.tokens { given = x.tokens.given + 1 } } in
-    let one : Follows y = one_handed x gs (u ∷ us) t k o free all given te f in
-    let count : x.tokens.given + 1 ≡ length (gs ++ t ∷ []) = rw given (sym (length-append gs (t ∷ []))) in
-    let two : Follows (record x { tokens = record x.tokens { given = x.tokens.given + 1 + 1 } }) = one_handed y (gs ++ t ∷ []) us u k o free (all ∙ sym (append_assoc gs (t ∷ []) (u ∷ us))) count ue one in
-    let sum : x.tokens.given + 1 + 1 ≡ x.tokens.given + 2 = omega arith in
-    subst (λ n. Follows (record x { tokens = record x.tokens { given = n } })) sum two
+both_handed x gs us t u k o free all given te ue f = λ a p.
+    let old = f a p in
+    let first : take (x.tokens.given + 2) x.tokens.all ≡ gs ++ t ∷ u ∷ [] = rw (all, given) (take-append-add gs (t ∷ u ∷ us) 2) in
+    let before : handed x.tokens ≡ gs = rw (all, given) (take-append_seam gs (t ∷ u ∷ us)) in
+    let none : has_end gs ≡ false = rw before at (old.open_end o) in
+    given_on x a old k (x.tokens.given + 2) x.keys x.tokens.over (λ _. seen_alike (x.tokens.given + 2) x.tokens.given x.keys free) (λ e. absurd cc) (λ _. rw (first, has_end_append gs (t ∷ u ∷ []), none, te, ue) refl)
 
 -- two tokens more, as callers see it
 hands_both : {T : Type 0} (x y : Fetcher T) (gs us : List Token) (t u : Token) → x.kept ≡ None → x.tokens.over ≡ false → y.kept ≡ x.kept → y.tokens.over ≡ x.tokens.over → handed x.tokens ≡ gs → y.tokens.all ≡ gs ++ t ∷ u ∷ us → y.tokens.given ≡ length gs + 2
@@ -59,17 +65,6 @@ hands_both x y gs us t u k o kept over given all count te ue less =
         left = omega arith;
       };
     }
-
--- ---- what is held
-
-pub seen_free : (g : ℕ) (ks : List (Option ImplicitKey)) → map no_implicit ks ≡ ks → cleared (seen g ks) ≡ seen g ks
-seen_free g ks e = sym (cleared_all g ks) ∙ ap (seen g) e
-
--- the innermost level has no key, and the levels outside it have none
-pub keys_seen : (g : ℕ) (ks : List (Option ImplicitKey)) → map no_implicit ks ≡ ks → 0 < length ks → (js : List (Option Key)) × (cleared js ≡ js) × (seen g ks ≡ None ∷ js)
-keys_seen g [] e h = absurd (omega (arith, h))
-keys_seen g (None ∷ ks) e h = (seen g ks, seen_free g ks cc, refl)
-keys_seen g (Some k ∷ ks) e h = absurd cc
 
 -- ---- levels
 
@@ -154,31 +149,23 @@ module _ {T : Type 0} (x : Fetcher T) (w : WindowView T) (key : List ℕ) (colon
       let s = z.settled in
       both_handed (key_fetcher x.tokens.given) x.tokens.all (token colon Tok.value ∷ []) (token p Tok.key) (token p (Tok.scalar Style.plain key)) s.kept s.over s.no_open_key refl z.waits refl refl (key_fetches f)
 
-  key_less : (n : ℕ) → length (levels_after opens x.levels).indents ≡ n → n ≤ length x.levels.indents + 1 → work (key_fetcher (x.tokens.given + 2)) + 1 < work x
-  key_less n e low =
-      let more : length (x.tokens.all ++ key_tokens p key colon) ≡ length x.tokens.all + 3 = length-append x.tokens.all (key_tokens p key colon) in
-      let waits = z.waits in
-      let left = t.reads.left in
-      let moved = t.at in
-      let some = t.simple.some in
-      rw e (omega (arith, more, waits, left, moved, some, low))
-
   pub key_handed : HandsBoth (inside x) (token p Tok.key) (token p (Tok.scalar Style.plain key)) (inside (key_fetcher (x.tokens.given + 2)))
   key_handed =
       let s = z.settled in
       let waits = z.waits in
+      let left = t.reads.left in
+      let moved = t.at in
+      let some = t.simple.some in
+      let more = length-append x.tokens.all (key_tokens p key colon) in
+      let deeper = levels_more opens x.levels in
       hands_both x (key_fetcher (x.tokens.given + 2)) x.tokens.all (token colon Tok.value ∷ []) (token p Tok.key) (token p (Tok.scalar Style.plain key)) s.kept s.over refl refl (rw waits (take-length x.tokens.all)) refl (rw waits refl) refl refl
-      (key_less _ refl (levels_more opens x.levels))
+      (omega (arith, waits, left, moved, some, more, deeper))
 
 -- ---- a value
 
-popped_is : (ds : List Indent) (limit : ℕ) (l : Columns) → value_level ds ≡ Some limit → ds ≡ level l.indent false ∷ l.indents → (l.indent ≡ limit) × (top_needs_block_end l.indents ≡ true)
-popped_is ds limit l e f =
-    let s = levels_split ds limit e in
-    let same : level l.indent false ∷ l.indents ≡ level limit false ∷ s.0 = sym f ∙ s.1 in
-    let top : level l.indent false ≡ level limit false = cc in
-    let rest : l.indents ≡ s.0 = cc in
-    (ap (λ (i : Indent). i.indent) top, ap top_needs_block_end rest ∙ s.2)
+popped_is : (i : ℕ) (es : List Indent) (limit : ℕ) → value_level (level i false ∷ es) ≡ Some limit → (i ≡ limit) × (top_needs_block_end es ≡ true)
+popped_is i [] limit e = absurd cc
+popped_is i (d ∷ es) limit e = (grind arith, grind arith)
 
 module _ {T : Type 0} (x : Fetcher T) (w : WindowView T) (value : List ℕ) (at : Position) (limit : ℕ) (mark : Position) (l : Columns) (z : AwaitsValue x at limit) (t : TakesValue limit x.window w value) (is : mark ≡ past (position_of x.window)) (popped : x.levels.indents ≡ level l.indent false ∷ l.indents) where
   abbrev q : Position
@@ -217,7 +204,7 @@ module _ {T : Type 0} (x : Fetcher T) (w : WindowView T) (value : List ℕ) (at 
       let s = z.settled in
       let ks = seen x.tokens.given x.keys in
       let free = seen_free x.tokens.given x.keys s.no_open_key in
-      let split = popped_is x.levels.indents limit l z.opened popped in
+      let split = popped_is l.indent l.indents limit (rw popped at z.opened) in
       let y = value_fetcher x.tokens.given in
       let indents : x.levels.indents ≡ level limit false ∷ l.indents = popped ∙ ap (λ i. level i false ∷ l.indents) split.0 in
       let before = in_mapping q x.tokens.all ks x.levels.indent (level limit false ∷ l.indents) false x.leading x.adjacent_value_at in

@@ -1,5 +1,5 @@
 -- Simple texts, and how the model scans them as plain scalars.
-use Rattle.yaml_scanner.proofs.Common.{[], along, and_from, and_parts, ap, append-nil, append_assoc, arith, at_marker, Bool, class_of, eqb-true, false, Fault, indented, is_alphanumeric, is_blank, is_blank_or_breakz, is_break, is_simple, IsSimpleText, le-ltb, length, List, nat_lt, nat_tests, ne_eqb, not, Ok, opens_simple, past, Position, Read, refl, Result, slice_index, subst, suc, sym, true, zero, ℕ, ◌&&◌, ◌++◌, ◌+◌, ◌<◌, ◌==◌, ◌∙◌, ◌∷◌, ◌≡◌, ◌≢◌, ◌≤◌}
+use Rattle.yaml_scanner.proofs.Common.{[], along, and_from, and_parts, ap, append-nil, append_assoc, arith, at_marker, Bool, class_of, eqb-true, false, Fault, indented, is_alphanumeric, is_blank, is_blank_or_breakz, is_break, is_simple, IsSimpleText, le-ltb, length, List, nat_lt, nat_tests, ne_eqb, not, Ok, opens_simple, past, Position, Read, refl, Result, slice_index, suc, true, zero, ℕ, ◌&&◌, ◌++◌, ◌+◌, ◌<◌, ◌==◌, ◌∙◌, ◌∷◌, ◌≡◌, ◌≢◌, ◌≤◌}
 use Rattle.model_scanner.specs.declared.context.Context.{Context}
 use Rattle.model_scanner.specs.Plain.{PlainState, Plain, inside, between, plain, plain_from, can_be_plain, starts, at_dash, at_plain, goes_on, is_shallow}
 use Rattle.model_scanner.specs.declared.class.Class.TheVariants.{Other}

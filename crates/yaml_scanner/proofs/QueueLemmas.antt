@@ -1,13 +1,10 @@
 -- Lemmas about the queue of tokens.
-use Rattle.std.proofs.Common.{◌≡◌, ℕ, ◌+◌, ◌-◌, true, ◌||◌, List, [], ◌∷◌, ◌++◌, map, length, take, drop, refl, ap, sym, ◌∙◌, append_assoc, append-nil, arith, length-append, ◌≤◌}
-use Rattle.std.proofs.lemmas.List.{append_cancel_left, length-map, map-append, take-map, drop-map, take_all, drop_all, take-append-drop}
-use Rattle.std.proofs.Math.Seq.{take-append_seam}
+use Rattle.yaml_scanner.proofs.Common.{[], ap, append-nil, append_assoc, arith, drop, has_end, insert, is_end, length, length-append, List, map, Position, refl, sym, take, take-append-drop, take-append_seam, true, ℕ, ◌++◌, ◌+◌, ◌-◌, ◌||◌, ◌∙◌, ◌∷◌, ◌≡◌, ◌≤◌}
+use Rattle.std.proofs.lemmas.List.{append_cancel_left, length-map, nil_from_length, map-append, take-map, drop-map, take_all, drop_all}
 use Rattle.std.proofs.lemmas.List.Edits.{insert-append_right}
-use Rattle.std.specs.List.{insert}
 use Rattle.yaml_tokens.specs.declared.token.Token.{Token}
 use Rattle.yaml_tokens.specs.Shown.{shown, tok_of}
-use Rattle.yaml_scanner.specs.Tokens.{is_end, has_end, end_at}
-use Rattle.defs_text.specs.Position.{Position}
+use Rattle.yaml_scanner.specs.Tokens.{end_at}
 use Rattle.defs_token.specs.Token as seen
 
 pub waiting_len : (g w : List Token) → length g + length w ≡ length (map shown g ++ map shown w)
@@ -70,13 +67,11 @@ front_keeps w v t e h = insert_keeps w v 0 t e h
 
 pub key_shown : (g k s w v : List Token) (t u : Token) (x : seen.Token) → length w ≡ 0 → k ≡ g ++ t ∷ [] → map shown s ≡ map shown k ++ x ∷ [] → v ≡ w ++ u ∷ []
     → map shown s ++ map shown v ≡ (map shown g ++ map shown w) ++ shown t ∷ x ∷ shown u ∷ []
-key_shown g k s [] v t u x n e f h = rw (h, f, e, map-append shown g (t ∷ [])) (simp (append_assoc, append-nil) refl)
-key_shown g k s (y ∷ w) v t u x n e f h = absurd (omega (arith, n))
+key_shown g k s w v t u x n e f h = rw (h, f, e, nil_from_length w n, map-append shown g (t ∷ [])) (simp (append_assoc, append-nil) refl)
 
 pub value_shown : (g k s w v : List Token) (t : Token) (x : seen.Token) → w ≡ t ∷ v → length v ≡ 0 → k ≡ g ++ t ∷ [] → map shown s ≡ map shown k ++ x ∷ []
     → map shown s ++ map shown v ≡ (map shown g ++ map shown w) ++ x ∷ []
-value_shown g k s w [] t x e n f h = rw (h, f, e, map-append shown g (t ∷ [])) (simp (append_assoc, append-nil) refl)
-value_shown g k s w (y ∷ v) t x e n f h = absurd (omega (arith, n))
+value_shown g k s w v t x e n f h = rw (h, f, e, nil_from_length v n, map-append shown g (t ∷ [])) (simp (append_assoc, append-nil) refl)
 
 pub two_more : (g k s : List Token) (t : Token) → k ≡ g ++ t ∷ [] → length s ≡ length k + 1 → length s ≡ length g + 2
 two_more g k s t e f = let one = give_len g k t e in omega (arith, one, f)

@@ -1,5 +1,5 @@
 -- How calls compose.
-use Rattle.yaml_scanner.proofs.Common.{after_char, arith, Becomes, Brings, Err, false, Fault, Fetcher, Fetches, Gets, Held, IsErrAnd, List, Moves, Ok, on_held, once, OnOk, Reads, Reads-saw, Reads-then, refl, Result, Runs, ScannerState, Sees, skip_indicator, slice_index, state, Steps, true, try_held, Turns, unroll_indent, ℕ, ◌+◌, ◌>>=◌, ◌∙◌, ◌∷◌, ◌≡◌}
+use Rattle.yaml_scanner.proofs.Common.{after_char, arith, Becomes, Brings, Err, false, Fault, Fetcher, Fetches, Gets, Held, IsErrAnd, List, Moves, Ok, on_held, once, OnOk, Reads, Reads-then, refl, Result, Runs, ScannerState, skip_indicator, slice_index, state, Steps, true, try_held, Turns, unroll_indent, ℕ, ◌+◌, ◌>>=◌, ◌∙◌, ◌∷◌, ◌≡◌}
 use Rattle.yaml_scanner.proofs.ReadsLemmas.{Reads-map, Reads-along, Reads-none}
 
 on_ok : {X E P Q : Type 0} (r : Result X E) → (P → Q) → OnOk r P → OnOk r Q
@@ -10,15 +10,7 @@ pub keeps_of : {T : Type 0} {up down : ℕ} (x y : Fetcher T) → Moves x y up d
 keeps_of x y m = record { given = m.given; over = m.over; fault = m.fault; backlog = m.backlog }
 
 moves_then : {T : Type 0} {u1 d1 u2 d2 : ℕ} (x0 x1 x2 : Fetcher T) → Moves x0 x1 u1 d1 → Moves x1 x2 u2 d2 → Moves x0 x2 (u1 + u2) (d1 + d2)
-moves_then x0 x1 x2 m n = record {
-  bound = omega (arith, m.bound, n.bound);
-  given = n.given ∙ m.given;
-  start = n.start ∙ m.start;
-  stop = n.stop ∙ m.stop;
-  over = n.over ∙ m.over;
-  fault = n.fault ∙ m.fault;
-  backlog = n.backlog ∙ m.backlog;
-}
+moves_then x0 x1 x2 m n = grind arith
 
 keeps_then : {T : Type 0} (x0 x1 x2 : Fetcher T) → Fetches x0 x1 → Fetches x1 x2 → Fetches x0 x2
 keeps_then x0 x1 x2 m n = record { given = n.given ∙ m.given; over = n.over ∙ m.over; fault = n.fault ∙ m.fault; backlog = n.backlog ∙ m.backlog }
@@ -65,17 +57,11 @@ indicator_runs x y e s m = record { comes = Reads-map _ _ s (λ a b p. passed a 
 
 -- ---- fetches
 
-pub brings_seen : {T X E : Type 0} {f h : ScannerState → Result ScannerState Fault} (x y : Fetcher T) (r : Result X E) → Sees x.window (λ a. h (state a x) ≡ f (state a x)) → Brings f x r y → Brings h x r y
-brings_seen x y r s m = record { comes = Reads-saw _ _ s m.comes (λ a b p q. rw p q); less = m.less; run = m.run }
-
 pub brings_then : {T X Y D E : Type 0} {f k : ScannerState → Result ScannerState Fault} (x y z : Fetcher T) (v : Y) (r : Result X E) → Runs {E = D} f x (Ok v) y 0 0 → Brings k y r z → Brings (λ t. f t >>= k) x r z
 brings_then x y z v r m n = let b = m.bounds in record { comes = Reads-then _ _ _ m.comes n.comes (λ a b d p q. rw p q); less = on_ok r (λ l. omega (arith, b.bound, l)) n.less; run = keeps_then x y z m.run n.run }
 
 pub brings_on : {T X Y D E : Type 0} {f k : ScannerState → Result ScannerState Fault} (x y z : Fetcher T) (v : Y) (r : Result X E) → Brings {E = D} f x (Ok v) y → Runs k y r z 0 0 → Brings (λ t. f t >>= k) x r z
 brings_on x y z v r m n = let l = m.less in record { comes = Reads-then _ _ _ m.comes n.comes (λ a b d p q. rw p q); less = on_ok r (λ (b : Moves y z 0 0). omega (arith, b.bound, l)) n.bounds; run = keeps_then x y z m.run n.run }
-
-pub brings_as : {T X E : Type 0} {f h : ScannerState → Result ScannerState Fault} (x y : Fetcher T) (r : Result X E) → Brings f x r y → ((a : List ℕ) → h (state a x) ≡ f (state a x)) → Brings h x r y
-brings_as x y r m e = brings_seen x y r (record { sees = λ w p. e _ }) m
 
 -- what refuses a step
 pub refused : {T X D E : Type 0} {f : ScannerState → Result ScannerState Fault} {up down : ℕ} (x y : Fetcher T) (e : D) (w : E) → Runs {X = X} f x (Err e) y up down → Brings {X = X} f x (Err w) y
@@ -84,8 +70,9 @@ refused x y e w m = record { comes = m.comes; less = tt; run = m.run }
 pub brings_stop : {T X Y D E : Type 0} {f : ScannerState → Result ScannerState Fault} (x y : Fetcher T) (k : ScannerState → Result ScannerState Fault) (e : D) (w : E) → Brings {X = Y} f x (Err e) y → Brings {X = X} (λ t. f t >>= k) x (Err w) y
 brings_stop x y k e w m = record { comes = Reads-map _ _ m.comes (λ a b p n. rw (p n) refl); less = tt; run = m.run }
 
-pub gets : {T X E : Type 0} {f : ScannerState → Result ScannerState Fault} (x y : Fetcher T) (r : Result X E) → Brings f x r y → OnOk r (y.tokens.ended ≡ true → y.window.done ≡ true) → Gets f x r y
-gets x y r m d = record { does = once m.comes; done = d; less = m.less; run = m.run }
+-- by an equation of the model's
+pub gets : {T X E : Type 0} {f h : ScannerState → Result ScannerState Fault} (x y : Fetcher T) (r : Result X E) → Brings f x r y → ((a : List ℕ) → h (state a x) ≡ f (state a x)) → OnOk r (y.tokens.ended ≡ true → y.window.done ≡ true) → Gets h x r y
+gets x y r m e d = record { does = once (Reads-map _ _ m.comes (λ a b p. rw (e a) p)); done = d; less = m.less; run = m.run }
 
 pub always : {X E P : Type 0} (r : Result X E) → P → OnOk r P
 always (Ok v) p = p

@@ -1,6 +1,4 @@
-use Rattle.std.proofs.Common.{◌∙◌, ap}
-use Rattle.std.specs.List.{list_any}
-use Rattle.model_scanner.specs.Keys.{is_required}
+use Rattle.yaml_scanner.proofs.Common.{ap, is_required, list_any, ◌∙◌}
 use Rattle.yaml_scanner.specs.ImplicitKeys.{key_of}
 use Rattle.yaml_scanner.proofs.KeyLemmas.{required_seen}
 use Rattle.yaml_scanner.proofs.keys.ImplicitKeys.has_required.Goals as goal
