@@ -9,7 +9,7 @@ use Rattle.model_scanner.proofs.Ends.{end_is_last}
 use Rattle.yaml_scanner.specs.declared.fetcher.Backlog.{Backlog}
 use Rattle.yaml_scanner.specs.Rowless.{HasNoRow}
 use Rattle.yaml_scanner.specs.Waits.{comes_before}
-use Rattle.yaml_scanner.proofs.GivenLemmas.{lowered_seen}
+use Rattle.yaml_scanner.proofs.KeyLemmas.{lowered_seen}
 use Rattle.yaml_scanner.proofs.WhereLemmas.{Standing, in_text, at_end, not_started, has_started, standing}
 use Rattle.yaml_scanner.proofs.QueueLemmas.{has_end_append}
 use Rattle.defs_token.specs.Cut.{IsCut, IsCutOfBeginning, tokens_of, end_token}

@@ -1,17 +1,7 @@
 -- Lemmas about what may be a key.
-use Rattle.std.proofs.Common.{◌≡◌, ℕ, List, [], ◌∷◌, ◌++◌, reverse, map, refl, ap, sym, ◌∙◌, Option, Some, None, length, arith, Bool, true, false, Ok, Err}
-use Rattle.std.specs.List.{list_any}
-use Rattle.std.specs.Prelude.{is_some}
-use Rattle.std.proofs.lemmas.List.{reverse-append, map-append}
+use Rattle.yaml_scanner.proofs.Common.{[], ap, arith, At, Bool, cleared, drop_stale, Err, false, has_required, ImplicitKey, is_front, is_overdue, is_required, is_some, is_stale, Key, key_of, keyed_by, length, List, list_any, lowered, map, map-append, map-map, nat_tests, no_implicit, None, Ok, Option, pop, Position, refl, reverse, reverse-append, seen, Some, still, still_implicit, sym, top_implicit, top_key, true, with_top, ℕ, ◌++◌, ◌+◌, ◌∙◌, ◌∷◌, ◌≡◌}
 use Rattle.std.proofs.lemmas.List.Sorted.{IsPermutation-reverse, list_any-IsPermutation}
-use Rattle.std.proofs.lemmas.Simd.{map-map}
-use Rattle.defs_text.specs.Position.{Position}
-use Rattle.yaml_tokens.specs.declared.problem.Fault.TheVariants.{At}
 use Rattle.yaml_tokens.specs.declared.problem.Problem.TheVariants as problem
-use Rattle.model_scanner.specs.State.{Key, pop, with_top}
-use Rattle.model_scanner.specs.Keys.{is_overdue, still, drop_stale, is_required, has_required, cleared, top_key}
-use Rattle.yaml_scanner.specs.declared.keys.ImplicitKey.{ImplicitKey}
-use Rattle.yaml_scanner.specs.ImplicitKeys.{key_of, keyed_by, seen, is_front, lowered, still_implicit, is_stale, no_implicit, top_implicit}
 use Rattle.yaml_scanner.proofs.StackLemmas as stack
 
 pub popped : {A : Type 0} (xs ys : List A) (x : A) → xs ≡ ys ++ x ∷ [] → reverse ys ≡ pop (reverse xs)
@@ -80,6 +70,12 @@ with_top_seen g k (l ∷ ks) = refl
 pub pop_seen : (g : ℕ) (ks : List (Option ImplicitKey)) → seen g (pop ks) ≡ pop (seen g ks)
 pop_seen g [] = refl
 pop_seen g (l ∷ ks) = refl
+
+-- While no key is open at the front, a token that is handed out leaves the keys as they are.
+pub lowered_seen : (g : ℕ) (ks : List (Option ImplicitKey)) → list_any is_front ks ≡ false → seen (g + 1) (map lowered ks) ≡ seen g ks
+lowered_seen g [] e = refl
+lowered_seen g (None ∷ ks) e = ap (λ ls. None ∷ ls) (lowered_seen g ks e)
+lowered_seen g (Some k ∷ ks) e = let rest = lowered_seen g ks in grind (arith, nat_tests)
 
 -- ---- where no level has a key
 

@@ -1,6 +1,5 @@
 -- Lemmas about levels of indentation.
-use Rattle.yaml_scanner.proofs.Common.{[], arith, ends_open, false, Indent, level, List, refl, top_needs_block_end, true, ℕ, ◌+◌, ◌<◌, ◌∷◌, ◌≡◌, ◌≤◌}
-use Rattle.std.proofs.Common.{◌^◌}
+use Rattle.yaml_scanner.proofs.Common.{[], arith, ends_open, false, Indent, level, List, refl, top_needs_block_end, true, ℕ, ◌+◌, ◌<◌, ◌^◌, ◌∷◌, ◌≡◌, ◌≤◌}
 use Rattle.yaml_scanner.specs.Levels.{AreSmall}
 
 pub small_indent : (i : ℕ) (ds : List Indent) → AreSmall i ds → i ≤ 2 ^ 63 + 1

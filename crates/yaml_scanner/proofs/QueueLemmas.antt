@@ -1,10 +1,9 @@
 -- Lemmas about the queue of tokens.
-use Rattle.yaml_scanner.proofs.Common.{[], ap, append-nil, append_assoc, arith, drop, has_end, insert, is_end, length, length-append, List, map, Position, refl, sym, take, take-append-drop, take-append_seam, true, ℕ, ◌++◌, ◌+◌, ◌-◌, ◌||◌, ◌∙◌, ◌∷◌, ◌≡◌, ◌≤◌}
-use Rattle.std.proofs.lemmas.List.{append_cancel_left, length-map, nil_from_length, map-append, take-map, drop-map, take_all, drop_all}
+use Rattle.yaml_scanner.proofs.Common.{[], ap, append-nil, append_assoc, arith, drop, end_at, has_end, insert, is_end, length, length-append, length-map, List, map, map-append, Position, refl, sym, take, take-append-drop, take-append_seam, take_all, true, ℕ, ◌++◌, ◌+◌, ◌-◌, ◌||◌, ◌∙◌, ◌∷◌, ◌≡◌, ◌≤◌}
+use Rattle.std.proofs.lemmas.List.{append_cancel_left, nil_from_length, take-map, drop-map, drop_all}
 use Rattle.std.proofs.lemmas.List.Edits.{insert-append_right}
 use Rattle.yaml_tokens.specs.declared.token.Token.{Token}
 use Rattle.yaml_tokens.specs.Shown.{shown, tok_of}
-use Rattle.yaml_scanner.specs.Tokens.{end_at}
 use Rattle.defs_token.specs.Token as seen
 
 pub waiting_len : (g w : List Token) → length g + length w ≡ length (map shown g ++ map shown w)

@@ -1,13 +1,9 @@
 -- Lemmas about stacks.
-use Rattle.std.proofs.Common.{◌≡◌, ◌-◌, ◌<◌, ◌≤◌, List, [], ◌∷◌, ◌++◌, reverse, refl, ap, sym, ◌∙◌, Option, Some, None, length, arith, slice_get, set, ◌==◌}
-use Rattle.std.proofs.lemmas.List.{reverse-append, reverse-reverse, length-reverse}
+use Rattle.yaml_scanner.proofs.Common.{[], ap, arith, get_or, is_empty, length, List, ne_eqb, None, Option, pop, refl, reverse, reverse-append, set, slice_get, Some, sym, top, with_top, ◌++◌, ◌-◌, ◌<◌, ◌==◌, ◌∙◌, ◌∷◌, ◌≡◌, ◌≤◌}
+use Rattle.std.proofs.lemmas.List.{reverse-reverse, length-reverse}
 use Rattle.std.proofs.Math.Seq.{set-append_seam}
 use Rattle.std.proofs.lemmas.Grind.{common_steps, elements}
-use Rattle.std.proofs.lemmas.Bool.{ne_eqb}
 use Rattle.std.proofs.lemmas.Option.{slice_get_read}
-use Rattle.std.proofs.Common.{get_or}
-use Rattle.model_scanner.specs.State.{top, with_top, pop}
-use Rattle.defs_text.specs.Text.{is_empty}
 
 pub pushed : {A : Type 0} (xs ys : List A) (x : A) → ys ≡ xs ++ x ∷ [] → reverse ys ≡ x ∷ reverse xs
 pushed xs ys x e = ap reverse e ∙ reverse-append xs (x ∷ [])

@@ -1,4 +1,5 @@
-use Rattle.yaml_scanner.proofs.Common.{ap, held, None, refl, rules, seen, with_top_seen, ◌∙◌}
+use Rattle.yaml_scanner.proofs.Common.{ap, held, None, refl, rules, seen, ◌∙◌}
+use Rattle.yaml_scanner.proofs.KeyLemmas.{with_top_seen}
 use Rattle.yaml_scanner.proofs.HeldLemmas.{not_removed, removed}
 use Rattle.yaml_scanner.proofs.fetcher.Fetcher.remove_implicit_key.Goals as goal
 

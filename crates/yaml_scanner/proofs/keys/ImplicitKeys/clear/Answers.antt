@@ -1,6 +1,4 @@
-use Rattle.std.proofs.Common.{◌≡◌, ◌∙◌, ap, map, reverse}
-use Rattle.std.proofs.lemmas.List.{with_items_is}
-use Rattle.yaml_scanner.specs.ImplicitKeys.{seen, no_implicit}
+use Rattle.yaml_scanner.proofs.Common.{ap, map, no_implicit, reverse, seen, with_items_is, ◌∙◌, ◌≡◌}
 use Rattle.yaml_scanner.proofs.KeyLemmas.{cleared_seen, closed_twice}
 use Rattle.yaml_scanner.proofs.keys.ImplicitKeys.clear.Goals as goal
 

@@ -1,5 +1,4 @@
-use Rattle.yaml_scanner.proofs.Common.{ap, list_any, sym, ◌∙◌}
-use Rattle.yaml_scanner.specs.ImplicitKeys.{is_stale}
+use Rattle.yaml_scanner.proofs.Common.{ap, is_stale, list_any, sym, ◌∙◌}
 use Rattle.yaml_scanner.proofs.KeyLemmas.{fresh_seen, none_seen}
 use Rattle.yaml_scanner.proofs.keys.ImplicitKeys.drop_stale.Goals as goal
 

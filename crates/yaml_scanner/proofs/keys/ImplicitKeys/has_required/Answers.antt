@@ -1,5 +1,4 @@
-use Rattle.yaml_scanner.proofs.Common.{ap, is_required, list_any, ◌∙◌}
-use Rattle.yaml_scanner.specs.ImplicitKeys.{key_of}
+use Rattle.yaml_scanner.proofs.Common.{ap, is_required, key_of, list_any, ◌∙◌}
 use Rattle.yaml_scanner.proofs.KeyLemmas.{required_seen}
 use Rattle.yaml_scanner.proofs.keys.ImplicitKeys.has_required.Goals as goal
 

@@ -1,6 +1,4 @@
-use Rattle.std.proofs.Common.{◌∙◌, ap, sym, map, reverse}
-use Rattle.std.proofs.lemmas.List.{with_items_is}
-use Rattle.yaml_scanner.specs.ImplicitKeys.{lowered}
+use Rattle.yaml_scanner.proofs.Common.{ap, lowered, map, reverse, sym, with_items_is, ◌∙◌}
 use Rattle.yaml_scanner.proofs.KeyLemmas.{map_reversed, none_lower}
 use Rattle.yaml_scanner.proofs.keys.ImplicitKeys.lower.Goals as goal
 

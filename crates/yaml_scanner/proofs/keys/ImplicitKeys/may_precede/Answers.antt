@@ -1,4 +1,4 @@
-use Rattle.std.proofs.Common.{◌∙◌}
+use Rattle.yaml_scanner.proofs.Common.{◌∙◌}
 use Rattle.yaml_scanner.proofs.KeyLemmas.{none_precedes}
 use Rattle.yaml_scanner.proofs.keys.ImplicitKeys.may_precede.Goals as goal
 
