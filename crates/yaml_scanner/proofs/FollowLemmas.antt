@@ -215,9 +215,7 @@ memory_sound OutOfMemory (Some m) a r ts h = refl
 memory_sound (At q p) (Some m) a r ts h = absurd (not_refused a ts (At q p) h (r (λ e. absurd cc)))
 
 memory_says : (e : Fault) (kept : Option Position) → IfSome (option_map (fault_of e) kept) (λ x. x.memory ≡ true → x.text ≡ codes "out of memory")
-memory_says e None = tt
-memory_says OutOfMemory (Some m) = λ h. refl
-memory_says (At q p) (Some m) = λ h. absurd cc
+memory_says e kept = grind arith
 
 -- a refused text has no row
 has_no_row : (a : List ℕ) (why : Problem) (at m : Position) → has_no_nul a ≡ true → IsRefused a (At why at) → HasNoRow a (fault_of (At why at) m)
@@ -244,8 +242,7 @@ all_settled OutOfMemory (Some m) early a given s late = λ n. absurd cc
 all_settled (At q p) (Some m) early a given s late = λ n. s late (λ e. absurd cc)
 
 none_kept : (e : Fault) (kept : Option Position) → option_map (fault_of e) kept ≡ None → kept ≡ None
-none_kept e None h = refl
-none_kept e (Some m) h = absurd cc
+none_kept e kept h = grind arith
 
 pub scans_from : {T : Type 0} (x : Fetcher T) → Follows x → Scans (inside x)
 scans_from x f = record {

@@ -1,5 +1,6 @@
 -- Lemmas about what the scanner holds.
-use Rattle.yaml_scanner.proofs.Common.{[], arith, le-ltb, lt-ltb, At, Bool, Columns, drop_stale, end_level, ends_open, Err, false, Fault, Held, in_flow, Indent, is_required, Key, level, Levels, List, MatchOption, None, Ok, Option, Position, refl, remove_implicit_key, Some, stale, Token, top_key, true, unroll_indent, unroll_non_block_indents, unrolled, with_levels, with_top, without_open, ℕ, ◌<◌, ◌∷◌, ◌≡◌, ◌≤◌}
+use Rattle.yaml_scanner.proofs.Common.{[], arith, le-ltb, lt-ltb, At, Bool, Columns, drop_stale, end_level, ends_open, Err, false, Fault, Held, in_flow, Indent, is_required, Key, level, Levels, List, MatchOption, None, Ok, Option, Position, refl, Result, remove_implicit_key, Some, stale, Token, top_key, true, unroll_indent, unroll_non_block_indents, unrolled, with_levels, with_top, without_open, ℕ, ◌<◌, ◌∷◌, ◌≡◌, ◌≤◌}
+use Rattle.model_scanner.specs.Keys.{with_keys}
 use Rattle.yaml_tokens.specs.declared.problem.Problem.TheVariants as problem
 
 pub removed : (h : Held) (ks : List (Option Key)) (b : Bool) → b ≡ is_required (top_key h.keys) → b ≡ false → ks ≡ with_top None h.keys → remove_implicit_key h ≡ Ok (record h { keys = ks })
@@ -14,13 +15,9 @@ pub stale_in_flow : (h : Held) (b : Bool) → b ≡ in_flow h → b ≡ true →
 unfolding stale
 stale_in_flow h b e f = rw (← e, f) refl
 
-pub stale_dropped : (h : Held) (ks : List (Option Key)) (b : Bool) (p : Position) → b ≡ in_flow h → b ≡ false → p ≡ h.position → drop_stale p h.keys ≡ Ok ks → stale h ≡ Ok (record h { keys = ks })
+pub stale_dropped : (h : Held) (r : Result (List (Option Key)) Fault) (b : Bool) (p : Position) → b ≡ in_flow h → b ≡ false → p ≡ h.position → drop_stale p h.keys ≡ r → stale h ≡ with_keys h r
 unfolding stale
-stale_dropped h ks b p e f k d = let d' = rw k at d in rw (← e, f, d') refl
-
-pub stale_failed : (h : Held) (x : Fault) (b : Bool) (p : Position) → b ≡ in_flow h → b ≡ false → p ≡ h.position → drop_stale p h.keys ≡ Err x → stale h ≡ Err x
-unfolding stale
-stale_failed h x b p e f k d = let d' = rw k at d in rw (← e, f, d') refl
+stale_dropped h r b p e f k d = let d' = rw k at d in rw (← e, f, d') refl
 
 -- what is popped off an innermost level that opens no collection
 pub open_popped : (old new : Columns) (r : Option Bool) → ends_open old.indents ≡ true → MatchOption r ((old.indents ≡ []) × (new ≡ old)) (λ ends. old.indents ≡ level new.indent ends ∷ new.indents) → old.indents ≡ level new.indent false ∷ new.indents

@@ -3,7 +3,7 @@ use Rattle.yaml_scanner.proofs.HeldLemmas.{unroll_in_flow, unroll_done, unrolled
 use Rattle.yaml_scanner.proofs.fetcher.Fetcher.end_levels.Goals as goal
 
 pub returns-then-in_flow : goal.returns-then-in_flow
-returns-then-in_flow g c = record { held = unroll_in_flow c.args.limit (held c.args.self.now) c.in_flow.result c.in_flow.ensures c.if-in_flow.true; err = tt; bounds = search rules; window = search rules }
+returns-then-in_flow g c = record { held = unroll_in_flow c.args.limit (held c.args.self.now) _ c.in_flow.ensures c.if-in_flow.true; err = tt; bounds = search rules; window = search rules }
 
 pub returns-in_default : goal.returns-in_default
 returns-in_default g c = record { held = unroll_done c.args.limit (held c.args.self.now) _ _ c.levels.invariant.flow (c.levels.invariant.levels ∙ unrolled_none _ _ _ _ _ c.in_default.ensures.0) (rw c.in_default.ensures.1 (ap held c.levels.invariant.state)); err = tt; bounds = search rules; window = ap (λ s. s.window) c.levels.invariant.state }
