@@ -12,7 +12,7 @@ use Rattle.yaml_scanner.specs.Waits.{comes_before}
 use Rattle.yaml_scanner.proofs.KeyLemmas.{lowered_seen}
 use Rattle.yaml_scanner.proofs.WhereLemmas.{Standing, in_text, at_end, not_started, has_started, standing}
 use Rattle.yaml_scanner.proofs.QueueLemmas.{has_end_append}
-use Rattle.defs_token.specs.Cut.{IsCut, IsCutOfBeginning, tokens_of, end_token}
+use Rattle.defs_token.specs.Cut.{IsCutOfBeginning, tokens_of, end_token}
 use Rattle.proof_scanner.proofs.Cut.Faults.Fetches.{faults_stand}
 use Rattle.proof_scanner.proofs.Sound.FirstTokens.{first_tokens_are_cut}
 use Rattle.defs_token.specs.Row.{IsRead}
@@ -199,13 +199,11 @@ handed_on x q ks t k o front e g i f = λ a p.
 
 -- ---- as callers see it
 
--- a cut has the stream's end
-cut_has_end : (ts : List Token) (a : List ℕ) → IsCut ts a → has_end ts ≡ true
-cut_has_end ts a c = rw (c.are_tokens, has_end_append (tokens_of c.row) (end_token c.end ∷ [])) (grind arith)
-
 begun_cut : (ts : List Token) (a : List ℕ) → IsReached a ts → has_end ts ≡ false → has_no_nul a ≡ true → IsCutOfBeginning ts a
 begun_cut ts a r e n = elim (first_tokens_are_cut a ts r.begins.more r.last n r.run r.begins.whole) [
-  | inl c ↦ absurd (cc (e, cut_has_end ts a c))
+  | inl c ↦
+      let end : has_end ts ≡ true = rw (c.are_tokens, has_end_append (tokens_of c.row) (end_token c.end ∷ [])) (grind arith) in
+      absurd (cc (e, end))
   | inr c ↦ c
 ]
 
@@ -237,9 +235,7 @@ one_refusal a None r e i = tt
 one_refusal a (Some x) r e i = λ n. let z = r n in (z.position, z.shown ∙ ap (λ d. fault_of d z.position) (one_fault a z.fault e z.refused i))
 
 all_settled : (e : Fault) (kept : Option Position) (early : Bool) (a : List ℕ) (given : List Token) → IfSome kept (λ _. early ≡ false → e ≢ OutOfMemory → AreSettled a given) → early ≡ false → IfSome (option_map (fault_of e) kept) (λ x. x.memory ≡ false → AreSettled a given)
-all_settled e None early a given s late = tt
-all_settled OutOfMemory (Some m) early a given s late = λ n. absurd cc
-all_settled (At q p) (Some m) early a given s late = λ n. s late (λ e. absurd cc)
+all_settled e kept early a given s late = grind arith
 
 none_kept : (e : Fault) (kept : Option Position) → option_map (fault_of e) kept ≡ None → kept ≡ None
 none_kept e kept h = grind arith

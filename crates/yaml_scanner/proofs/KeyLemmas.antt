@@ -1,5 +1,5 @@
 -- Lemmas about what may be a key.
-use Rattle.yaml_scanner.proofs.Common.{[], ap, arith, At, Bool, cleared, drop_stale, Err, false, has_required, ImplicitKey, is_front, is_overdue, is_required, is_some, is_stale, Key, key_of, keyed_by, length, List, list_any, lowered, map, map-append, map-map, nat_tests, no_implicit, None, Ok, Option, pop, Position, refl, reverse, reverse-append, seen, Some, still, still_implicit, sym, top_implicit, top_key, true, with_top, ℕ, ◌++◌, ◌+◌, ◌∙◌, ◌∷◌, ◌≡◌}
+use Rattle.yaml_scanner.proofs.Common.{[], ap, arith, At, Bool, cleared, drop_stale, Err, false, ImplicitKey, is_front, is_overdue, is_required, is_some, is_stale, Key, key_of, keyed_by, length, List, list_any, lowered, map, map-append, map-map, nat_tests, no_implicit, None, Ok, Option, pop, Position, refl, reverse, reverse-append, seen, Some, still, still_implicit, sym, top_implicit, top_key, true, with_top, ℕ, ◌++◌, ◌+◌, ◌∙◌, ◌∷◌, ◌≡◌}
 use Rattle.std.proofs.lemmas.List.Sorted.{IsPermutation-reverse, list_any-IsPermutation}
 use Rattle.yaml_tokens.specs.declared.problem.Problem.TheVariants as problem
 use Rattle.yaml_scanner.proofs.StackLemmas as stack
@@ -24,7 +24,7 @@ any_all f g e [] = refl
 any_all f g e (None ∷ ks) = rw (any_all f g e ks) refl
 any_all f g e (Some k ∷ ks) = rw (e k, any_all f g e ks) refl
 
-any_seen : (f : Option Key → Bool) (g : ℕ) → ((k : ImplicitKey) → f (Some (keyed_by g k)) ≡ f (Some (keyed_by 0 k))) → (ks : List (Option ImplicitKey)) → list_any f (seen g (reverse ks)) ≡ list_any (λ k. f (key_of 0 k)) ks
+pub any_seen : (f : Option Key → Bool) (g : ℕ) → ((k : ImplicitKey) → f (Some (keyed_by g k)) ≡ f (Some (keyed_by 0 k))) → (ks : List (Option ImplicitKey)) → list_any f (seen g (reverse ks)) ≡ list_any (λ k. f (key_of 0 k)) ks
 any_seen f g e ks = any_all f g e (reverse ks) ∙ any_reversed (λ k. f (key_of 0 k)) ks
 
 still_all : (p : Position) (g : ℕ) (ks : List (Option ImplicitKey)) → map (key_of g) (map (still_implicit p) ks) ≡ map (still p) (map (key_of g) ks)
@@ -48,9 +48,6 @@ fresh_all p (Some k ∷ ks) h = let rest = fresh_all p ks in (grind arith, grind
 -- where no key is too far back, all stay
 pub fresh_seen : (p : Position) (g : ℕ) (ks : List (Option ImplicitKey)) → list_any (is_stale p) ks ≡ false → drop_stale p (seen g (reverse ks)) ≡ Ok (seen g (reverse ks))
 fresh_seen p g ks h = let all = fresh_all p ks h in still_seen p g ks ks all.0 (sym all.1)
-
-pub required_seen : (g : ℕ) (ks : List (Option ImplicitKey)) → list_any (λ k. is_required (key_of 0 k)) ks ≡ has_required (seen g (reverse ks))
-required_seen g ks = sym (any_seen is_required g (λ k. refl) ks)
 
 pub cleared_all : (g : ℕ) (ks : List (Option ImplicitKey)) → seen g (map no_implicit ks) ≡ cleared (seen g ks)
 cleared_all g ks = simp map-map refl
@@ -79,9 +76,6 @@ lowered_seen g (Some k ∷ ks) e = let rest = lowered_seen g ks in grind (arith,
 
 -- ---- where no level has a key
 
-pub closed_twice : (ks : List (Option ImplicitKey)) → map no_implicit (map no_implicit ks) ≡ map no_implicit ks
-closed_twice ks = simp map-map refl
-
 pub none_found : (ks : List (Option ImplicitKey)) → list_any is_some ks ≡ false → map no_implicit ks ≡ ks
 none_found [] e = refl
 none_found (None ∷ ks) e = ap (λ ls. None ∷ ls) (none_found ks e)
@@ -99,15 +93,3 @@ none_lowered ks e = ap (map lowered) (sym e) ∙ simp map-map refl ∙ e
 
 pub none_reversed : (ks : List (Option ImplicitKey)) → map no_implicit ks ≡ ks → map no_implicit (reverse ks) ≡ reverse ks
 none_reversed ks e = map_reversed no_implicit ks ∙ ap reverse e
-
--- none is too far back
-pub none_seen : (p : Position) (g : ℕ) (ks : List (Option ImplicitKey)) → map no_implicit ks ≡ ks → drop_stale p (seen g (reverse ks)) ≡ Ok (seen g (reverse ks))
-none_seen p g ks e = fresh_seen p g ks (none_any (is_stale p) refl ks e)
-
--- none stands before the next token
-pub none_precedes : (ks : List (Option ImplicitKey)) → map no_implicit ks ≡ ks → false ≡ list_any is_front (reverse ks)
-none_precedes ks e = sym (any_reversed is_front ks ∙ none_any is_front refl ks e)
-
--- none changes where a token is handed out
-pub none_lower : (ks : List (Option ImplicitKey)) → map no_implicit ks ≡ ks → reverse ks ≡ map lowered (reverse ks)
-none_lower ks e = sym (map_reversed lowered ks ∙ ap reverse (none_lowered ks e))

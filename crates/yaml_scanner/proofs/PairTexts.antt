@@ -144,14 +144,11 @@ module _ (i : ℕ) (start : Position) where
   unfolding plain starts at_dash
   begins_scan c w r all close deep = text_goes w r false (past start) (c ∷ []) [] all close deep (omega arith)
 
-  at_colon : (text : List ℕ) (d : ℕ) (a : List ℕ) (p : Position) → is_blank_or_breakz d ≡ true → scan (58 ∷ d ∷ a) (at false p text []) ≡ Ok (record { rest = 58 ∷ d ∷ a; position = p; value = record { text = text; leading = false } })
-  unfolding is_break is_blank can_be_plain
-  at_colon text d a p end = rw end refl
-
   -- up to a colon
   pub plain_key : (c : ℕ) (w : List ℕ) (d : ℕ) (a : List ℕ) → all_simple w ≡ true → closes false w ≡ true → i ≤ start.col + 1 → is_blank_or_breakz d ≡ true
       → plain (outside i) (c ∷ (w ++ 58 ∷ d ∷ a)) start ≡ Ok (record { rest = 58 ∷ d ∷ a; position = along (c ∷ w) start; value = record { text = c ∷ w; leading = false } })
-  plain_key c w d a all close deep end = begins_scan c w (58 ∷ d ∷ a) all close deep ∙ at_colon (c ∷ w) d a (along (c ∷ w) start) end
+  unfolding is_break is_blank can_be_plain
+  plain_key c w d a all close deep end = begins_scan c w (58 ∷ d ∷ a) all close deep ∙ rw end refl
 
   -- after a line feed and spaces
   abbrev below : ℕ → ℕ → ℕ → List ℕ → PlainState

@@ -47,13 +47,9 @@ end_waits w v t p end e =
     let last : is_end (tok_of t.1) ≡ true = ap (λ (s : seen.Token). is_end s.tok) end in
     rw (e, map-append shown w (t ∷ []), has_end_append (map shown w) (map shown (t ∷ [])), last) (grind arith)
 
--- a position after all is the end
-insert_past : (w : List Token) (i : ℕ) (t : Token) → length w ≤ i → insert w i t ≡ w ++ t ∷ []
-insert_past w i t h = rw (take_all i w h, drop_all i w h) refl
-
 -- a token after all, at a position after all
 pub past_shown : (g w v : List Token) (i : ℕ) (t : Token) → v ≡ w ++ t ∷ [] → length w ≤ i → map shown g ++ map shown v ≡ insert (map shown g ++ map shown w) (length g + i) (shown t)
-past_shown g w v i t e h = insert_shown g w v i t (e ∙ sym (insert_past w i t h))
+past_shown g w v i t e h = let past : insert w i t ≡ w ++ t ∷ [] = rw (take_all i w h, drop_all i w h) refl in insert_shown g w v i t (e ∙ sym past)
 
 -- a token before all, and how many wait before it
 pub front_shown : (g w v : List Token) (i : ℕ) (t : Token) → v ≡ t ∷ w → i ≡ 0 → map shown g ++ map shown v ≡ insert (map shown g ++ map shown w) (length g + i) (shown t)

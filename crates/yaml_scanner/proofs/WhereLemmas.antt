@@ -4,10 +4,6 @@ use Rattle.std.proofs.Math.Seq.{take-nil}
 use Rattle.proof_scanner.specs.Positions.{IsPositionIn}
 use Rattle.proof_scanner.proofs.Sound.FirstTokens.{run_is_where}
 
-none_of : (n : ℕ) (xs : List Token) → xs ≡ [] → (take n xs ≡ []) × (length xs - n ≡ 0)
-none_of n [] e = (take-nil n, omega arith)
-none_of n (x ∷ xs) e = absurd cc
-
 some_of : (n : ℕ) (xs : List Token) → is_empty xs ≡ false → 0 < length (take n xs) + (length xs - n)
 some_of n [] e = absurd cc
 some_of n (x ∷ xs) e = rw (length-take n (x ∷ xs)) (omega arith)
@@ -39,7 +35,10 @@ module _ {T : Type 0} (x : Fetcher T) (a : List ℕ) (old : FollowsIn a x) (kept
   at_end e = let z = old.all kept e in sym z.position ∙ (run_is_where a z.whole.end nul z.whole.run).over z.whole.ended
 
   pub not_started : x.started ≡ false → (handed x.tokens ≡ []) × (waiting x.tokens ≡ 0)
-  not_started n = let z = standing x a old kept in none_of x.tokens.given x.tokens.all (sym z.tokens ∙ (run_is_where a z.last nul z.run).none (z.started ∙ n))
+  not_started n =
+      let z = standing x a old kept in
+      let none : x.tokens.all ≡ [] = sym z.tokens ∙ (run_is_where a z.last nul z.run).none (z.started ∙ n) in
+      rw none (take-nil x.tokens.given, omega arith)
 
   pub has_started : x.started ≡ true → 0 < length (handed x.tokens) + waiting x.tokens
   has_started s = let z = standing x a old kept in some_of x.tokens.given x.tokens.all (ap is_empty (sym z.tokens) ∙ (run_is_where a z.last nul z.run).some (z.started ∙ s))
