@@ -2,7 +2,6 @@
 use Rattle.std.specs.Prelude.{IfSome}
 use Rattle.yaml_scanner.proofs.Common.{[], suc, zero, Key, rules, ap, append_assoc, AreBehind, AreSettled, arith, At, BeginsWith, Bool, both_ways, codes, drop, Err, ErrorReport, false, Fault, fetch, Fetcher, Fetches, Follows, FollowsIn, handed, has_end, has_no_nul, HasTokens, held, here, ImplicitKey, inl, inr, inside, is_end, is_front, IsReached, IsRefusal, IsRefused, IsShort, LeavesNoRow, length, length-drop, length-take, List, list_any, lowered, map, nat_tests, None, not_refused, nothing_held, Ok, one_fault, one_list, one_more, Option, option_map, OutOfMemory, Position, position_of, Possible-taken, Reaches, Reads, refl, run_to_end, Scanned, Scans, seen, Some, start, state, subst, sym, take, take-append-drop, Tok, Token, Tokens, true, ℕ, ◌++◌, ◌+◌, ◌-◌, ◌<◌, ◌||◌, ◌∙◌, ◌∷◌, ◌≡◌, ◌≢◌, ◌≤◌}
 use Rattle.yaml_tokens.specs.Problem.{fault_of}
-use Rattle.yaml_tokens.specs.declared.problem.Problem.{Problem}
 use Rattle.std.proofs.lemmas.List.{take_all}
 use Rattle.model_scanner.proofs.Given.{GivenStands, KeysFrom, reached}
 use Rattle.model_scanner.proofs.Ends.{end_is_last}
@@ -62,9 +61,6 @@ is_numbered given [] e = absurd cc
 is_numbered given (None ∷ ks) e = is_numbered given ks e
 is_numbered given (Some k ∷ ks) e = let rest = is_numbered given ks in grind (arith, nat_tests)
 
-length_at_most : (n : ℕ) (xs : List Token) → length (take n xs) ≤ n
-length_at_most n xs = rw (length-take n xs) (omega arith)
-
 keys_behind : (n m : ℕ) (ks : List (Option ImplicitKey)) → n ≤ m → AreBehind n (seen m ks)
 keys_behind n m [] l = tt
 keys_behind n m (None ∷ ks) l = (tt, keys_behind n m ks l)
@@ -98,7 +94,7 @@ stopped x y mark early n g short f d m = λ a p.
         fault = y.fault;
         refused = refused e;
         begins = record { more = drop q.given q.all; whole = sym (take-append-drop q.given q.all) };
-        behind = keys_behind (length (handed q)) q.given x.keys (length_at_most q.given q.all);
+        behind = keys_behind (length (handed q)) q.given x.keys (rw (length-take q.given q.all) (omega arith));
         all = all_handed q.given q.all x.keys (short late);
       };
       open_end = λ o. rw m.given (old.open_end (sym m.over ∙ o));
@@ -163,7 +159,7 @@ module _ {T : Type 0} (x : Fetcher T) (a : List ℕ) (old : FollowsIn a x) (kept
         begins = record { more = drop n x.tokens.all; whole = z.tokens ∙ sym (take-append-drop n x.tokens.all) };
         behind = λ g.
             let e = sym z.ended ∙ g in
-            rw (z.keys e, ← same e) (keys_behind (length (take n x.tokens.all)) n ks (length_at_most n x.tokens.all));
+            rw (z.keys e, ← same e) (keys_behind (length (take n x.tokens.all)) n ks (rw (length-take n x.tokens.all) (omega arith)));
       }
 
   pub given_on : (over ≡ true → HasTokens a (take n x.tokens.all)) → (over ≡ false → has_end (take n x.tokens.all) ≡ false) → FollowsIn a (record x { tokens = record x.tokens { given = n; over = over }; keys = ks })
@@ -208,27 +204,25 @@ begun_cut ts a r e n = elim (first_tokens_are_cut a ts r.begins.more r.last n r.
 ]
 
 memory_sound : (e : Fault) (kept : Option Position) (a : List ℕ) → IfSome kept (λ _. e ≢ OutOfMemory → IsRefused a e) → (ts : List Token) → HasTokens a ts → IfSome (option_map (fault_of e) kept) (λ x. x.memory ≡ true)
-memory_sound e None a r ts h = tt
-memory_sound OutOfMemory (Some m) a r ts h = refl
-memory_sound (At q p) (Some m) a r ts h = absurd (not_refused a ts (At q p) h (r (λ e. absurd cc)))
+memory_sound e kept a r ts h = grind (arith, not_refused a ts e h)
 
 memory_says : (e : Fault) (kept : Option Position) → IfSome (option_map (fault_of e) kept) (λ x. x.memory ≡ true → x.text ≡ codes "out of memory")
 memory_says e kept = grind arith
 
 -- a refused text has no row
-has_no_row : (a : List ℕ) (why : Problem) (at m : Position) → has_no_nul a ≡ true → IsRefused a (At why at) → HasNoRow a (fault_of (At why at) m)
-has_no_row a why at m n r = record {
-  why = why;
-  at = at;
-  shown = refl;
-  rowless = λ ts row. not_refused a ts (At why at) (texts_with_a_row_are_read a ts n row) r;
-  stuck = refused_texts_are_stuck a why at n r;
-}
-
 is_refusal : (e : Fault) (kept : Option Position) (a : List ℕ) → has_no_nul a ≡ true → IfSome kept (λ _. e ≢ OutOfMemory → IsRefused a e) → IfSome (option_map (fault_of e) kept) (λ x. x.memory ≡ false → IsRefusal a x)
 is_refusal e None a n r = tt
 is_refusal OutOfMemory (Some m) a n r = λ none. absurd cc
-is_refusal (At q p) (Some m) a n r = λ none. record { fault = At q p; position = m; refused = r (λ e. absurd cc); shown = refl; stands = λ s. faults_stand a (At q p) n (r (λ e. absurd cc)) s; rowless = has_no_row a q p m n (r (λ e. absurd cc)) }
+is_refusal (At q p) (Some m) a n r = λ none.
+    let refused = r (λ e. absurd cc) in
+    record {
+      fault = At q p;
+      position = m;
+      refused = refused;
+      shown = refl;
+      stands = faults_stand a (At q p) n refused;
+      rowless = record { why = q; at = p; shown = refl; rowless = λ ts row. not_refused a ts (At q p) (texts_with_a_row_are_read a ts n row) refused; stuck = refused_texts_are_stuck a q p n refused };
+    }
 
 one_refusal : (a : List ℕ) (o : Option ErrorReport) → IfSome o (λ x. x.memory ≡ false → IsRefusal a x) → (e : Fault) → IsRefused a e → IfSome o (λ x. x.memory ≡ false → (p : Position) × (x ≡ fault_of e p))
 one_refusal a None r e i = tt

@@ -136,21 +136,22 @@ module _ (p : Position) (ts : List Token) (ks : List (Option Key)) (l : ℕ) (ls
         one_deeper (record (plainly text) { indents = (levels b).indents; indent = (levels b).indent; tokens = ts ++ (starts b (start text) ++ []) }) refl (in_block b left),
       ) (simp (append_assoc, append-nil))
 
-  colon_fetch : (b : Bool) → nat_lt i (p.col + 1) ≡ b → (text : List ℕ) (d : ℕ) (a : List ℕ) → 0 < length text → length text ≤ 1024 → is_blank_or_breakz d ≡ true → (d == 9) ≡ false
-      → fetch (at (58 ∷ d ∷ a) (after_scalar text)) ≡ Ok (at (d ∷ a) (after_colon b text))
-  unfolding is_break is_blank
-  colon_fetch b left text d a some short blank tab =
-      let s = after_scalar text in
-      let col : (along text p).col ≡ p.col + length text = ap (λ q. q.col) (along_is text p) in
-      fetched (at (58 ∷ d ∷ a) s) (58 ∷ d ∷ a) s (at (d ∷ a) (after_colon b text)) refl (solid_here 58 (d ∷ a) s refl refl refl refl) (near_stale s key_here ks refl refl (near_along text p short) free) (none_end s refl (omega (arith, col, deep)))
-      (value_here d a s blank (omega (arith, col, some)) (omega (arith, col, deep)) ∙ key_value b left text d a tab)
-      (none_stale (after_colon b text) refl (ap (λ l. None ∷ l) free))
-
   pub key_runs_to : (c : Bool) → nat_lt i (p.col + 1) ≡ c → (text b : List ℕ) → IsSimpleText text → length text ≤ 1024 → ((slice_index b 0 == 32) || (slice_index b 0 == 10)) ≡ true → RunsTwice fetch_rest (at (text ++ 58 ∷ b) before) (at b (after_colon c text))
+  unfolding is_break is_blank
   key_runs_to c left text [] simple short next = absurd cc
   key_runs_to c left text (d ∷ a) simple short next =
       let blank = follows_blank d next in
-      record { between = at (58 ∷ d ∷ a) (after_scalar text); first = key_rest text d a (simple_text text simple) short blank.0; going = refl; second = colon_fetch c left text d a simple.some short blank.0 blank.1 }
+      let s = after_scalar text in
+      let col : (along text p).col ≡ p.col + length text = ap (λ q. q.col) (along_is text p) in
+      let some = simple.some in
+      record {
+        between = at (58 ∷ d ∷ a) s;
+        first = key_rest text d a (simple_text text simple) short blank.0;
+        going = refl;
+        second = fetched (at (58 ∷ d ∷ a) s) (58 ∷ d ∷ a) s (at (d ∷ a) (after_colon c text)) refl (solid_here 58 (d ∷ a) s refl refl refl refl) (near_stale s key_here ks refl refl (near_along text p short) free) (none_end s refl (omega (arith, col, deep)))
+            (value_here d a s blank.0 (omega (arith, col, some)) (omega (arith, col, deep)) ∙ key_value c left text d a blank.1)
+            (none_stale (after_colon c text) refl (ap (λ l. None ∷ l) free));
+      }
 
   pub key_runs : (text b : List ℕ) → IsSimpleText text → length text ≤ 1024 → ((slice_index b 0 == 32) || (slice_index b 0 == 10)) ≡ true
       → RunsTwice fetch_rest (at (text ++ 58 ∷ b) before) (at b (with_key p text (record before { position = past (along text p) })))

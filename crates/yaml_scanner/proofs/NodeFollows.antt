@@ -77,7 +77,7 @@ module _ {T : Type 0} (x y : Fetcher T) (w : WindowView T) (limit : ℕ) (z : Aw
       let few = fits.0 in
       let moved = t.at in
       let after_is : position_of w ≡ line_end p text t.spaces = same_place (omega (arith, moved)) t.line t.col in
-      let now : held y ≡ with_line p text (record (here k.0) { position = line_end p text t.spaces }) = new ∙ ap (λ q. with_line p text (record (held x) { position = q })) after_is ∙ ap (λ h. with_line p text (record h { position = line_end p text t.spaces })) old in
+      let now : held y ≡ with_line p text (record (here k.0) { position = line_end p text t.spaces }) = new ∙ rw (after_is, z.flow, z.allowed, started, going, k.2) refl in
       once (Reads-along _ _ _ _ refl window (Reads-map _ _ t.reads (λ a b r.
       rw (now, old, r.0) (line_runs p x.tokens.all k.0 x.levels.indent x.levels.indents o.indent o.indents x.leading x.adjacent_value_at k.1 z.stands.shallow z.stands.rest z.stands.deep z.stands.block z.stands.there text t.spaces b t.simple r.1 (omega (arith, low, few)) fits.1))))
 

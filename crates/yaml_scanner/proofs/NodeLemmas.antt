@@ -1,4 +1,4 @@
--- Lemmas about directives, anchors and tags.
+-- Where the next line begins, and how the stream ends.
 use Rattle.yaml_scanner.proofs.Common.{after_line, arith, At, Bool, cleared, Err, false, fetch_stream_end, has_required, Held, Key, List, next_line, Ok, Option, Position, position_of, push, refl, Tok, true, unroll_indent, WindowView, ℕ, ◌≡◌}
 use Rattle.yaml_tokens.specs.declared.problem.Problem.TheVariants as problem
 

@@ -120,21 +120,15 @@ module _ {T : Type 0} (x : Fetcher T) (w : WindowView T) (key : List ℕ) (colon
     leading = false;
   }
 
-  colon_is : colon ≡ along key p
-  colon_is =
-      let index = t.at in
-      let line = t.line in
-      let col = t.col in
-      at ∙ same_place (omega (arith, index)) line (omega (arith, col)) ∙ sym (along_is key p)
-
-  after_is : position_of w ≡ past (along key p)
-  after_is = same_place t.at t.line t.col ∙ sym (ap past (along_is key p))
-
   key_fetches : Follows x → Follows (key_fetcher x.tokens.given)
   key_fetches f =
       let s = z.settled in
       let k = keys_seen x.tokens.given x.keys s.no_open_key s.level in
       let keys = k.2 in
+      let index = t.at in
+      let col = t.col in
+      let colon_is : colon ≡ along key p = at ∙ same_place (omega (arith, index)) t.line (omega (arith, col)) ∙ sym (along_is key p) in
+      let after_is : position_of w ≡ past (along key p) = same_place index t.line col ∙ sym (ap past (along_is key p)) in
       let y = key_fetcher x.tokens.given in
       let o = outside_of p.col opens x.levels z.stands in
       let old : held x ≡ in_mapping p x.tokens.all (None ∷ k.0) x.levels.indent x.levels.indents true x.leading x.adjacent_value_at = rw (s.flow, s.started, s.ended, z.allowed, keys) refl in
@@ -184,11 +178,6 @@ module _ {T : Type 0} (x : Fetcher T) (w : WindowView T) (value : List ℕ) (at 
     leading = true;
   }
 
-  value_after : position_of w ≡ line_end (past q) value t.spaces
-  value_after =
-      let at = t.at in
-      same_place (omega (arith, at)) t.line t.col
-
   gone : x.tokens.given ≡ length (handed x.tokens)
   gone =
       let sum = length-append (handed x.tokens) (token at Tok.value ∷ []) in
@@ -206,6 +195,8 @@ module _ {T : Type 0} (x : Fetcher T) (w : WindowView T) (value : List ℕ) (at 
       let free = seen_free x.tokens.given x.keys s.no_open_key in
       let split = popped_is l.indent l.indents limit (rw popped at z.opened) in
       let y = value_fetcher x.tokens.given in
+      let index = t.at in
+      let value_after : position_of w ≡ line_end (past q) value t.spaces = same_place (omega (arith, index)) t.line t.col in
       let indents : x.levels.indents ≡ level limit false ∷ l.indents = popped ∙ ap (λ i. level i false ∷ l.indents) split.0 in
       let before = in_mapping q x.tokens.all ks x.levels.indent (level limit false ∷ l.indents) false x.leading x.adjacent_value_at in
       let after = after_value q x.tokens.all ks x.levels.indent limit l.indents x.leading x.adjacent_value_at free split.1 z.deep z.off value t.spaces in
