@@ -115,7 +115,7 @@ module _ (i : ℕ) (start : Position) where
 
   more_total : (b : Bool) (text gap w : List ℕ) → total true text (more b gap) ++ w ≡ total b text gap ++ 32 ∷ w
   more_total false text gap w = append_assoc text (32 ∷ []) w
-  more_total true text gap w = append_assoc text (gap ++ 32 ∷ []) w ∙ ap (λ l. text ++ l) (append_assoc gap (32 ∷ []) w) ∙ rw append_assoc refl
+  more_total true text gap w = simp append_assoc
 
   abbrev Goes : List ℕ → List ℕ → Type 0
   Goes w r = (b : Bool) (p : Position) (text gap : List ℕ) → all_simple w ≡ true → closes b w ≡ true → i ≤ p.col → 1 ≤ p.col → scan (w ++ r) (at b p text gap) ≡ scan r (at false (along w p) (total b text gap ++ w) [])

@@ -47,7 +47,7 @@ pub unrolled_runs : {T X E : Type 0} (x y z : Fetcher T) (n : ℕ) (v : X) → z
 unrolled_runs x y z n v e f b = rw e (becomes_runs x y (Ok tt) (record { held = rw (← f) b.held; err = tt; bounds = b.bounds; window = b.window }))
 
 pub turns_runs : {T : Type 0} {g : Held → Held} (x y : Fetcher T) → Turns g x y → Runs {X = Unit {0}} {E = Fault} (λ t. Ok (on_held g t)) x (Ok tt) y 0 0
-turns_runs x y s = record { comes = Reads-along _ _ _ _ refl s.window (Reads-map _ _ (Reads-none x.window) (λ a b p. rw (s.held, p) refl)); run = keeps_of x y s.bounds; bounds = s.bounds }
+turns_runs x y s = becomes_runs x y (Ok tt) (record { held = s.held; err = tt; bounds = s.bounds; window = s.window })
 
 pub indicator_runs : {T : Type 0} (x y : Fetcher T) → y ≡ record x { window = after_char x.window; leading = false } → Reads x.window y.window (λ a b. a ≡ slice_index a 0 ∷ b) → Moves x y 0 8 → Runs {X = Unit {0}} {E = Fault} (λ t. Ok (skip_indicator t)) x (Ok tt) y 0 8
 indicator_runs x y e s m = record { comes = Reads-map _ _ s (λ a b p. rw (p, e) refl); run = keeps_of x y m; bounds = m }

@@ -1,6 +1,6 @@
 -- Lemmas about stacks.
 use Rattle.yaml_scanner.proofs.Common.{[], ap, arith, get_or, is_empty, length, List, ne_eqb, None, Option, pop, refl, reverse, reverse-append, set, slice_get, Some, sym, top, with_top, ◌++◌, ◌-◌, ◌<◌, ◌==◌, ◌∙◌, ◌∷◌, ◌≡◌, ◌≤◌}
-use Rattle.std.proofs.lemmas.List.{reverse-reverse, length-reverse}
+use Rattle.std.proofs.lemmas.List.{nil_from_length, reverse-reverse, length-reverse}
 use Rattle.std.proofs.Math.Seq.{set-append_seam}
 use Rattle.std.proofs.lemmas.Grind.{common_steps, elements}
 use Rattle.std.proofs.lemmas.Option.{slice_get_read}
@@ -12,8 +12,7 @@ pub popped : {A : Type 0} (xs ys : List A) (x : A) → xs ≡ ys ++ x ∷ [] →
 popped xs ys x e = ap reverse e ∙ reverse-append ys (x ∷ [])
 
 pub none_popped : {A : Type 0} (xs : List A) → length xs ≡ 0 → reverse xs ≡ []
-none_popped [] e = refl
-none_popped (x ∷ xs) e = absurd (omega arith)
+none_popped xs e = rw (nil_from_length xs e) refl
 
 last_of : {A : Type 0} (zs : List A) (x : A) → slice_get (zs ++ x ∷ []) (length (zs ++ x ∷ []) - 1) ≡ Some x
 last_of [] x = refl
@@ -52,8 +51,7 @@ pub top_set : {A : Type 0} (xs zs : List A) (y : A) → zs ≡ set xs (length xs
 top_set xs zs y e = ap reverse e ∙ rw reverse-reverse at (set_top (reverse xs) y)
 
 pub none_set : {A : Type 0} (xs : List A) (y : A) → length xs ≡ 0 → reverse xs ≡ with_top y (reverse xs)
-none_set [] y e = refl
-none_set (x ∷ xs) y e = absurd (omega arith)
+none_set xs y e = rw (nil_from_length xs e) refl
 
 pub reversed_len : {A : Type 0} (xs : List A) → length xs ≡ length (reverse xs)
 reversed_len xs = sym (length-reverse xs)
