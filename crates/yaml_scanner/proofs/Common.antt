@@ -1,12 +1,14 @@
 -- The words of other crates and of specs/ that the proofs here use, passed on from one place. Declares nothing.
-pub use Rattle.std.proofs.Common.{[], ap, append-nil, append_assoc, arith, Bool, drop, Err, false, if◌then◌else◌, inl, inr, length, length-append, List, map, nat_le, nat_lt, None, not, Ok, Option, option_map, refl, Result, rules, slice_index, Some, subst, suc, sym, take, true, zero, ℕ, ◌&&◌, ◌++◌, ◌+◌, ◌-◌, ◌<◌, ◌==◌, ◌||◌, ◌∙◌, ◌∷◌, ◌≡◌, ◌≢◌, ◌≤◌}
+pub use Rattle.std.proofs.Common.{get_or, reverse, set, slice_get, ◌^◌, [], ap, append-nil, append_assoc, arith, Bool, drop, Err, false, if◌then◌else◌, inl, inr, length, length-append, List, map, nat_le, nat_lt, None, not, Ok, Option, option_map, refl, Result, rules, slice_index, Some, subst, suc, sym, take, true, zero, ℕ, ◌&&◌, ◌++◌, ◌+◌, ◌-◌, ◌<◌, ◌==◌, ◌||◌, ◌∙◌, ◌∷◌, ◌≡◌, ◌≢◌, ◌≤◌}
 pub use Rattle.std.proofs.lemmas.Bool.{and_from, and_parts, both_ways, eqb-true, le-ltb, lt-ltb, ltb-false, ne_eqb}
 pub use Rattle.std.proofs.lemmas.Bool.Decides.{nat_tests}
-pub use Rattle.std.proofs.lemmas.List.{length-drop, length-take, take-append-drop}
+pub use Rattle.std.proofs.lemmas.List.{length-drop, length-map, length-take, map-append, reverse-append, take_all, take-append-drop, with_items_is}
+pub use Rattle.std.proofs.lemmas.List.Edits.{map_over_more}
+pub use Rattle.std.proofs.lemmas.Simd.{map-map}
 pub use Rattle.std.proofs.Math.Seq.{take-append-add, take-append_seam, take-length}
 pub use Rattle.std.specs.List.{insert, list_any}
 pub use Rattle.std.specs.Option.{IfSome}
-pub use Rattle.std.specs.Prelude.{codes, IfErr, IsErrAnd, MatchOption, OnOk}
+pub use Rattle.std.specs.Prelude.{is_some, codes, IfErr, IsErrAnd, MatchOption, OnOk}
 pub use Rattle.defs_text.specs.Position.{first_position, Position, position_after}
 pub use Rattle.defs_text.specs.Text.{has_no_nul, is_empty}
 pub use Rattle.defs_token.specs.Token.{Style, Tok, Token}
@@ -26,7 +28,7 @@ unfoldable pub use Rattle.model_scanner.specs.Machine.{at_marker}
 pub use Rattle.model_scanner.specs.Run.{HasTokens, here, IsRefused, nothing_held, Reaches, start}
 pub use Rattle.model_scanner.specs.Space.{between, comment, is_before_indent, tab_line}
 unfoldable pub use Rattle.model_scanner.specs.Space.{skip, skip_to_next_token, white}
-pub use Rattle.model_scanner.specs.State.{Held, in_flow, Key, moved, on_held, peek, push, ScannerState, skip_indicator, token, try_held, with_top, ◌>>=◌}
+pub use Rattle.model_scanner.specs.State.{Held, in_flow, Key, pop, top, moved, on_held, peek, push, ScannerState, skip_indicator, token, try_held, with_top, ◌>>=◌}
 pub use Rattle.model_scanner.specs.declared.level.Indent.{Indent}
 pub use Rattle.proof_lexers.specs.HeaderEnds.{along}
 pub use Rattle.yaml_chars.proofs.WindowViewLemmas.{Possible-taken, Reads-saw, Reads-then}
@@ -44,10 +46,9 @@ pub use Rattle.yaml_scanner.specs.Scanned.{HandsBoth, inside, IsRefusal, LeavesN
 pub use Rattle.yaml_scanner.specs.Shape.{held, state}
 pub use Rattle.yaml_scanner.specs.Work.{Fetches, Moves, work}
 pub use Rattle.yaml_scanner.specs.declared.fetcher.Fetcher.{Fetcher}
-pub use Rattle.yaml_scanner.proofs.KeyLemmas.{none_front, none_lowered, with_top_seen}
-pub use Rattle.yaml_scanner.specs.ImplicitKeys.{is_front, lowered, no_implicit, seen}
+pub use Rattle.yaml_scanner.specs.ImplicitKeys.{is_front, is_stale, key_of, keyed_by, lowered, no_implicit, seen, still_implicit, top_implicit}
 pub use Rattle.yaml_scanner.specs.Levels.{Columns, ends_open, value_level}
-pub use Rattle.yaml_scanner.specs.Tokens.{handed, has_end, is_end, key_tokens, Tokens, waiting}
+pub use Rattle.yaml_scanner.specs.Tokens.{end_at, handed, has_end, is_end, key_tokens, Tokens, waiting}
 pub use Rattle.yaml_scanner.specs.declared.keys.ImplicitKey.{ImplicitKey}
 pub use Rattle.yaml_tokens.specs.ErrorReport.{ErrorReport}
 pub use Rattle.yaml_tokens.specs.declared.problem.Fault.{Fault}

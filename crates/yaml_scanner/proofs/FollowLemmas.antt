@@ -1,17 +1,17 @@
 -- What was fetched and handed out is a run of the model.
 use Rattle.std.specs.Prelude.{IfSome}
-use Rattle.yaml_scanner.proofs.Common.{[], ap, append-nil, append_assoc, AreBehind, AreSettled, arith, At, BeginsWith, Bool, both_ways, codes, drop, Err, ErrorReport, false, Fault, fetch, Fetcher, Fetches, Follows, FollowsIn, handed, has_end, has_no_nul, HasTokens, held, here, ImplicitKey, inl, inr, inside, is_end, is_front, IsReached, IsRefusal, IsRefused, IsShort, LeavesNoRow, length, length-drop, length-take, List, list_any, lowered, map, nat_tests, None, not_refused, nothing_held, Ok, one_fault, one_list, one_more, Option, option_map, OutOfMemory, Position, position_of, Possible-taken, Reaches, Reads, refl, run_to_end, Scanned, Scans, seen, Some, start, state, subst, suc, sym, take, take-append-drop, Tok, Token, Tokens, true, zero, ℕ, ◌++◌, ◌+◌, ◌-◌, ◌<◌, ◌||◌, ◌∙◌, ◌∷◌, ◌≡◌, ◌≢◌, ◌≤◌}
+use Rattle.yaml_scanner.proofs.Common.{[], suc, zero, Key, rules, ap, append_assoc, AreBehind, AreSettled, arith, At, BeginsWith, Bool, both_ways, codes, drop, Err, ErrorReport, false, Fault, fetch, Fetcher, Fetches, Follows, FollowsIn, handed, has_end, has_no_nul, HasTokens, held, here, ImplicitKey, inl, inr, inside, is_end, is_front, IsReached, IsRefusal, IsRefused, IsShort, LeavesNoRow, length, length-drop, length-take, List, list_any, lowered, map, nat_tests, None, not_refused, nothing_held, Ok, one_fault, one_list, one_more, Option, option_map, OutOfMemory, Position, position_of, Possible-taken, Reaches, Reads, refl, run_to_end, Scanned, Scans, seen, Some, start, state, subst, sym, take, take-append-drop, Tok, Token, Tokens, true, ℕ, ◌++◌, ◌+◌, ◌-◌, ◌<◌, ◌||◌, ◌∙◌, ◌∷◌, ◌≡◌, ◌≢◌, ◌≤◌}
 use Rattle.yaml_tokens.specs.Problem.{fault_of}
-use Rattle.yaml_tokens.specs.declared.problem.Problem.{Problem}
+use Rattle.std.proofs.lemmas.List.{take_all}
 use Rattle.model_scanner.proofs.Given.{GivenStands, KeysFrom, reached}
 use Rattle.model_scanner.proofs.Ends.{end_is_last}
 use Rattle.yaml_scanner.specs.declared.fetcher.Backlog.{Backlog}
 use Rattle.yaml_scanner.specs.Rowless.{HasNoRow}
 use Rattle.yaml_scanner.specs.Waits.{comes_before}
-use Rattle.yaml_scanner.proofs.GivenLemmas.{lowered_seen}
-use Rattle.yaml_scanner.proofs.WhereLemmas.{in_text, at_end, not_started, has_started}
+use Rattle.yaml_scanner.proofs.KeyLemmas.{lowered_seen}
+use Rattle.yaml_scanner.proofs.WhereLemmas.{Standing, in_text, at_end, not_started, has_started, standing}
 use Rattle.yaml_scanner.proofs.QueueLemmas.{has_end_append}
-use Rattle.defs_token.specs.Cut.{IsCut, IsCutOfBeginning, tokens_of, end_token}
+use Rattle.defs_token.specs.Cut.{IsCutOfBeginning, tokens_of, end_token}
 use Rattle.proof_scanner.proofs.Cut.Faults.Fetches.{faults_stand}
 use Rattle.proof_scanner.proofs.Sound.FirstTokens.{first_tokens_are_cut}
 use Rattle.defs_token.specs.Row.{IsRead}
@@ -61,45 +61,27 @@ is_numbered given [] e = absurd cc
 is_numbered given (None ∷ ks) e = is_numbered given ks e
 is_numbered given (Some k ∷ ks) e = let rest = is_numbered given ks in grind (arith, nat_tests)
 
-length_at_most : (n : ℕ) (xs : List Token) → length (take n xs) ≤ n
-length_at_most n xs = rw (length-take n xs) (omega arith)
-
 keys_behind : (n m : ℕ) (ks : List (Option ImplicitKey)) → n ≤ m → AreBehind n (seen m ks)
 keys_behind n m [] l = tt
 keys_behind n m (None ∷ ks) l = (tt, keys_behind n m ks l)
 keys_behind n m (Some k ∷ ks) l = (omega arith, keys_behind n m ks l)
 
-none_waits : (n : ℕ) (xs : List Token) → drop n xs ≡ [] → take n xs ≡ xs
-none_waits n xs e = sym (append-nil (take n xs)) ∙ ap (λ ys. take n xs ++ ys) (sym e) ∙ take-append-drop n xs
-
 -- all tokens were handed out; or a key may come before the next one
 all_handed : (n : ℕ) (xs : List Token) (ks : List (Option ImplicitKey)) → (0 < length xs - n → list_any is_front ks ≡ true) → list_any (comes_before (length (take n xs))) (seen n ks) ≡ false → xs ≡ take n xs
 all_handed n xs ks short none = by (length xs - n) refl
   where
-    nothing_left : (ys : List Token) → length ys ≡ 0 → ys ≡ []
-    nothing_left [] e = refl
-    nothing_left (y ∷ ys) e = absurd cc
-
     by : (k : ℕ) → length xs - n ≡ k → xs ≡ take n xs
-    by zero e = sym (none_waits n xs (nothing_left (drop n xs) (length-drop n xs ∙ e)))
+    by zero e = sym (take_all n xs (omega (arith, e)))
     by (suc k) e =
         let count : length (take n xs) ≡ n = length-take n xs ∙ (let z = e in omega (arith, z)) in
         absurd (both_ways (list_any (comes_before (length (take n xs))) (seen n ks)) none (rw count (is_numbered n ks (short (omega (arith, e))))))
-
--- what is settled where a fetch refuses a text, and no token waits that could be handed out
-settled_at : {T : Type 0} (x : Fetcher T) (a : List ℕ) (e : Fault) → Reaches (start a) (state (drop x.window.at a) x) → x.tokens.ended ≡ false → fetch (state (drop x.window.at a) x) ≡ Err e → IsShort x → AreSettled a (handed x.tokens)
-settled_at x a e run going refused short = record {
-  fault = e;
-  refused = record { last = state (drop x.window.at a) x; run = run; going = going; refused = refused };
-  begins = record { more = drop x.tokens.given x.tokens.all; whole = sym (take-append-drop x.tokens.given x.tokens.all) };
-  behind = keys_behind (length (handed x.tokens)) x.tokens.given x.keys (length_at_most x.tokens.given x.tokens.all);
-  all = all_handed x.tokens.given x.tokens.all x.keys short;
-}
 
 -- a refusal, which is then kept
 pub stopped : {T : Type 0} (x y : Fetcher T) (mark : Position) (early : Bool) → x.kept ≡ None → x.tokens.ended ≡ false → (early ≡ false → IsShort x) → Follows x → Reads x.window y.window (λ a b. y.fault ≢ OutOfMemory → fetch (state a x) ≡ Err y.fault) → Fetches x y → Follows (record y { kept = Some mark; early = early })
 stopped x y mark early n g short f d m = λ a p.
     let old = f a (d.back a p) in
+    let q = x.tokens in
+    let refused : y.fault ≢ OutOfMemory → IsRefused a y.fault = λ e. record { last = state (drop x.window.at a) x; run = old.run n g; going = g; refused = d.reads a p e } in
     record {
       run = λ c _. absurd cc;
       all = λ c _. absurd cc;
@@ -107,8 +89,14 @@ stopped x y mark early n g short f d m = λ a p.
       reached = rw m.given old.reached;
       begins = λ ts h. rw m.given (old.begins ts h);
       whole = λ o. rw m.given (old.whole (sym m.over ∙ o));
-      refused = λ q. record { last = state (drop x.window.at a) x; run = old.run n g; going = g; refused = d.reads a p q };
-      settled = λ late q. rw m.given (settled_at x a y.fault (old.run n g) g (d.reads a p q) (short late));
+      refused = refused;
+      settled = λ late e. rw m.given record {
+        fault = y.fault;
+        refused = refused e;
+        begins = record { more = drop q.given q.all; whole = sym (take-append-drop q.given q.all) };
+        behind = keys_behind (length (handed q)) q.given x.keys (rw (length-take q.given q.all) (omega arith));
+        all = all_handed q.given q.all x.keys (short late);
+      };
       open_end = λ o. rw m.given (old.open_end (sym m.over ∙ o));
       backlog = rw m.backlog old.backlog;
     }
@@ -135,9 +123,7 @@ held_up x b mark n g f front count at = λ a p.
 
 -- the room is of no account
 pub with_room : {T : Type 0} (x : Fetcher T) (n : ℕ) → Follows x → Follows (record x { room = n })
-with_room x n f = λ a p.
-    let old = f a p in
-    record { run = old.run; all = old.all; done = old.done; reached = old.reached; begins = old.begins; whole = old.whole; refused = old.refused; settled = old.settled; open_end = old.open_end; backlog = old.backlog }
+with_room x n f = λ a p. let old : FollowsIn a x = f a p in search rules
 
 -- ---- a token is handed out
 
@@ -145,153 +131,115 @@ is_the_end : (t : Tok) → is_end t ≡ true → t ≡ Tok.stream_end
 is_the_end Tok.stream_end e = refl
 is_the_end t e = absurd cc
 
--- all tokens are those handed out and those that wait
-split_at : (n : ℕ) (xs given : List Token) (t : Token) → take n xs ≡ given ++ t ∷ [] → xs ≡ given ++ t ∷ drop n xs
-split_at n xs given t e = sym (take-append-drop n xs) ∙ ap (λ ys. ys ++ drop n xs) e ∙ append_assoc given (t ∷ []) (drop n xs)
+from_behind : (n : ℕ) (ks : List (Option Key)) → AreBehind n ks → KeysFrom n ks
+from_behind n [] h = tt
+from_behind n (None ∷ ks) h = (tt, from_behind n ks h.1)
+from_behind n (Some k ∷ ks) h = (h.0, from_behind n ks h.1)
 
-keys_lower : (n m : ℕ) (ks : List (Option ImplicitKey)) → n ≤ m → KeysFrom n (seen m ks)
-keys_lower n m [] l = tt
-keys_lower n m (None ∷ ks) l = (tt, keys_lower n m ks l)
-keys_lower n m (Some k ∷ ks) l = (omega arith, keys_lower n m ks l)
+-- what is settled are the first of all tokens
+begins_of : (a : List ℕ) (given ts : List Token) → IsReached a given → HasTokens a ts → BeginsWith given ts
+begins_of a given ts r h = by r.last.held.ended refl
+  where
+    by : (b : Bool) → r.last.held.ended ≡ b → BeginsWith given ts
+    by true e = record { more = r.begins.more; whole = one_list a ts r.last.held.tokens h (record { end = r.last; run = r.run; ended = e; tokens = refl }) ∙ r.begins.whole }
+    by false e =
+        let stands : GivenStands given r.last.held = record { stood = record { more = r.begins.more; tokens = r.begins.whole; keys = from_behind (length given) r.last.held.keys (r.behind e) } } in
+        let s = reached given r.last h.end (run_to_end a ts r.last h r.run) stands in
+        record { more = s.stood.more; whole = sym h.tokens ∙ s.stood.tokens }
 
--- the end is still to be handed out
-open_after : (xs : List Token) (t : Token) (o : Bool) → o ≡ false → has_end xs ≡ false → (o || is_end t.tok) ≡ false → has_end (xs ++ t ∷ []) ≡ false
-open_after xs t o e h l = rw (has_end_append xs (t ∷ []), h) (grind arith)
-
-module _ {T : Type 0} (x : Fetcher T) (a : List ℕ) (t : Token) (old : FollowsIn a x) (kept : x.kept ≡ None) (over : x.tokens.over ≡ false) where
-  abbrev count : ℕ
-  count = x.tokens.given + 1
-
-  abbrev after : Fetcher T
-  after = record x { tokens = record x.tokens { given = x.tokens.given + 1; over = x.tokens.over || is_end t.tok }; keys = map lowered x.keys }
-
-  run_after : x.tokens.ended ≡ false → list_any is_front x.keys ≡ false → Reaches (start a) (state (drop x.window.at a) after)
-  run_after e front = rw (lowered_seen x.tokens.given x.keys front) (old.run kept e)
-
-  stands_after : GivenStands (take count x.tokens.all) (held after)
-  stands_after = record {
-    stood = record {
-      more = drop count x.tokens.all;
-      tokens = sym (take-append-drop count x.tokens.all);
-      keys = keys_lower (length (take count x.tokens.all)) count (map lowered x.keys) (length_at_most count x.tokens.all);
-    };
-  }
-
-  begins_after : (b : Bool) → x.tokens.ended ≡ b → (x.tokens.ended ≡ false → list_any is_front x.keys ≡ false) → (ts : List Token) → HasTokens a ts → BeginsWith (take count x.tokens.all) ts
-  begins_after true e front ts h = record {
-    more = drop count x.tokens.all;
-    whole = one_list a ts x.tokens.all h (old.all kept e).whole ∙ sym (take-append-drop count x.tokens.all);
-  }
-  begins_after false e front ts h =
-      let run = run_to_end a ts (state (drop x.window.at a) after) h (run_after e (front e)) in
-      let s = reached (take count x.tokens.all) (state (drop x.window.at a) after) h.end run stands_after in
-      record { more = s.stood.more; whole = sym h.tokens ∙ s.stood.tokens }
-
-  split : take count x.tokens.all ≡ handed x.tokens ++ t ∷ [] → x.tokens.all ≡ handed x.tokens ++ t ∷ drop count x.tokens.all
-  split e = split_at count x.tokens.all (handed x.tokens) t e
-
-  whole_after : (b : Bool) → x.tokens.ended ≡ b → take count x.tokens.all ≡ handed x.tokens ++ t ∷ [] → is_end t.tok ≡ true → HasTokens a (take count x.tokens.all)
-  whole_after true e g i =
-      let z = (old.all kept e).whole in
-      let l = end_is_last a z.end (handed x.tokens) (drop count x.tokens.all) t z.run (z.tokens ∙ split g) (is_the_end t.tok i) in
-      rw (none_waits count x.tokens.all l.1) z
-  whole_after false e g i =
-      let l = end_is_last a (state (drop x.window.at a) x) (handed x.tokens) (drop count x.tokens.all) t (old.run kept e) (split g) (is_the_end t.tok i) in
-      let f = l.0 in
-      absurd cc
-
-  reached_after : (b : Bool) → x.tokens.ended ≡ b → (x.tokens.ended ≡ false → list_any is_front x.keys ≡ false) → IsReached a (take count x.tokens.all)
-  reached_after true e front =
-      let z = (old.all kept e).whole in
+-- Tokens more are handed out, up to a number, where no key may come before them. The stream's end is the last of all.
+module _ {T : Type 0} (x : Fetcher T) (a : List ℕ) (old : FollowsIn a x) (kept : x.kept ≡ None) (n : ℕ) (ks : List (Option ImplicitKey)) (over : Bool)
+    (same : x.tokens.ended ≡ false → seen n ks ≡ seen x.tokens.given x.keys) where
+  reached_after : IsReached a (take n x.tokens.all)
+  reached_after =
+      let z = standing x a old kept in
       record {
-        last = z.end;
+        last = z.last;
         run = z.run;
-        begins = record { more = drop count x.tokens.all; whole = z.tokens ∙ sym (take-append-drop count x.tokens.all) };
-        behind = λ g. absurd (cc (g, z.ended));
-      }
-  reached_after false e front =
-      record {
-        last = state (drop x.window.at a) after;
-        run = run_after e (front e);
-        begins = record { more = drop count x.tokens.all; whole = sym (take-append-drop count x.tokens.all) };
-        behind = λ _. keys_behind (length (take count x.tokens.all)) count (map lowered x.keys) (length_at_most count x.tokens.all);
+        begins = record { more = drop n x.tokens.all; whole = z.tokens ∙ sym (take-append-drop n x.tokens.all) };
+        behind = λ g.
+            let e = sym z.ended ∙ g in
+            rw (z.keys e, ← same e) (keys_behind (length (take n x.tokens.all)) n ks (rw (length-take n x.tokens.all) (omega arith)));
       }
 
-  follows_after : (x.tokens.ended ≡ false → list_any is_front x.keys ≡ false) → take count x.tokens.all ≡ handed x.tokens ++ t ∷ [] → FollowsIn a after
-  follows_after front g = record {
-    run = λ _ e. run_after e (front e);
-    all = λ k e. old.all k e;
+  pub given_on : (over ≡ true → HasTokens a (take n x.tokens.all)) → (over ≡ false → has_end (take n x.tokens.all) ≡ false) → FollowsIn a (record x { tokens = record x.tokens { given = n; over = over }; keys = ks })
+  given_on whole none = record {
+    run = λ _ e. rw (same e) (old.run kept e);
+    all = old.all;
     done = old.done;
-    reached = reached_after x.tokens.ended refl front;
-    begins = begins_after x.tokens.ended refl front;
-    whole = λ o. whole_after x.tokens.ended refl g (grind (arith, over, o));
+    reached = reached_after;
+    begins = λ ts. begins_of a (take n x.tokens.all) ts reached_after;
+    whole = whole;
     refused = rw kept tt;
     settled = rw kept tt;
-    open_end = λ o. rw g (open_after (handed x.tokens) t x.tokens.over over (old.open_end over) o);
+    open_end = none;
     backlog = old.backlog;
   }
+
+-- once the stream's end is handed out, all tokens are
+whole_after : {T : Type 0} (x : Fetcher T) (a : List ℕ) (t : Token) (n : ℕ) → Standing x a → take n x.tokens.all ≡ handed x.tokens ++ t ∷ [] → is_end t.tok ≡ true → HasTokens a (take n x.tokens.all)
+whole_after x a t n z first i =
+    let whole = z.tokens ∙ sym (take-append-drop n x.tokens.all) ∙ ap (λ ts. ts ++ drop n x.tokens.all) first ∙ append_assoc (handed x.tokens) (t ∷ []) (drop n x.tokens.all) in
+    let l = end_is_last a z.last (handed x.tokens) (drop n x.tokens.all) t z.run whole (is_the_end t.tok i) in
+    record { end = z.last; run = z.run; ended = l.0; tokens = z.tokens ∙ sym (take_all n x.tokens.all (omega (arith, sym (length-drop n x.tokens.all) ∙ ap length l.1))) }
 
 -- a token more is handed out
 pub handed_on : {T : Type 0} (x : Fetcher T) (q : Tokens) (ks : List (Option ImplicitKey)) (t : Token) → x.kept ≡ None → x.tokens.over ≡ false → (x.tokens.ended ≡ false → list_any is_front x.keys ≡ false)
     → q ≡ record x.tokens { given = x.tokens.given + 1; over = x.tokens.over || is_end t.tok } → handed q ≡ handed x.tokens ++ t ∷ [] → ks ≡ map lowered x.keys → Follows x → Follows (record x { tokens = q; keys = ks })
-handed_on x q ks t k o front e g i f = λ a p. rw (e, i) (follows_after x a t (f a p) k o front (sym (ap handed e) ∙ g))
+handed_on x q ks t k o front e g i f = λ a p.
+    let old = f a p in
+    let first = sym (ap handed e) ∙ g in
+    rw (e, i) (given_on x a old k (x.tokens.given + 1) (map lowered x.keys) (x.tokens.over || is_end t.tok) (λ n. lowered_seen x.tokens.given x.keys (front n))
+    (λ l. whole_after x a t (x.tokens.given + 1) (standing x a old k) first (grind (arith, o, l)))
+    (λ l. rw (first, has_end_append (handed x.tokens) (t ∷ []), old.open_end o) (grind arith)))
 
 -- ---- as callers see it
 
--- a cut has the stream's end
-cut_has_end : (ts : List Token) (a : List ℕ) → IsCut ts a → has_end ts ≡ true
-cut_has_end ts a c = rw (c.are_tokens, has_end_append (tokens_of c.row) (end_token c.end ∷ [])) (grind arith)
-
 begun_cut : (ts : List Token) (a : List ℕ) → IsReached a ts → has_end ts ≡ false → has_no_nul a ≡ true → IsCutOfBeginning ts a
 begun_cut ts a r e n = elim (first_tokens_are_cut a ts r.begins.more r.last n r.run r.begins.whole) [
-  | inl c ↦ absurd (cc (e, cut_has_end ts a c))
+  | inl c ↦
+      let end : has_end ts ≡ true = rw (c.are_tokens, has_end_append (tokens_of c.row) (end_token c.end ∷ [])) (grind arith) in
+      absurd (cc (e, end))
   | inr c ↦ c
 ]
 
 memory_sound : (e : Fault) (kept : Option Position) (a : List ℕ) → IfSome kept (λ _. e ≢ OutOfMemory → IsRefused a e) → (ts : List Token) → HasTokens a ts → IfSome (option_map (fault_of e) kept) (λ x. x.memory ≡ true)
-memory_sound e None a r ts h = tt
-memory_sound OutOfMemory (Some m) a r ts h = refl
-memory_sound (At q p) (Some m) a r ts h = absurd (not_refused a ts (At q p) h (r (λ e. absurd cc)))
+memory_sound e kept a r ts h = grind (arith, not_refused a ts e h)
 
 memory_says : (e : Fault) (kept : Option Position) → IfSome (option_map (fault_of e) kept) (λ x. x.memory ≡ true → x.text ≡ codes "out of memory")
-memory_says e None = tt
-memory_says OutOfMemory (Some m) = λ h. refl
-memory_says (At q p) (Some m) = λ h. absurd cc
+memory_says e kept = grind arith
 
 -- a refused text has no row
-has_no_row : (a : List ℕ) (why : Problem) (at m : Position) → has_no_nul a ≡ true → IsRefused a (At why at) → HasNoRow a (fault_of (At why at) m)
-has_no_row a why at m n r = record {
-  why = why;
-  at = at;
-  shown = refl;
-  rowless = λ ts row. not_refused a ts (At why at) (texts_with_a_row_are_read a ts n row) r;
-  stuck = refused_texts_are_stuck a why at n r;
-}
-
 is_refusal : (e : Fault) (kept : Option Position) (a : List ℕ) → has_no_nul a ≡ true → IfSome kept (λ _. e ≢ OutOfMemory → IsRefused a e) → IfSome (option_map (fault_of e) kept) (λ x. x.memory ≡ false → IsRefusal a x)
 is_refusal e None a n r = tt
 is_refusal OutOfMemory (Some m) a n r = λ none. absurd cc
-is_refusal (At q p) (Some m) a n r = λ none. record { fault = At q p; position = m; refused = r (λ e. absurd cc); shown = refl; stands = λ s. faults_stand a (At q p) n (r (λ e. absurd cc)) s; rowless = has_no_row a q p m n (r (λ e. absurd cc)) }
+is_refusal (At q p) (Some m) a n r = λ none.
+    let refused = r (λ e. absurd cc) in
+    record {
+      fault = At q p;
+      position = m;
+      refused = refused;
+      shown = refl;
+      stands = faults_stand a (At q p) n refused;
+      rowless = record { why = q; at = p; shown = refl; rowless = λ ts row. not_refused a ts (At q p) (texts_with_a_row_are_read a ts n row) refused; stuck = refused_texts_are_stuck a q p n refused };
+    }
 
-one_refusal : (d : Fault) (kept : Option Position) (a : List ℕ) → IfSome kept (λ _. d ≢ OutOfMemory → IsRefused a d) → (e : Fault) → IsRefused a e → IfSome (option_map (fault_of d) kept) (λ x. x.memory ≡ false → (p : Position) × (x ≡ fault_of e p))
-one_refusal d None a r e i = tt
-one_refusal OutOfMemory (Some m) a r e i = λ n. absurd cc
-one_refusal (At q p) (Some m) a r e i = λ n. (m, ap (λ d. fault_of d m) (one_fault a (At q p) e (r (λ e. absurd cc)) i))
+one_refusal : (a : List ℕ) (o : Option ErrorReport) → IfSome o (λ x. x.memory ≡ false → IsRefusal a x) → (e : Fault) → IsRefused a e → IfSome o (λ x. x.memory ≡ false → (p : Position) × (x ≡ fault_of e p))
+one_refusal a None r e i = tt
+one_refusal a (Some x) r e i = λ n. let z = r n in (z.position, z.shown ∙ ap (λ d. fault_of d z.position) (one_fault a z.fault e z.refused i))
 
 all_settled : (e : Fault) (kept : Option Position) (early : Bool) (a : List ℕ) (given : List Token) → IfSome kept (λ _. early ≡ false → e ≢ OutOfMemory → AreSettled a given) → early ≡ false → IfSome (option_map (fault_of e) kept) (λ x. x.memory ≡ false → AreSettled a given)
-all_settled e None early a given s late = tt
-all_settled OutOfMemory (Some m) early a given s late = λ n. absurd cc
-all_settled (At q p) (Some m) early a given s late = λ n. s late (λ e. absurd cc)
+all_settled e kept early a given s late = grind arith
 
 none_kept : (e : Fault) (kept : Option Position) → option_map (fault_of e) kept ≡ None → kept ≡ None
-none_kept e None h = refl
-none_kept e (Some m) h = absurd cc
+none_kept e kept h = grind arith
 
 pub scans_from : {T : Type 0} (x : Fetcher T) → Follows x → Scans (inside x)
 scans_from x f = record {
   done = λ k e. (f x.window.taken (Possible-taken x.window)).done (none_kept x.fault x.kept k) e;
   scans = λ a m.
       let s = f a (record { begins = m.begins; ends = m.ends }) in
+      let refused = is_refusal x.fault x.kept a m.no_nul s.refused in
       let read : (ts : List Token) → IsRead a ts → HasTokens a ts = λ ts row. texts_with_a_row_are_read a ts m.no_nul row in
       record {
         no_nul = m.no_nul;
@@ -305,8 +253,8 @@ scans_from x f = record {
         some = λ k b. has_started x a s (none_kept x.fault x.kept k) m.no_nul b;
         sound = λ ts row. memory_sound x.fault x.kept a s.refused ts (read ts row);
         wants = memory_says x.fault x.kept;
-        refused = is_refusal x.fault x.kept a m.no_nul s.refused;
-        same = one_refusal x.fault x.kept a s.refused;
+        refused = refused;
+        same = one_refusal a (option_map (fault_of x.fault) x.kept) refused;
         settled = all_settled x.fault x.kept x.early a (handed x.tokens) s.settled;
         waits = s.backlog;
       };

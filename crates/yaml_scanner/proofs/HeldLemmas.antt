@@ -1,32 +1,23 @@
 -- Lemmas about what the scanner holds.
-use Rattle.yaml_scanner.proofs.Common.{[], arith, At, Bool, Columns, drop_stale, end_level, ends_open, Err, false, Fault, Held, in_flow, Indent, is_required, Key, level, Levels, List, MatchOption, nat_lt, nat_tests, None, Ok, Option, Position, refl, remove_implicit_key, Some, stale, sym, Token, top_key, true, unroll_indent, unroll_non_block_indents, unrolled, with_levels, with_top, without_open, ℕ, ◌<◌, ◌∙◌, ◌∷◌, ◌≡◌, ◌≤◌}
+use Rattle.yaml_scanner.proofs.Common.{[], arith, le-ltb, lt-ltb, At, Bool, Columns, drop_stale, end_level, ends_open, Err, false, Fault, Held, in_flow, Indent, is_required, Key, level, Levels, List, MatchOption, None, Ok, Option, Position, refl, Result, remove_implicit_key, Some, stale, Token, top_key, true, unroll_indent, unroll_non_block_indents, unrolled, with_levels, with_top, without_open, ℕ, ◌<◌, ◌∷◌, ◌≡◌, ◌≤◌}
+use Rattle.model_scanner.specs.Keys.{with_keys}
 use Rattle.yaml_tokens.specs.declared.problem.Problem.TheVariants as problem
-
-not_less : (m n : ℕ) → n ≤ m → nat_lt m n ≡ false
-not_less m n h = grind (arith, nat_tests)
-
-less : (m n : ℕ) → m < n → nat_lt m n ≡ true
-less m n h = grind (arith, nat_tests)
 
 pub removed : (h : Held) (ks : List (Option Key)) (b : Bool) → b ≡ is_required (top_key h.keys) → b ≡ false → ks ≡ with_top None h.keys → remove_implicit_key h ≡ Ok (record h { keys = ks })
 unfolding remove_implicit_key
-removed h ks b e f k = let g : is_required (top_key h.keys) ≡ false = sym e ∙ f in rw (g, k) refl
+removed h ks b e f k = rw (← e, f, k) refl
 
 pub not_removed : (h : Held) (b : Bool) (p : Position) → b ≡ is_required (top_key h.keys) → b ≡ true → p ≡ h.position → remove_implicit_key h ≡ Err (At problem.KeyExpected p)
 unfolding remove_implicit_key
-not_removed h b p e f k = let g : is_required (top_key h.keys) ≡ true = sym e ∙ f in rw (g, k) refl
+not_removed h b p e f k = rw (← e, f, k) refl
 
 pub stale_in_flow : (h : Held) (b : Bool) → b ≡ in_flow h → b ≡ true → stale h ≡ Ok h
 unfolding stale
-stale_in_flow h b e f = let g : in_flow h ≡ true = sym e ∙ f in rw g refl
+stale_in_flow h b e f = rw (← e, f) refl
 
-pub stale_dropped : (h : Held) (ks : List (Option Key)) (b : Bool) (p : Position) → b ≡ in_flow h → b ≡ false → p ≡ h.position → drop_stale p h.keys ≡ Ok ks → stale h ≡ Ok (record h { keys = ks })
+pub stale_dropped : (h : Held) (r : Result (List (Option Key)) Fault) (b : Bool) (p : Position) → b ≡ in_flow h → b ≡ false → p ≡ h.position → drop_stale p h.keys ≡ r → stale h ≡ with_keys h r
 unfolding stale
-stale_dropped h ks b p e f k d = let g : in_flow h ≡ false = sym e ∙ f in let d' = rw k at d in rw (g, d') refl
-
-pub stale_failed : (h : Held) (x : Fault) (b : Bool) (p : Position) → b ≡ in_flow h → b ≡ false → p ≡ h.position → drop_stale p h.keys ≡ Err x → stale h ≡ Err x
-unfolding stale
-stale_failed h x b p e f k d = let g : in_flow h ≡ false = sym e ∙ f in let d' = rw k at d in rw (g, d') refl
+stale_dropped h r b p e f k d = let d' = rw k at d in rw (← e, f, d') refl
 
 -- what is popped off an innermost level that opens no collection
 pub open_popped : (old new : Columns) (r : Option Bool) → ends_open old.indents ≡ true → MatchOption r ((old.indents ≡ []) × (new ≡ old)) (λ ends. old.indents ≡ level new.indent ends ∷ new.indents) → old.indents ≡ level new.indent false ∷ new.indents
@@ -37,7 +28,7 @@ open_popped old new (Some false) o m = m
 pub unrolled_done : (limit : ℕ) (p : Position) (i : ℕ) (ds : List Indent) (ts : List Token) → i ≤ limit → unrolled limit p i ds ts ≡ record { indent = i; indents = ds; tokens = ts }
 unfolding unrolled
 unrolled_done limit p i [] ts h = refl
-unrolled_done limit p i (d ∷ ds) ts h = rw (not_less limit i h) refl
+unrolled_done limit p i (d ∷ ds) ts h = rw (le-ltb limit i h) refl
 
 pub unrolled_none : (limit : ℕ) (p : Position) (i : ℕ) (ds : List Indent) (ts : List Token) → ds ≡ [] → unrolled limit p i ds ts ≡ record { indent = i; indents = ds; tokens = ts }
 unfolding unrolled
@@ -46,11 +37,11 @@ unrolled_none limit p i ds ts h = rw h refl
 pub unrolled_more : (limit : ℕ) (p : Position) (i : ℕ) (ds : List Indent) (ts : List Token) (d : Indent) (es : List Indent) → ds ≡ d ∷ es → limit < i
     → unrolled limit p i ds ts ≡ unrolled limit p d.indent es (end_level d.needs_block_end p ts)
 unfolding unrolled
-unrolled_more limit p i ds ts d es e h = rw (e, less limit i h) refl
+unrolled_more limit p i ds ts d es e h = rw (e, lt-ltb limit i h) refl
 
 pub unroll_in_flow : (limit : ℕ) (h : Held) (b : Bool) → b ≡ in_flow h → b ≡ true → h ≡ unroll_indent limit h
 unfolding unroll_indent
-unroll_in_flow limit h b e f = let g : in_flow h ≡ true = sym e ∙ f in rw g refl
+unroll_in_flow limit h b e f = rw (← e, f) refl
 
 pub unroll_done : (limit : ℕ) (h u : Held) (l : Levels) → in_flow h ≡ false → unrolled limit h.position h.indent h.indents h.tokens ≡ l → u ≡ with_levels h l → u ≡ unroll_indent limit h
 unfolding unroll_indent

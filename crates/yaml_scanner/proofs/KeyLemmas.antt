@@ -1,16 +1,7 @@
 -- Lemmas about what may be a key.
-use Rattle.std.proofs.Common.{◌≡◌, ℕ, List, [], ◌∷◌, ◌++◌, reverse, map, refl, ap, sym, ◌∙◌, Option, Some, None, length, arith, Bool, true, false, Ok, Err}
-use Rattle.std.specs.List.{list_any}
-use Rattle.std.specs.Prelude.{is_some}
-use Rattle.std.proofs.lemmas.List.{reverse-append, map-append}
-use Rattle.std.proofs.lemmas.List.Folds.{list_any-append}
-use Rattle.defs_text.specs.Position.{Position}
-use Rattle.yaml_tokens.specs.declared.problem.Fault.TheVariants.{At}
+use Rattle.yaml_scanner.proofs.Common.{[], ap, arith, At, Bool, cleared, drop_stale, Err, false, ImplicitKey, is_front, is_overdue, is_required, is_some, is_stale, Key, key_of, keyed_by, length, List, list_any, lowered, map, map-append, map-map, nat_tests, no_implicit, None, Ok, Option, pop, Position, refl, reverse, reverse-append, seen, Some, still, still_implicit, sym, top_implicit, top_key, true, with_top, ℕ, ◌++◌, ◌+◌, ◌∙◌, ◌∷◌, ◌≡◌}
+use Rattle.std.proofs.lemmas.List.Sorted.{IsPermutation-reverse, list_any-IsPermutation}
 use Rattle.yaml_tokens.specs.declared.problem.Problem.TheVariants as problem
-use Rattle.model_scanner.specs.State.{pop, with_top}
-use Rattle.model_scanner.specs.Keys.{is_overdue, still, drop_stale, is_required, has_required, cleared, top_key}
-use Rattle.yaml_scanner.specs.declared.keys.ImplicitKey.{ImplicitKey}
-use Rattle.yaml_scanner.specs.ImplicitKeys.{key_of, seen, is_front, lowered, still_implicit, is_stale, no_implicit, top_implicit}
 use Rattle.yaml_scanner.proofs.StackLemmas as stack
 
 pub popped : {A : Type 0} (xs ys : List A) (x : A) → xs ≡ ys ++ x ∷ [] → reverse ys ≡ pop (reverse xs)
@@ -21,17 +12,20 @@ none_popped [] ys e f = rw f refl
 none_popped (x ∷ xs) ys e f = absurd (omega arith)
 
 pub any_reversed : {A : Type 0} (p : A → Bool) (xs : List A) → list_any p (reverse xs) ≡ list_any p xs
-any_reversed p [] = refl
-any_reversed p (x ∷ xs) = let all = ap (list_any p) (reverse-append (x ∷ []) xs) ∙ list_any-append p (reverse xs) (x ∷ []) in let rest = any_reversed p xs in grind (arith, all, rest)
+any_reversed p xs = sym (list_any-IsPermutation p xs (reverse xs) (IsPermutation-reverse xs))
 
 pub map_reversed : {A B : Type 0} (f : A → B) (xs : List A) → map f (reverse xs) ≡ reverse (map f xs)
 map_reversed f [] = refl
 map_reversed f (x ∷ xs) = ap (map f) (reverse-append (x ∷ []) xs) ∙ map-append f (reverse xs) (x ∷ []) ∙ ap (λ ys. ys ++ f x ∷ []) (map_reversed f xs) ∙ sym (reverse-append (f x ∷ []) (map f xs))
 
-overdue_all : (p : Position) (g : ℕ) (ks : List (Option ImplicitKey)) → list_any (is_overdue p) (map (key_of g) ks) ≡ list_any (λ k. is_overdue p (key_of 0 k)) ks
-overdue_all p g [] = refl
-overdue_all p g (None ∷ ks) = overdue_all p g ks
-overdue_all p g (Some k ∷ ks) = rw (overdue_all p g ks) refl
+-- what is asked of keys does not depend on their numbers
+any_all : (f : Option Key → Bool) (g : ℕ) → ((k : ImplicitKey) → f (Some (keyed_by g k)) ≡ f (Some (keyed_by 0 k))) → (ks : List (Option ImplicitKey)) → list_any f (seen g ks) ≡ list_any (λ k. f (key_of 0 k)) ks
+any_all f g e [] = refl
+any_all f g e (None ∷ ks) = rw (any_all f g e ks) refl
+any_all f g e (Some k ∷ ks) = rw (e k, any_all f g e ks) refl
+
+pub any_seen : (f : Option Key → Bool) (g : ℕ) → ((k : ImplicitKey) → f (Some (keyed_by g k)) ≡ f (Some (keyed_by 0 k))) → (ks : List (Option ImplicitKey)) → list_any f (seen g (reverse ks)) ≡ list_any (λ k. f (key_of 0 k)) ks
+any_seen f g e ks = any_all f g e (reverse ks) ∙ any_reversed (λ k. f (key_of 0 k)) ks
 
 still_all : (p : Position) (g : ℕ) (ks : List (Option ImplicitKey)) → map (key_of g) (map (still_implicit p) ks) ≡ map (still p) (map (key_of g) ks)
 still_all p g [] = refl
@@ -40,15 +34,11 @@ still_all p g (Some k ∷ ks) = rw (still_all p g ks) (grind arith)
 
 pub overdue_seen : (p : Position) (g : ℕ) (ks : List (Option ImplicitKey)) → list_any (λ k. is_overdue p (key_of 0 k)) ks ≡ true → drop_stale p (seen g (reverse ks)) ≡ Err (At problem.KeyWithoutColon p)
 unfolding drop_stale
-overdue_seen p g ks h =
-    let e : list_any (is_overdue p) (map (key_of g) (reverse ks)) ≡ true = overdue_all p g (reverse ks) ∙ any_reversed (λ k. is_overdue p (key_of 0 k)) ks ∙ h in
-    rw e refl
+overdue_seen p g ks h = rw (any_seen (is_overdue p) g (λ k. refl) ks, h) refl
 
 pub still_seen : (p : Position) (g : ℕ) (ks ls : List (Option ImplicitKey)) → list_any (λ k. is_overdue p (key_of 0 k)) ks ≡ false → ls ≡ map (still_implicit p) ks → drop_stale p (seen g (reverse ks)) ≡ Ok (seen g (reverse ls))
 unfolding drop_stale
-still_seen p g ks ls h f =
-    let e : list_any (is_overdue p) (map (key_of g) (reverse ks)) ≡ false = overdue_all p g (reverse ks) ∙ any_reversed (λ k. is_overdue p (key_of 0 k)) ks ∙ h in
-    rw (e, f, ← map_reversed (still_implicit p) ks, still_all p g (reverse ks)) refl
+still_seen p g ks ls h f = rw (any_seen (is_overdue p) g (λ k. refl) ks, h, f, ← map_reversed (still_implicit p) ks, still_all p g (reverse ks)) refl
 
 fresh_all : (p : Position) (ks : List (Option ImplicitKey)) → list_any (is_stale p) ks ≡ false → (list_any (λ k. is_overdue p (key_of 0 k)) ks ≡ false) × (map (still_implicit p) ks ≡ ks)
 fresh_all p [] h = (refl, refl)
@@ -59,17 +49,8 @@ fresh_all p (Some k ∷ ks) h = let rest = fresh_all p ks in (grind arith, grind
 pub fresh_seen : (p : Position) (g : ℕ) (ks : List (Option ImplicitKey)) → list_any (is_stale p) ks ≡ false → drop_stale p (seen g (reverse ks)) ≡ Ok (seen g (reverse ks))
 fresh_seen p g ks h = let all = fresh_all p ks h in still_seen p g ks ks all.0 (sym all.1)
 
-required_all : (g : ℕ) (ks : List (Option ImplicitKey)) → list_any is_required (map (key_of g) ks) ≡ list_any (λ k. is_required (key_of 0 k)) ks
-required_all g [] = refl
-required_all g (None ∷ ks) = required_all g ks
-required_all g (Some k ∷ ks) = rw (required_all g ks) refl
-
-pub required_seen : (g : ℕ) (ks : List (Option ImplicitKey)) → list_any (λ k. is_required (key_of 0 k)) ks ≡ has_required (seen g (reverse ks))
-required_seen g ks = sym (required_all g (reverse ks) ∙ any_reversed (λ k. is_required (key_of 0 k)) ks)
-
-cleared_all : (g : ℕ) (ks : List (Option ImplicitKey)) → map (key_of g) (map no_implicit ks) ≡ cleared (map (key_of g) ks)
-cleared_all g [] = refl
-cleared_all g (k ∷ ks) = rw (cleared_all g ks) refl
+pub cleared_all : (g : ℕ) (ks : List (Option ImplicitKey)) → seen g (map no_implicit ks) ≡ cleared (seen g ks)
+cleared_all g ks = simp map-map refl
 
 pub cleared_seen : (g : ℕ) (ks ls : List (Option ImplicitKey)) → ls ≡ map no_implicit ks → seen g (reverse ls) ≡ cleared (seen g (reverse ks))
 cleared_seen g ks ls e = rw (e, ← map_reversed no_implicit ks) (cleared_all g (reverse ks))
@@ -87,43 +68,28 @@ pub pop_seen : (g : ℕ) (ks : List (Option ImplicitKey)) → seen g (pop ks) �
 pop_seen g [] = refl
 pop_seen g (l ∷ ks) = refl
 
--- ---- where no level has a key
+-- While no key is open at the front, a token that is handed out leaves the keys as they are.
+pub lowered_seen : (g : ℕ) (ks : List (Option ImplicitKey)) → list_any is_front ks ≡ false → seen (g + 1) (map lowered ks) ≡ seen g ks
+lowered_seen g [] e = refl
+lowered_seen g (None ∷ ks) e = ap (λ ls. None ∷ ls) (lowered_seen g ks e)
+lowered_seen g (Some k ∷ ks) e = let rest = lowered_seen g ks in grind (arith, nat_tests)
 
-pub closed_twice : (ks : List (Option ImplicitKey)) → map no_implicit (map no_implicit ks) ≡ map no_implicit ks
-closed_twice [] = refl
-closed_twice (k ∷ ks) = ap (λ ls. None ∷ ls) (closed_twice ks)
+-- ---- where no level has a key
 
 pub none_found : (ks : List (Option ImplicitKey)) → list_any is_some ks ≡ false → map no_implicit ks ≡ ks
 none_found [] e = refl
 none_found (None ∷ ks) e = ap (λ ls. None ∷ ls) (none_found ks e)
 none_found (Some k ∷ ks) e = absurd cc
 
-none_stale : (p : Position) (ks : List (Option ImplicitKey)) → map no_implicit ks ≡ ks → list_any (is_stale p) ks ≡ false
-none_stale p [] e = refl
-none_stale p (None ∷ ks) e = none_stale p ks cc
-none_stale p (Some k ∷ ks) e = absurd cc
+any_none : (f : Option ImplicitKey → Bool) → f None ≡ false → (ks : List (Option ImplicitKey)) → list_any f (map no_implicit ks) ≡ false
+any_none f n [] = refl
+any_none f n (k ∷ ks) = rw n (any_none f n ks)
 
-pub none_front : (ks : List (Option ImplicitKey)) → map no_implicit ks ≡ ks → list_any is_front ks ≡ false
-none_front [] e = refl
-none_front (None ∷ ks) e = none_front ks cc
-none_front (Some k ∷ ks) e = absurd cc
+pub none_any : (f : Option ImplicitKey → Bool) → f None ≡ false → (ks : List (Option ImplicitKey)) → map no_implicit ks ≡ ks → list_any f ks ≡ false
+none_any f n ks e = ap (list_any f) (sym e) ∙ any_none f n ks
 
 pub none_lowered : (ks : List (Option ImplicitKey)) → map no_implicit ks ≡ ks → map lowered ks ≡ ks
-none_lowered [] e = refl
-none_lowered (None ∷ ks) e = ap (λ ls. None ∷ ls) (none_lowered ks cc)
-none_lowered (Some k ∷ ks) e = absurd cc
+none_lowered ks e = ap (map lowered) (sym e) ∙ simp map-map refl ∙ e
 
 pub none_reversed : (ks : List (Option ImplicitKey)) → map no_implicit ks ≡ ks → map no_implicit (reverse ks) ≡ reverse ks
 none_reversed ks e = map_reversed no_implicit ks ∙ ap reverse e
-
--- none is too far back
-pub none_seen : (p : Position) (g : ℕ) (ks : List (Option ImplicitKey)) → map no_implicit ks ≡ ks → drop_stale p (seen g (reverse ks)) ≡ Ok (seen g (reverse ks))
-none_seen p g ks e = fresh_seen p g ks (none_stale p ks e)
-
--- none stands before the next token
-pub none_precedes : (ks : List (Option ImplicitKey)) → map no_implicit ks ≡ ks → false ≡ list_any is_front (reverse ks)
-none_precedes ks e = sym (any_reversed is_front ks ∙ none_front ks e)
-
--- none changes where a token is handed out
-pub none_lower : (ks : List (Option ImplicitKey)) → map no_implicit ks ≡ ks → reverse ks ≡ map lowered (reverse ks)
-none_lower ks e = sym (map_reversed lowered ks ∙ ap reverse (none_lowered ks e))

@@ -1,9 +1,6 @@
 -- Lemmas about levels of indentation.
-use Rattle.std.proofs.Common.{◌≡◌, ℕ, ◌+◌, ◌^◌, ◌<◌, ◌≤◌, List, [], ◌∷◌, true, false, refl, arith}
-use Rattle.model_scanner.specs.declared.level.Indent.{Indent}
-use Rattle.model_scanner.specs.Keys.{top_needs_block_end}
-use Rattle.model_scanner.specs.Indents.{level}
-use Rattle.yaml_scanner.specs.Levels.{ends_open, AreSmall}
+use Rattle.yaml_scanner.proofs.Common.{[], arith, ends_open, false, Indent, level, List, refl, top_needs_block_end, true, ℕ, ◌+◌, ◌<◌, ◌^◌, ◌∷◌, ◌≡◌, ◌≤◌}
+use Rattle.yaml_scanner.specs.Levels.{AreSmall}
 
 pub small_indent : (i : ℕ) (ds : List Indent) → AreSmall i ds → i ≤ 2 ^ 63 + 1
 small_indent i [] h = omega arith

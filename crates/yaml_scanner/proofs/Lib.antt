@@ -2,7 +2,6 @@ pub mod BlockLemmas
 mod Common
 pub mod FirstFetch
 pub mod FollowLemmas
-pub mod GivenLemmas
 pub mod HeldLemmas
 pub mod KeyLemmas
 pub mod LevelLemmas

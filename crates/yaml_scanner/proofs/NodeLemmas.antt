@@ -1,23 +1,15 @@
--- Lemmas about directives, anchors and tags.
-use Rattle.yaml_scanner.proofs.Common.{after_line, ap, At, Bool, cleared, Err, false, fetch_stream_end, has_required, Held, if◌then◌else◌, Key, List, next_line, Ok, Option, Position, position_of, push, refl, sym, Tok, true, unroll_indent, WindowView, ℕ, ◌+◌, ◌==◌, ◌∙◌, ◌≡◌}
+-- Where the next line begins, and how the stream ends.
+use Rattle.yaml_scanner.proofs.Common.{after_line, arith, At, Bool, cleared, Err, false, fetch_stream_end, has_required, Held, Key, List, next_line, Ok, Option, Position, position_of, push, refl, Tok, true, unroll_indent, WindowView, ℕ, ◌≡◌}
 use Rattle.yaml_tokens.specs.declared.problem.Problem.TheVariants as problem
 
-line_position : {T : Type 0} (s : WindowView T) (t : Bool) → (s.col == 0) ≡ t → position_of (if t then s else record s { line = s.line + 1; col = 0 }) ≡ (if t then position_of s else record (position_of s) { line = s.line + 1; col = 0 })
-line_position s true e = refl
-line_position s false e = refl
-
 pub next_position : {T : Type 0} (s u : WindowView T) → u ≡ after_line s → position_of u ≡ next_line (position_of s)
-next_position s u e = ap position_of e ∙ line_position s (s.col == 0) refl
+next_position s u e = rw e (grind arith)
 
-pub stream_ended : (a : List ℕ) (h u v w : Held) (b : Bool) (ks : List (Option Key)) (p m : Position) → p ≡ next_line h.position → b ≡ has_required h.keys → b ≡ false → ks ≡ cleared h.keys → u ≡ record h { position = p; keys = ks } → v ≡ unroll_indent 0 u → m ≡ v.position
+pub stream_ended : (a : List ℕ) (h v w : Held) (b : Bool) (ks : List (Option Key)) (p m : Position) → p ≡ next_line h.position → b ≡ has_required h.keys → b ≡ false → ks ≡ cleared h.keys → v ≡ unroll_indent 0 (record h { position = p; keys = ks }) → m ≡ v.position
     → w ≡ record (push m Tok.stream_end v) { key_allowed = false; ended = true } → fetch_stream_end (record { rest = a; held = h }) ≡ Ok (record { rest = a; held = w })
 unfolding fetch_stream_end
-stream_ended a h u v w b ks p m e f i k j l n g =
-    let r : has_required h.keys ≡ false = sym f ∙ i in
-    let j' = rw (k, e) at j in
-    let l' = rw j' at l in
-    rw (r, g, n, l') refl
+stream_ended a h v w b ks p m e f i k l n g = let l' = rw (k, e) at l in rw (← f, i, g, n, l') refl
 
 pub stream_refused : (a : List ℕ) (h : Held) (b : Bool) (p : Position) → p ≡ next_line h.position → b ≡ has_required h.keys → b ≡ true → fetch_stream_end (record { rest = a; held = h }) ≡ Err (At problem.KeyExpected p)
 unfolding fetch_stream_end
-stream_refused a h b p e f i = let r : has_required h.keys ≡ true = sym f ∙ i in rw (r, e) refl
+stream_refused a h b p e f i = rw (← f, i, e) refl

@@ -1,11 +1,15 @@
 -- Two tokens that are handed out at once, against the model's runs.
-use Rattle.yaml_scanner.proofs.Common.{[], along, ap, append_assoc, arith, AwaitsKey, AwaitsValue, Bool, cleared, Columns, ErrorReport, false, Fault, Fetcher, Fetches, FetchesTwice, Follows, handed, HandsBoth, held, ImplicitKey, Indent, inside, is_end, Key, key_tokens, length, length-append, level, levels_after, List, map, no_implicit, None, none_front, none_lowered, one_more, Option, option_map, OutOfMemory, past, Position, position_of, Reads, refl, Scanned, seen, Some, StandsAt, state, Style, subst, suc, sym, take, take-append-add, take-append_seam, take-length, TakesKey, TakesValue, Tok, Token, token, Tokens, top_needs_block_end, true, value_level, WindowView, work, ℕ, ◌++◌, ◌+◌, ◌-◌, ◌<◌, ◌||◌, ◌∙◌, ◌∷◌, ◌≡◌, ◌≤◌}
+use Rattle.yaml_scanner.proofs.Common.{[], unrolled, along, ap, append_assoc, arith, AwaitsKey, AwaitsValue, Bool, cleared, Columns, ErrorReport, false, Fault, Fetcher, Fetches, FetchesTwice, Follows, handed, has_end, HandsBoth, held, ImplicitKey, Indent, inside, is_end, Key, key_tokens, length, length-append, level, levels_after, List, map, no_implicit, None, one_more, Option, option_map, OutOfMemory, past, Position, position_of, Reads, refl, Scanned, seen, Some, StandsAt, state, Style, suc, sym, take, take-append-add, take-append_seam, take-length, TakesKey, TakesValue, Tok, Token, token, top_needs_block_end, true, value_level, WindowView, work, ℕ, ◌++◌, ◌+◌, ◌-◌, ◌<◌, ◌∙◌, ◌∷◌, ◌≡◌, ◌≤◌}
 use Rattle.yaml_tokens.specs.Problem.{fault_of}
 use Rattle.yaml_scanner.proofs.ReadsLemmas.{Reads-map}
-use Rattle.yaml_scanner.proofs.FollowLemmas.{fetched_on, handed_on, went_on}
+use Rattle.yaml_scanner.proofs.FollowLemmas.{fetched_on, given_on, went_on}
+use Rattle.std.proofs.lemmas.Simd.{map-map}
+use Rattle.yaml_scanner.proofs.KeyLemmas.{cleared_all}
+use Rattle.yaml_scanner.proofs.QueueLemmas.{has_end_append}
+use Rattle.yaml_scanner.proofs.HeldLemmas.{unrolled_done, unrolled_more}
 use Rattle.yaml_scanner.proofs.PairTexts.{same_place, along_is}
-use Rattle.yaml_scanner.proofs.PairFetches.{in_mapping, value_fetched, after_value}
-use Rattle.yaml_scanner.proofs.NodeFetches.{key_fetched, before_key, after_key}
+use Rattle.yaml_scanner.proofs.PairFetches.{in_mapping}
+use Rattle.yaml_scanner.proofs.NodeFetches.{after_key, after_value, key_fetched, line_end, value_fetched}
 
 -- two fetches more
 pub fetched_twice : {T : Type 0} (x y : Fetcher T) → x.kept ≡ None → x.tokens.ended ≡ false → Follows x → Reads x.window y.window (λ a b. FetchesTwice (state a x) (state b y)) → Fetches x y → (y.tokens.ended ≡ true → y.window.done ≡ true) → Follows y
@@ -18,27 +22,31 @@ fetched_twice x y k g f d m n = λ a p.
 pub memory_kept : (e : Fault) (m : Position) (r : ErrorReport) → r ≡ fault_of e m → e ≡ OutOfMemory → r.memory ≡ true
 memory_kept e m r h f = rw (h, f) refl
 
+-- ---- what is held
+
+pub seen_free : (g : ℕ) (ks : List (Option ImplicitKey)) → map no_implicit ks ≡ ks → cleared (seen g ks) ≡ seen g ks
+seen_free g ks e = sym (cleared_all g ks) ∙ ap (seen g) e
+
+seen_alike : (g h : ℕ) (ks : List (Option ImplicitKey)) → map no_implicit ks ≡ ks → seen g ks ≡ seen h ks
+seen_alike g h ks e = sym (seen_free g ks e) ∙ simp map-map refl ∙ seen_free h ks e
+
+-- the innermost level has no key, and the levels outside it have none
+pub keys_seen : (g : ℕ) (ks : List (Option ImplicitKey)) → map no_implicit ks ≡ ks → 0 < length ks → (js : List (Option Key)) × (cleared js ≡ js) × (seen g ks ≡ None ∷ js)
+keys_seen g [] e h = absurd (omega (arith, h))
+keys_seen g (None ∷ ks) e h = (seen g ks, seen_free g ks cc, refl)
+keys_seen g (Some k ∷ ks) e h = absurd cc
+
 -- ---- tokens
 
--- a token is handed out that is not the end, where nothing may be a key
-one_handed : {T : Type 0} (x : Fetcher T) (gs us : List Token) (t : Token) → x.kept ≡ None → x.tokens.over ≡ false → map no_implicit x.keys ≡ x.keys → x.tokens.all ≡ gs ++ t ∷ us → x.tokens.given ≡ length gs → is_end t.tok ≡ false → Follows x
-    → Follows (record x { tokens = record x.tokens { given = x.tokens.given + 1 } })
-one_handed x gs us t k o free all given end f =
-    let q : Tokens = record x.tokens { given = x.tokens.given + 1 } in
-    let made : q ≡ record x.tokens { given = x.tokens.given + 1; over = x.tokens.over || is_end t.tok } = ap (λ b. record x.tokens { given = x.tokens.given + 1; over = b }) (rw (end, o) refl) in
-    let before : handed x.tokens ≡ gs = rw (all, given) (take-append_seam gs (t ∷ us)) in
-    let after : handed q ≡ handed x.tokens ++ t ∷ [] = rw (before, all, given) (take-append-add gs (t ∷ us) 1) in
-    handed_on x q x.keys t k o (λ _. none_front x.keys free) made after (sym (none_lowered x.keys free)) f
-
+-- two tokens are handed out, none of which is the end, where nothing may be a key
 both_handed : {T : Type 0} (x : Fetcher T) (gs us : List Token) (t u : Token) → x.kept ≡ None → x.tokens.over ≡ false → map no_implicit x.keys ≡ x.keys → x.tokens.all ≡ gs ++ t ∷ u ∷ us → x.tokens.given ≡ length gs → is_end t.tok ≡ false → is_end u.tok ≡ false → Follows x
     → Follows (record x { tokens = record x.tokens { given = x.tokens.given + 2 } })
-both_handed x gs us t u k o free all given te ue f =
-    let y = record x { tokens = record x.tokens { given = x.tokens.given + 1 } } in
-    let one : Follows y = one_handed x gs (u ∷ us) t k o free all given te f in
-    let count : x.tokens.given + 1 ≡ length (gs ++ t ∷ []) = rw given (sym (length-append gs (t ∷ []))) in
-    let two : Follows (record x { tokens = record x.tokens { given = x.tokens.given + 1 + 1 } }) = one_handed y (gs ++ t ∷ []) us u k o free (all ∙ sym (append_assoc gs (t ∷ []) (u ∷ us))) count ue one in
-    let sum : x.tokens.given + 1 + 1 ≡ x.tokens.given + 2 = omega arith in
-    subst (λ n. Follows (record x { tokens = record x.tokens { given = n } })) sum two
+both_handed x gs us t u k o free all given te ue f = λ a p.
+    let old = f a p in
+    let first : take (x.tokens.given + 2) x.tokens.all ≡ gs ++ t ∷ u ∷ [] = rw (all, given) (take-append-add gs (t ∷ u ∷ us) 2) in
+    let before : handed x.tokens ≡ gs = rw (all, given) (take-append_seam gs (t ∷ u ∷ us)) in
+    let none : has_end gs ≡ false = rw before at (old.open_end o) in
+    given_on x a old k (x.tokens.given + 2) x.keys x.tokens.over (λ _. seen_alike (x.tokens.given + 2) x.tokens.given x.keys free) (λ e. absurd cc) (λ _. rw (first, has_end_append gs (t ∷ u ∷ []), none, te, ue) refl)
 
 -- two tokens more, as callers see it
 hands_both : {T : Type 0} (x y : Fetcher T) (gs us : List Token) (t u : Token) → x.kept ≡ None → x.tokens.over ≡ false → y.kept ≡ x.kept → y.tokens.over ≡ x.tokens.over → handed x.tokens ≡ gs → y.tokens.all ≡ gs ++ t ∷ u ∷ us → y.tokens.given ≡ length gs + 2
@@ -58,18 +66,6 @@ hands_both x y gs us t u k o kept over given all count te ue less =
       };
     }
 
--- ---- what is held
-
-pub keys_split : (ks : List (Option ImplicitKey)) → map no_implicit ks ≡ ks → 0 < length ks → (js : List (Option ImplicitKey)) × (ks ≡ None ∷ js) × (map no_implicit js ≡ js)
-keys_split [] e h = absurd (omega (arith, h))
-keys_split (None ∷ js) e h = (js, refl, cc)
-keys_split (Some k ∷ js) e h = absurd cc
-
-pub seen_free : (g : ℕ) (js : List (Option ImplicitKey)) → map no_implicit js ≡ js → cleared (seen g js) ≡ seen g js
-seen_free g [] e = refl
-seen_free g (None ∷ js) e = ap (λ ks. None ∷ ks) (seen_free g js cc)
-seen_free g (Some k ∷ js) e = absurd cc
-
 -- ---- levels
 
 pub levels_split : (ds : List Indent) (limit : ℕ) → value_level ds ≡ Some limit → (es : List Indent) × (ds ≡ level limit false ∷ es) × (top_needs_block_end es ≡ true)
@@ -80,24 +76,29 @@ levels_split (d ∷ g ∷ ds) limit e = (g ∷ ds, grind arith, grind arith)
 abbrev columns : ℕ → List Indent → Columns
 columns i ds = record { indent = i; indents = ds }
 
--- the levels where a key stands at a column, by those outside it
-abbrev levels_at : ℕ → (opens : Bool) → List Indent → Columns
-levels_at col true ds = columns (col + 1) ds
-levels_at col false ds = columns (col + 1 + 1) (level (col + 1) false ∷ ds)
-
+-- Where a key stands at a column, the levels that stay there, and those after its `:`.
 record Outside (col : ℕ) (opens : Bool) (l : Columns) : Type 0 where
   ds : List Indent
   block : top_needs_block_end ds ≡ true
-  before : l ≡ levels_at col opens ds
-  after : levels_after opens l ≡ levels_at col false ds
+  ends : (p : Position) (ts : List Token) → unrolled (col + 1) p l.indent l.indents ts ≡ record { indent = col + 1; indents = ds; tokens = ts }
+  after : levels_after opens l ≡ columns (col + 1 + 1) (level (col + 1) false ∷ ds)
 
 outside_of : (col : ℕ) (opens : Bool) (l : Columns) → StandsAt col opens l → Outside col opens l
-outside_of col true l z = record { ds = l.indents; block = z.1; before = ap (λ i. columns i l.indents) z.0; after = ap (λ i. columns (i + 1) (level i false ∷ l.indents)) z.0 }
+outside_of col true l z = record {
+  ds = l.indents;
+  block = z.1;
+  ends = λ p ts. rw z.0 (unrolled_done (col + 1) p (col + 1) l.indents ts (omega arith));
+  after = rw z.0 refl;
+}
 outside_of col false l z =
     let s = levels_split l.indents (col + 1) z.1 in
     let width : l.indent ≡ col + 1 + 1 = z.0 ∙ omega arith in
-    let same : l ≡ levels_at col false s.0 = ap (λ i. columns i l.indents) width ∙ ap (λ es. columns (col + 1 + 1) es) s.1 in
-    record { ds = s.0; block = s.2; before = same; after = same }
+    record {
+      ds = s.0;
+      block = s.2;
+      ends = λ p ts. unrolled_more (col + 1) p l.indent l.indents ts (level (col + 1) false) s.0 s.1 (omega (arith, width)) ∙ unrolled_done (col + 1) p (col + 1) s.0 ts (omega arith);
+      after = ap (λ i. columns i l.indents) width ∙ ap (columns (col + 1 + 1)) s.1;
+    }
 
 levels_more : (opens : Bool) (l : Columns) → length (levels_after opens l).indents ≤ length l.indents + 1
 levels_more true l = omega arith
@@ -119,38 +120,21 @@ module _ {T : Type 0} (x : Fetcher T) (w : WindowView T) (key : List ℕ) (colon
     leading = false;
   }
 
-  colon_is : colon ≡ along key p
-  colon_is =
-      let index = t.at in
-      let line = t.line in
-      let col = t.col in
-      at ∙ same_place (omega (arith, index)) line (omega (arith, col)) ∙ sym (along_is key p)
-
-  after_is : position_of w ≡ past (along key p)
-  after_is = same_place t.at t.line t.col ∙ sym (ap past (along_is key p))
-
-  held_before : (ds : List Indent) (ks : List (Option Key)) (l : Columns) (free : cleared ks ≡ ks) (block : top_needs_block_end ds ≡ true) → l ≡ levels_at p.col opens ds → seen x.tokens.given x.keys ≡ None ∷ ks
-      → held (record x { levels = l }) ≡ before_key p x.tokens.all ks ds x.leading x.adjacent_value_at free block opens
-  held_before ds ks l free block e keys = by opens e
-    where
-      by : (b : Bool) → l ≡ levels_at p.col b ds → held (record x { levels = l }) ≡ before_key p x.tokens.all ks ds x.leading x.adjacent_value_at free block b
-      by true h = let s = z.settled in rw (s.flow, s.started, s.ended, z.allowed, h, keys) refl
-      by false h = let s = z.settled in rw (s.flow, s.started, s.ended, z.allowed, h, keys) refl
-
   key_fetches : Follows x → Follows (key_fetcher x.tokens.given)
   key_fetches f =
       let s = z.settled in
-      let split = keys_split x.keys s.no_open_key s.level in
-      let ks = seen x.tokens.given split.0 in
-      let free = seen_free x.tokens.given split.0 split.2 in
-      let keys : seen x.tokens.given x.keys ≡ None ∷ ks = ap (seen x.tokens.given) split.1 in
+      let k = keys_seen x.tokens.given x.keys s.no_open_key s.level in
+      let keys = k.2 in
+      let index = t.at in
+      let col = t.col in
+      let colon_is : colon ≡ along key p = at ∙ same_place (omega (arith, index)) t.line (omega (arith, col)) ∙ sym (along_is key p) in
+      let after_is : position_of w ≡ past (along key p) = same_place index t.line col ∙ sym (ap past (along_is key p)) in
       let y = key_fetcher x.tokens.given in
       let o = outside_of p.col opens x.levels z.stands in
-      let before = before_key p x.tokens.all ks o.ds x.leading x.adjacent_value_at free o.block opens in
-      let old : held x ≡ before = held_before o.ds ks x.levels free o.block o.before keys in
-      let new : held y ≡ after_key p x.tokens.all ks o.ds x.leading x.adjacent_value_at free o.block key = rw (s.flow, s.started, s.ended, o.after, keys, colon_is, after_is) refl in
+      let old : held x ≡ in_mapping p x.tokens.all (None ∷ k.0) x.levels.indent x.levels.indents true x.leading x.adjacent_value_at = rw (s.flow, s.started, s.ended, z.allowed, keys) refl in
+      let new : held y ≡ after_key p x.tokens.all k.0 o.ds x.leading x.adjacent_value_at k.1 o.block key = rw (s.flow, s.started, s.ended, o.after, keys, colon_is, after_is) refl in
       fetched_twice x y s.kept s.ended f
-      (Reads-map _ _ t.reads (λ a b r. rw (old, new, r.0) (key_fetched p x.tokens.all ks o.ds x.leading x.adjacent_value_at free o.block opens key b t.simple t.short r.1)))
+      (Reads-map _ _ t.reads (λ a b r. rw (old, new, r.0) (key_fetched p x.tokens.all k.0 o.ds x.leading x.adjacent_value_at k.1 o.block x.levels.indent x.levels.indents (o.ends p x.tokens.all) key b t.simple t.short r.1)))
       (record { given = rw z.waits (take-append_seam x.tokens.all (key_tokens p key colon) ∙ sym (take-length x.tokens.all)); over = refl; fault = refl; backlog = refl })
       (λ e. absurd (cc (e, s.ended)))
 
@@ -159,31 +143,23 @@ module _ {T : Type 0} (x : Fetcher T) (w : WindowView T) (key : List ℕ) (colon
       let s = z.settled in
       both_handed (key_fetcher x.tokens.given) x.tokens.all (token colon Tok.value ∷ []) (token p Tok.key) (token p (Tok.scalar Style.plain key)) s.kept s.over s.no_open_key refl z.waits refl refl (key_fetches f)
 
-  key_less : (n : ℕ) → length (levels_after opens x.levels).indents ≡ n → n ≤ length x.levels.indents + 1 → work (key_fetcher (x.tokens.given + 2)) + 1 < work x
-  key_less n e low =
-      let more : length (x.tokens.all ++ key_tokens p key colon) ≡ length x.tokens.all + 3 = length-append x.tokens.all (key_tokens p key colon) in
-      let waits = z.waits in
-      let left = t.reads.left in
-      let moved = t.at in
-      let some = t.simple.some in
-      rw e (omega (arith, more, waits, left, moved, some, low))
-
   pub key_handed : HandsBoth (inside x) (token p Tok.key) (token p (Tok.scalar Style.plain key)) (inside (key_fetcher (x.tokens.given + 2)))
   key_handed =
       let s = z.settled in
       let waits = z.waits in
+      let left = t.reads.left in
+      let moved = t.at in
+      let some = t.simple.some in
+      let more = length-append x.tokens.all (key_tokens p key colon) in
+      let deeper = levels_more opens x.levels in
       hands_both x (key_fetcher (x.tokens.given + 2)) x.tokens.all (token colon Tok.value ∷ []) (token p Tok.key) (token p (Tok.scalar Style.plain key)) s.kept s.over refl refl (rw waits (take-length x.tokens.all)) refl (rw waits refl) refl refl
-      (key_less _ refl (levels_more opens x.levels))
+      (omega (arith, waits, left, moved, some, more, deeper))
 
 -- ---- a value
 
-popped_is : (ds : List Indent) (limit : ℕ) (l : Columns) → value_level ds ≡ Some limit → ds ≡ level l.indent false ∷ l.indents → (l.indent ≡ limit) × (top_needs_block_end l.indents ≡ true)
-popped_is ds limit l e f =
-    let s = levels_split ds limit e in
-    let same : level l.indent false ∷ l.indents ≡ level limit false ∷ s.0 = sym f ∙ s.1 in
-    let top : level l.indent false ≡ level limit false = cc in
-    let rest : l.indents ≡ s.0 = cc in
-    (ap (λ (i : Indent). i.indent) top, ap top_needs_block_end rest ∙ s.2)
+popped_is : (i : ℕ) (es : List Indent) (limit : ℕ) → value_level (level i false ∷ es) ≡ Some limit → (i ≡ limit) × (top_needs_block_end es ≡ true)
+popped_is i [] limit e = absurd cc
+popped_is i (d ∷ es) limit e = (grind arith, grind arith)
 
 module _ {T : Type 0} (x : Fetcher T) (w : WindowView T) (value : List ℕ) (at : Position) (limit : ℕ) (mark : Position) (l : Columns) (z : AwaitsValue x at limit) (t : TakesValue limit x.window w value) (is : mark ≡ past (position_of x.window)) (popped : x.levels.indents ≡ level l.indent false ∷ l.indents) where
   abbrev q : Position
@@ -202,11 +178,6 @@ module _ {T : Type 0} (x : Fetcher T) (w : WindowView T) (value : List ℕ) (at 
     leading = true;
   }
 
-  value_after : position_of w ≡ record { index = q.index + length value + 2 + t.spaces; line = q.line + 1; col = t.spaces }
-  value_after =
-      let at = t.at in
-      same_place (omega (arith, at)) t.line t.col
-
   gone : x.tokens.given ≡ length (handed x.tokens)
   gone =
       let sum = length-append (handed x.tokens) (token at Tok.value ∷ []) in
@@ -222,8 +193,10 @@ module _ {T : Type 0} (x : Fetcher T) (w : WindowView T) (value : List ℕ) (at 
       let s = z.settled in
       let ks = seen x.tokens.given x.keys in
       let free = seen_free x.tokens.given x.keys s.no_open_key in
-      let split = popped_is x.levels.indents limit l z.opened popped in
+      let split = popped_is l.indent l.indents limit (rw popped at z.opened) in
       let y = value_fetcher x.tokens.given in
+      let index = t.at in
+      let value_after : position_of w ≡ line_end (past q) value t.spaces = same_place (omega (arith, index)) t.line t.col in
       let indents : x.levels.indents ≡ level limit false ∷ l.indents = popped ∙ ap (λ i. level i false ∷ l.indents) split.0 in
       let before = in_mapping q x.tokens.all ks x.levels.indent (level limit false ∷ l.indents) false x.leading x.adjacent_value_at in
       let after = after_value q x.tokens.all ks x.levels.indent limit l.indents x.leading x.adjacent_value_at free split.1 z.deep z.off value t.spaces in

@@ -1,5 +1,5 @@
 -- Simple texts, and how the model scans them as plain scalars.
-use Rattle.yaml_scanner.proofs.Common.{[], along, and_from, and_parts, ap, append-nil, append_assoc, arith, at_marker, Bool, class_of, eqb-true, false, Fault, indented, is_alphanumeric, is_blank, is_blank_or_breakz, is_break, is_simple, IsSimpleText, le-ltb, length, List, nat_lt, nat_tests, ne_eqb, not, Ok, opens_simple, past, Position, Read, refl, Result, slice_index, subst, suc, sym, true, zero, ℕ, ◌&&◌, ◌++◌, ◌+◌, ◌<◌, ◌==◌, ◌∙◌, ◌∷◌, ◌≡◌, ◌≢◌, ◌≤◌}
+use Rattle.yaml_scanner.proofs.Common.{[], along, and_from, and_parts, ap, append-nil, append_assoc, arith, at_marker, Bool, class_of, eqb-true, false, Fault, indented, is_alphanumeric, is_blank, is_blank_or_breakz, is_break, is_simple, IsSimpleText, le-ltb, length, List, nat_lt, nat_tests, ne_eqb, not, Ok, opens_simple, past, Position, Read, refl, Result, slice_index, suc, true, zero, ℕ, ◌&&◌, ◌++◌, ◌+◌, ◌<◌, ◌==◌, ◌∙◌, ◌∷◌, ◌≡◌, ◌≢◌, ◌≤◌}
 use Rattle.model_scanner.specs.declared.context.Context.{Context}
 use Rattle.model_scanner.specs.Plain.{PlainState, Plain, inside, between, plain, plain_from, can_be_plain, starts, at_dash, at_plain, goes_on, is_shallow}
 use Rattle.model_scanner.specs.declared.class.Class.TheVariants.{Other}
@@ -33,13 +33,7 @@ record SimpleChar (c : ℕ) : Type 0 where
 
 simple_char : (c : ℕ) → is_simple c ≡ true → SimpleChar c
 unfolding is_break is_blank is_simple
-simple_char c h = record {
-  break = grind (arith, nat_tests);
-  blank = λ e. grind (arith, nat_tests);
-  colon = grind (arith, nat_tests);
-  hash = grind (arith, nat_tests);
-  nul = grind (arith, nat_tests);
-}
+simple_char c h = grind (arith, nat_tests)
 
 -- a character that a simple text begins with
 pub record Opener (c : ℕ) : Type 0 where
@@ -56,18 +50,7 @@ pub record Opener (c : ℕ) : Type 0 where
 
 opener : (c : ℕ) → opens_simple c ≡ true → Opener c
 unfolding is_break is_blank opens_simple is_alphanumeric class_of
-opener c h = record {
-  break = grind (arith, nat_tests);
-  blank = grind (arith, nat_tests);
-  tab = grind (arith, nat_tests);
-  space = grind (arith, nat_tests);
-  hash = grind (arith, nat_tests);
-  nul = grind (arith, nat_tests);
-  percent = grind (arith, nat_tests);
-  dash = grind (arith, nat_tests);
-  point = grind (arith, nat_tests);
-  class = grind (arith, nat_tests);
-}
+opener c h = grind (arith, nat_tests)
 
 -- a simple text, as lemmas take it apart
 pub record Simple (text : List ℕ) : Type 0 where
@@ -132,7 +115,7 @@ module _ (i : ℕ) (start : Position) where
 
   more_total : (b : Bool) (text gap w : List ℕ) → total true text (more b gap) ++ w ≡ total b text gap ++ 32 ∷ w
   more_total false text gap w = append_assoc text (32 ∷ []) w
-  more_total true text gap w = append_assoc text (gap ++ 32 ∷ []) w ∙ ap (λ l. text ++ l) (append_assoc gap (32 ∷ []) w) ∙ rw append_assoc refl
+  more_total true text gap w = simp append_assoc
 
   abbrev Goes : List ℕ → List ℕ → Type 0
   Goes w r = (b : Bool) (p : Position) (text gap : List ℕ) → all_simple w ≡ true → closes b w ≡ true → i ≤ p.col → 1 ≤ p.col → scan (w ++ r) (at b p text gap) ≡ scan r (at false (along w p) (total b text gap ++ w) [])
@@ -161,14 +144,11 @@ module _ (i : ℕ) (start : Position) where
   unfolding plain starts at_dash
   begins_scan c w r all close deep = text_goes w r false (past start) (c ∷ []) [] all close deep (omega arith)
 
-  at_colon : (text : List ℕ) (d : ℕ) (a : List ℕ) (p : Position) → is_blank_or_breakz d ≡ true → scan (58 ∷ d ∷ a) (at false p text []) ≡ Ok (record { rest = 58 ∷ d ∷ a; position = p; value = record { text = text; leading = false } })
-  unfolding is_break is_blank can_be_plain
-  at_colon text d a p end = rw end refl
-
   -- up to a colon
   pub plain_key : (c : ℕ) (w : List ℕ) (d : ℕ) (a : List ℕ) → all_simple w ≡ true → closes false w ≡ true → i ≤ start.col + 1 → is_blank_or_breakz d ≡ true
       → plain (outside i) (c ∷ (w ++ 58 ∷ d ∷ a)) start ≡ Ok (record { rest = 58 ∷ d ∷ a; position = along (c ∷ w) start; value = record { text = c ∷ w; leading = false } })
-  plain_key c w d a all close deep end = begins_scan c w (58 ∷ d ∷ a) all close deep ∙ at_colon (c ∷ w) d a (along (c ∷ w) start) end
+  unfolding is_break is_blank can_be_plain
+  plain_key c w d a all close deep end = begins_scan c w (58 ∷ d ∷ a) all close deep ∙ rw end refl
 
   -- after a line feed and spaces
   abbrev below : ℕ → ℕ → ℕ → List ℕ → PlainState
@@ -177,26 +157,14 @@ module _ (i : ℕ) (start : Position) where
   abbrev pub over : List ℕ → ℕ → ℕ → ℕ → List ℕ → Result (Read Plain) Fault
   over r index line col text = Ok (record { rest = r; position = record { index = index; line = line; col = col }; value = record { text = text; leading = true } })
 
-  shifted : {j k c d : ℕ} (r : List ℕ) (line : ℕ) (text : List ℕ) → j ≡ k → c ≡ d → over r j line c text ≡ over r k line d text
-  shifted r line text e f = rw (e, f) refl
-
-  none_before : (k : ℕ) → 0 + k ≡ k
-  none_before k = omega arith
-
-  nothing_more : (k : ℕ) → k + 0 ≡ k
-  nothing_more k = omega arith
-
-  one_more : (k n : ℕ) → k + 1 + n ≡ k + suc n
-  one_more k n = omega arith
-
-  over_spaces : (n e : ℕ) (a : List ℕ) (index line col : ℕ) (text : List ℕ) → is_break e ≡ false → is_blank e ≡ false → nat_lt (col + n) i ≡ true → scan (indented n (e ∷ a)) (below index line col text) ≡ over (e ∷ a) (index + n) line (col + n) text
+  over_spaces : (n e : ℕ) (a : List ℕ) (index line col at_end end : ℕ) (text : List ℕ) → is_break e ≡ false → is_blank e ≡ false → index + n ≡ at_end → col + n ≡ end → nat_lt end i ≡ true
+      → scan (indented n (e ∷ a)) (below index line col text) ≡ over (e ∷ a) at_end line end text
   unfolding goes_on is_shallow is_break is_blank
-  over_spaces zero e a index line col text solid visible low =
-      let here : nat_lt col i ≡ true = subst (λ c. nat_lt c i ≡ true) (nothing_more col) low in
-      let stops : scan (e ∷ a) (below index line col text) ≡ over (e ∷ a) index line col text = rw (solid, visible, here) refl in
-      stops ∙ shifted (e ∷ a) line text (sym (nothing_more index)) (sym (nothing_more col))
-  over_spaces (suc n) e a index line col text solid visible low =
-      over_spaces n e a (index + 1) line (col + 1) text solid visible (subst (λ c. nat_lt c i ≡ true) (sym (one_more col n)) low) ∙ shifted (e ∷ a) line text (one_more index n) (one_more col n)
+  over_spaces zero e a index line col at_end end text solid visible f g low =
+      let here : index ≡ at_end = omega arith in
+      let there : col ≡ end = omega arith in
+      rw (here, there, solid, visible, low) refl
+  over_spaces (suc n) e a index line col at_end end text solid visible f g low = over_spaces n e a (index + 1) line (col + 1) at_end end text solid visible (omega arith) (omega arith) low
 
   -- over a line feed and the next line's spaces
   pub plain_value : (c : ℕ) (w : List ℕ) (n e : ℕ) (a : List ℕ) → all_simple w ≡ true → closes false w ≡ true → i ≤ start.col + 1 → is_break e ≡ false → is_blank e ≡ false → nat_lt n i ≡ true
@@ -205,5 +173,4 @@ module _ (i : ℕ) (start : Position) where
   plain_value c w n e a all close deep solid visible low =
       begins_scan c w (10 ∷ indented n (e ∷ a)) all close deep
       ∙ ap (λ p. scan (10 ∷ indented n (e ∷ a)) (at false p (c ∷ w) [])) (along_is (c ∷ w) start)
-      ∙ over_spaces n e a (start.index + length (c ∷ w) + 1) (start.line + 1) 0 (c ∷ w) solid visible (subst (λ c. nat_lt c i ≡ true) (sym (none_before n)) low)
-      ∙ shifted (e ∷ a) (start.line + 1) (c ∷ w) refl (none_before n)
+      ∙ over_spaces n e a (start.index + length (c ∷ w) + 1) (start.line + 1) 0 _ n (c ∷ w) solid visible refl (omega arith) low

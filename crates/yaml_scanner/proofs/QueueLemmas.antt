@@ -1,12 +1,9 @@
 -- Lemmas about the queue of tokens.
-use Rattle.std.proofs.Common.{◌≡◌, ℕ, ◌+◌, ◌-◌, true, ◌||◌, List, [], ◌∷◌, ◌++◌, map, length, take, drop, refl, ap, sym, ◌∙◌, append_assoc, append-nil, arith, length-append, ◌≤◌}
-use Rattle.std.proofs.lemmas.List.{length-map, map-append, take-map, drop-map, take_all, drop_all, take-append-drop}
+use Rattle.yaml_scanner.proofs.Common.{[], ap, append-nil, append_assoc, arith, drop, end_at, has_end, insert, is_end, length, length-append, length-map, List, map, map-append, Position, refl, sym, take, take-append-drop, take-append_seam, take_all, true, ℕ, ◌++◌, ◌+◌, ◌-◌, ◌||◌, ◌∙◌, ◌∷◌, ◌≡◌, ◌≤◌}
+use Rattle.std.proofs.lemmas.List.{append_cancel_left, nil_from_length, take-map, drop-map, drop_all}
 use Rattle.std.proofs.lemmas.List.Edits.{insert-append_right}
-use Rattle.std.specs.List.{insert}
 use Rattle.yaml_tokens.specs.declared.token.Token.{Token}
 use Rattle.yaml_tokens.specs.Shown.{shown, tok_of}
-use Rattle.yaml_scanner.specs.Tokens.{is_end, has_end, end_at}
-use Rattle.defs_text.specs.Position.{Position}
 use Rattle.defs_token.specs.Token as seen
 
 pub waiting_len : (g w : List Token) → length g + length w ≡ length (map shown g ++ map shown w)
@@ -21,11 +18,8 @@ one_shown g h t e = rw (e, map-append shown g (t ∷ [])) refl
 map_insert : (w : List Token) (i : ℕ) (t : Token) → map shown (insert w i t) ≡ insert (map shown w) i (shown t)
 map_insert w i t = rw (take-map shown i w, drop-map shown i w) (map-append shown (take i w) (t ∷ drop i w))
 
-minus : (n i : ℕ) → i ≡ n + i - n
-minus n i = omega arith
-
 pub insert_shown : (g w v : List Token) (i : ℕ) (t : Token) → v ≡ insert w i t → map shown g ++ map shown v ≡ insert (map shown g ++ map shown w) (length g + i) (shown t)
-insert_shown g w v i t e = rw (e, map_insert w i t) (ap (λ x. map shown g ++ insert (map shown w) x (shown t)) (minus (length g) i) ∙ sym (insert-append_right (map shown g) (map shown w) (length g) (length g + i) (shown t) (length-map g shown) (omega arith)))
+insert_shown g w v i t e = rw (e, map_insert w i t) (ap (λ x. map shown g ++ insert (map shown w) x (shown t)) (let same : i ≡ length g + i - length g = omega arith in same) ∙ sym (insert-append_right (map shown g) (map shown w) (length g) (length g + i) (shown t) (length-map g shown) (omega arith)))
 
 pub give_shown : (g h w v : List Token) (t : Token) → w ≡ t ∷ v → h ≡ g ++ t ∷ [] → map shown h ++ map shown v ≡ map shown g ++ map shown w
 give_shown g h w v t e f = rw (e, f, map-append shown g (t ∷ [])) (append_assoc (map shown g) (shown t ∷ []) (map shown v))
@@ -44,8 +38,7 @@ push_keeps w v t e h = rw (e, map-append shown w (t ∷ []), has_end_append (map
 -- and after an insertion
 pub insert_keeps : (w v : List Token) (i : ℕ) (t : Token) → v ≡ insert w i t → has_end (map shown w) ≡ true → has_end (map shown v) ≡ true
 insert_keeps w v i t e h =
-    let parts : has_end (map shown (take i w)) || has_end (map shown (drop i w)) ≡ true =
-    sym (ap (λ xs. has_end (map shown xs)) (sym (take-append-drop i w)) ∙ ap has_end (map-append shown (take i w) (drop i w)) ∙ has_end_append (map shown (take i w)) (map shown (drop i w))) ∙ h in
+    let parts = rw (← take-append-drop i w, map-append shown (take i w) (drop i w), has_end_append (map shown (take i w)) (map shown (drop i w))) at h in
     rw (e, map-append shown (take i w) (t ∷ drop i w), has_end_append (map shown (take i w)) (map shown (t ∷ drop i w))) (grind (arith, parts))
 
 -- the end waits once it was pushed
@@ -54,13 +47,9 @@ end_waits w v t p end e =
     let last : is_end (tok_of t.1) ≡ true = ap (λ (s : seen.Token). is_end s.tok) end in
     rw (e, map-append shown w (t ∷ []), has_end_append (map shown w) (map shown (t ∷ [])), last) (grind arith)
 
--- a position after all is the end
-insert_past : (w : List Token) (i : ℕ) (t : Token) → length w ≤ i → insert w i t ≡ w ++ t ∷ []
-insert_past w i t h = rw (take_all i w h, drop_all i w h) refl
-
 -- a token after all, at a position after all
 pub past_shown : (g w v : List Token) (i : ℕ) (t : Token) → v ≡ w ++ t ∷ [] → length w ≤ i → map shown g ++ map shown v ≡ insert (map shown g ++ map shown w) (length g + i) (shown t)
-past_shown g w v i t e h = insert_shown g w v i t (e ∙ sym (insert_past w i t h))
+past_shown g w v i t e h = let past : insert w i t ≡ w ++ t ∷ [] = rw (take_all i w h, drop_all i w h) refl in insert_shown g w v i t (e ∙ sym past)
 
 -- a token before all, and how many wait before it
 pub front_shown : (g w v : List Token) (i : ℕ) (t : Token) → v ≡ t ∷ w → i ≡ 0 → map shown g ++ map shown v ≡ insert (map shown g ++ map shown w) (length g + i) (shown t)
@@ -73,28 +62,21 @@ front_keeps w v t e h = insert_keeps w v 0 t e h
 
 pub key_shown : (g k s w v : List Token) (t u : Token) (x : seen.Token) → length w ≡ 0 → k ≡ g ++ t ∷ [] → map shown s ≡ map shown k ++ x ∷ [] → v ≡ w ++ u ∷ []
     → map shown s ++ map shown v ≡ (map shown g ++ map shown w) ++ shown t ∷ x ∷ shown u ∷ []
-key_shown g k s [] v t u x n e f h = rw (h, f, e, map-append shown g (t ∷ [])) (simp (append_assoc, append-nil) refl)
-key_shown g k s (y ∷ w) v t u x n e f h = absurd (omega (arith, n))
+key_shown g k s w v t u x n e f h = rw (h, f, e, nil_from_length w n, map-append shown g (t ∷ [])) (simp (append_assoc, append-nil) refl)
 
 pub value_shown : (g k s w v : List Token) (t : Token) (x : seen.Token) → w ≡ t ∷ v → length v ≡ 0 → k ≡ g ++ t ∷ [] → map shown s ≡ map shown k ++ x ∷ []
     → map shown s ++ map shown v ≡ (map shown g ++ map shown w) ++ x ∷ []
-value_shown g k s w [] t x e n f h = rw (h, f, e, map-append shown g (t ∷ [])) (simp (append_assoc, append-nil) refl)
-value_shown g k s w (y ∷ v) t x e n f h = absurd (omega (arith, n))
+value_shown g k s w v t x e n f h = rw (h, f, e, nil_from_length v n, map-append shown g (t ∷ [])) (simp (append_assoc, append-nil) refl)
 
 pub two_more : (g k s : List Token) (t : Token) → k ≡ g ++ t ∷ [] → length s ≡ length k + 1 → length s ≡ length g + 2
 two_more g k s t e f = let one = give_len g k t e in omega (arith, one, f)
 
 take_given : (g w : List Token) → take (length g) (map shown g ++ map shown w) ≡ map shown g
-take_given [] w = refl
-take_given (t ∷ g) w = ap (λ xs. shown t ∷ xs) (take_given g w)
-
-cancel : (xs ys zs : List seen.Token) → xs ++ ys ≡ xs ++ zs → ys ≡ zs
-cancel [] ys zs e = e
-cancel (x ∷ xs) ys zs e = cancel xs ys zs cc
+take_given g w = rw (← length-map g shown) (take-append_seam (map shown g) (map shown w))
 
 -- a token alone waits
 pub alone_shown : (g w : List Token) (t : Token) → w ≡ t ∷ [] → map shown g ++ map shown w ≡ take (length g) (map shown g ++ map shown w) ++ shown t ∷ []
 alone_shown g w t e = rw (take_given g w, e) refl
 
 pub waits_alone : (g w : List Token) (x : seen.Token) → map shown g ++ map shown w ≡ take (length g) (map shown g ++ map shown w) ++ x ∷ [] → map shown w ≡ x ∷ []
-waits_alone g w x e = cancel (map shown g) (map shown w) (x ∷ []) (e ∙ ap (λ xs. xs ++ x ∷ []) (take_given g w))
+waits_alone g w x e = append_cancel_left (map shown g) (map shown w) (x ∷ []) (e ∙ ap (λ xs. xs ++ x ∷ []) (take_given g w))

@@ -1,5 +1,4 @@
-use Rattle.std.proofs.lemmas.List.Edits.{map_over_more}
-use Rattle.yaml_scanner.specs.ImplicitKeys.{no_implicit}
+use Rattle.yaml_scanner.proofs.Common.{map_over_more, no_implicit}
 use Rattle.yaml_scanner.proofs.keys.close_all.Goals as goal
 
 pub keys-preserved : goal.keys-preserved

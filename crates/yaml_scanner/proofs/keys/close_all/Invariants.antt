@@ -1,5 +1,4 @@
-use Rattle.std.proofs.Common.{◌≡◌, ◌++◌, map, take, drop}
-use Rattle.yaml_scanner.specs.ImplicitKeys.{no_implicit}
+use Rattle.yaml_scanner.proofs.Common.{drop, map, no_implicit, take, ◌++◌, ◌≡◌}
 use Rattle.yaml_scanner.proofs.keys.close_all.Given as goal
 
 abbrev pub invariant-keys : goal.invariant-keys

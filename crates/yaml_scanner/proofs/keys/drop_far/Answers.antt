@@ -1,6 +1,4 @@
-use Rattle.std.proofs.Common.{◌∙◌, ap, sym, set}
-use Rattle.std.proofs.lemmas.List.Edits.{map_over_more}
-use Rattle.yaml_scanner.specs.ImplicitKeys.{still_implicit}
+use Rattle.yaml_scanner.proofs.Common.{ap, map_over_more, set, still_implicit, sym, ◌∙◌}
 use Rattle.yaml_scanner.proofs.keys.drop_far.Goals as goal
 
 pub keys-preserved : goal.keys-preserved

@@ -1,5 +1,4 @@
-use Rattle.std.proofs.Common.{◌≡◌, ◌++◌, map, take, drop}
-use Rattle.yaml_scanner.specs.ImplicitKeys.{still_implicit}
+use Rattle.yaml_scanner.proofs.Common.{drop, map, still_implicit, take, ◌++◌, ◌≡◌}
 use Rattle.yaml_scanner.proofs.keys.drop_far.Given as goal
 
 abbrev pub invariant-keys : goal.invariant-keys

@@ -1,6 +1,4 @@
-use Rattle.std.proofs.Common.{◌∙◌, ap, sym, set}
-use Rattle.std.proofs.lemmas.List.Edits.{map_over_more}
-use Rattle.yaml_scanner.specs.ImplicitKeys.{lowered}
+use Rattle.yaml_scanner.proofs.Common.{ap, lowered, map_over_more, set, sym, ◌∙◌}
 use Rattle.yaml_scanner.proofs.keys.lower_all.Goals as goal
 
 pub keys-preserved : goal.keys-preserved

@@ -1,5 +1,4 @@
-use Rattle.std.proofs.Common.{◌≡◌, ◌++◌, map, take, drop}
-use Rattle.yaml_scanner.specs.ImplicitKeys.{lowered}
+use Rattle.yaml_scanner.proofs.Common.{drop, lowered, map, take, ◌++◌, ◌≡◌}
 use Rattle.yaml_scanner.proofs.keys.lower_all.Given as goal
 
 abbrev pub invariant-keys : goal.invariant-keys

@@ -1,4 +1,4 @@
-use Rattle.std.proofs.Common.{refl}
+use Rattle.yaml_scanner.proofs.Common.{refl}
 use Rattle.defs_text.specs.Text.{string_chars}
 use Rattle.yaml_scanner.proofs.queue.pass_scalar.Goals as goal
 

@@ -1,9 +1,4 @@
-use Rattle.std.proofs.Common.{◌∙◌, ap, sym, map}
-use Rattle.std.proofs.lemmas.List.{with_items_is}
-use Rattle.std.specs.List.{list_any}
-use Rattle.std.specs.Prelude.{is_some}
-use Rattle.model_scanner.specs.Keys.{is_overdue}
-use Rattle.yaml_scanner.specs.ImplicitKeys.{key_of, still_implicit}
+use Rattle.yaml_scanner.proofs.Common.{ap, is_overdue, is_some, key_of, list_any, map, still_implicit, sym, with_items_is, ◌∙◌}
 use Rattle.yaml_scanner.proofs.KeyLemmas.{overdue_seen, still_seen, none_found}
 use Rattle.yaml_scanner.proofs.keys.ImplicitKeys.end_stale.Goals as goal
 

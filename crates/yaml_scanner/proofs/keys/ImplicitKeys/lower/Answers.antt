@@ -1,7 +1,5 @@
-use Rattle.std.proofs.Common.{◌∙◌, ap, sym, map, reverse}
-use Rattle.std.proofs.lemmas.List.{with_items_is}
-use Rattle.yaml_scanner.specs.ImplicitKeys.{lowered}
-use Rattle.yaml_scanner.proofs.KeyLemmas.{map_reversed, none_lower}
+use Rattle.yaml_scanner.proofs.Common.{ap, lowered, map, reverse, sym, with_items_is, ◌∙◌}
+use Rattle.yaml_scanner.proofs.KeyLemmas.{map_reversed, none_lowered}
 use Rattle.yaml_scanner.proofs.keys.ImplicitKeys.lower.Goals as goal
 
 pub returns-then-self : goal.returns-then-self
@@ -9,4 +7,4 @@ returns-then-self c = rw (← c.self.view_is) (ap reverse (with_items_is c.self.
     ∙ sym (map_reversed lowered c.self.inside.levels.items))
 
 pub returns-else-self : goal.returns-else-self
-returns-else-self c = rw (← c.self.view_is) (none_lower c.self.inside.levels.items (c.self.invariant c.if-self.false))
+returns-else-self c = rw (← c.self.view_is) (sym (map_reversed lowered c.self.inside.levels.items ∙ ap reverse (none_lowered c.self.inside.levels.items (c.self.invariant c.if-self.false))))

@@ -1,8 +1,5 @@
-use Rattle.std.proofs.Common.{◌≡◌, ◌∷◌, [], ap, map}
-use Rattle.defs_token.specs.Token.{Tok}
-use Rattle.model_scanner.specs.State.{token}
+use Rattle.yaml_scanner.proofs.Common.{[], ap, has_end, map, Tok, token, ◌∷◌, ◌≡◌}
 use Rattle.yaml_tokens.specs.Shown.{shown}
-use Rattle.yaml_scanner.specs.Tokens.{has_end}
 use Rattle.yaml_scanner.proofs.QueueLemmas.{waits_alone}
 use Rattle.yaml_scanner.proofs.queue.Queue.pass_value.Goals as goal
 

@@ -1,4 +1,4 @@
-use Rattle.std.proofs.Common.{rules}
+use Rattle.yaml_scanner.proofs.Common.{rules}
 use Rattle.yaml_scanner.proofs.QueueLemmas.{end_waits}
 use Rattle.yaml_scanner.proofs.queue.Queue.push_end.Goals as goal
 
