@@ -69,19 +69,10 @@ leaving g t r p = row_holds (λ t r. LeavingRow grammar weight ends_goal g t r) 
 
 -- ---- goals that refuse tokens
 
-pub ended : (g : Goal) (h : Held) (t : Tok) → row_of (cases g) t ≡ None → EndsGoal grammar ends_goal g h
-ended stream h t p = (_, _, _, refl, (grammar_completes stream h).2)
-ended directives h t p = (_, _, _, refl, (grammar_completes directives h).2)
-ended explicit_document h t p = (_, _, _, refl, (grammar_completes explicit_document h).2)
-ended block_sequence_entries h t p = (_, _, _, refl, (grammar_completes block_sequence_entries h).2)
-ended block_mapping_entries h t p = (_, _, _, refl, (grammar_completes block_mapping_entries h).2)
-ended flow_sequence_entries h t p = (_, _, _, refl, (grammar_completes flow_sequence_entries h).2)
-ended flow_sequence_comma h t p = (_, _, _, refl, (grammar_completes flow_sequence_comma h).2)
-ended (flow_mapping_entries s) h t p = (_, _, _, refl, (grammar_completes (flow_mapping_entries s) h).2)
-ended flow_mapping_comma h t p = (_, _, _, refl, (grammar_completes flow_mapping_comma h).2)
+pub ended : (g : Goal) (h : Held) (t : Tok) → row_of (cases g) t ≡ None → EndsGoal grammar_completes ends_goal g h
 ended (content in_flow) h t p = absurd (grind arith)
 ended (content in_block) h t p = absurd (grind arith)
-ended g h t p = absurd (grind arith)
+ended g h t p = grind arith
 
 pub mended : IsMended grammar weight is_bottom ends_goal
 mended = record { falls = grammar_falls; completes = grammar_completes; bottoms = bottoms; leaving = leaving; ended = ended }

@@ -129,12 +129,6 @@ steps_at (suc n) x b k m (reading g h ∷ w) = by (row_of (cases g) k.tok) refl 
 each_one : (b : Option Position) (k : Token) (e : Option Raw) (m : Position) (fs : List (Raw × Position)) → IsAt b k e m → each_at (λ x. or_at m (position_at k b x)) (event_list e) fs ≡ event_at e m fs
 each_one b k e m fs at = grind arith
 
-pub leads_at : (n : ℕ) (w : Works) (e : Option Raw) (w' : Works) (x : Extent) (b : Option Position) (k : Token) (m : Position) → is_quiet any_held w ≡ true → is_quiet any_held w' ≡ true → IsAt b k e m → steps n k.tok w ≡ (event_list e, w')
-    → (ts : List Token) (fs : List (Raw × Position)) → Places x b (placed w') (k ∷ ts) fs → Places x b (placed w) (k ∷ ts) (event_at e m fs)
-leads_at n w e w' x b k m q q' at h ts fs d =
-    let y = subst (StaysAt x b k m w) h (steps_at n x b k m w) ts fs (subst (λ v. Places x b v (k ∷ ts) fs) (sym (quiet_placed k b w' q')) d) in
-    subst (λ v. Places x b v (k ∷ ts) (event_at e m fs)) (quiet_placed k b w q) (subst (λ es. Places x b (placed_by (position_at k b) w) (k ∷ ts) es) (each_one b k e m fs at) y)
-
 -- Two goals that have the same row for a token read it alike.
 pub placed_alike : {g g' : table.Goal} {h : Held} {w : PlacedWork} {x : Extent} {b : Option Position} {k : Token} {ts : List Token} {es : List (Raw × Position)}
     → row_of (cases g) k.tok ≡ row_of (cases g') k.tok → Places x b (reading g h ∷ w) (k ∷ ts) es → Places x b (reading g' h ∷ w) (k ∷ ts) es
@@ -216,17 +210,34 @@ Leads n g ss e g' ss' t = leading n g ss g' ss' t ≡ led e g' ss'
 abbrev pub Admits : Works → Tok → Type 0
 Admits w t = (m : ℕ) → refuses m t w ≡ false
 
-pub leads_stay : (n : ℕ) (w : Works) (e : Option Raw) (w' : Works) (t : Tok) → steps n t w ≡ (event_list e, w') → Stays t w (event_list e) w'
-leads_stay n w e w' t h = subst (λ x. Stays t w x.0 x.1) h (by_steps n t w)
+-- With that token, one goal says this event or none and goes on as the other, wherever the event stands; and it may come in both places.
+pub record Alike (g : Goal) (ss : List State) (e : Option Raw) (g' : Goal) (ss' : List State) (t : Tok) : Type 0 where
+  pub stays : Stays t (work_of g ss) (event_list e) (work_of g' ss')
+  pub places : (x : Extent) (b : Option Position) (k : Token) (m : Position) → k.tok ≡ t → IsAt b k e m → (ts : List Token) (fs : List (Raw × Position))
+      → Places x b (placed (work_of g' ss')) (k ∷ ts) fs → Places x b (placed (work_of g ss)) (k ∷ ts) (event_at e m fs)
+  pub may : (may_begin g ss (kind_of t) ≡ true) × (may_begin g' ss' (kind_of t) ≡ true)
 
--- What leads there, and where the token leads.
-pub leaves_so : {g : Goal} {ss : List State} {t : Tok} {e : Option Raw} {g' : Goal} {ss' : List State} (n : ℕ)
-    → (IsNested ss → IsFor g ss → IsNested ss' × IsFor g' ss')
+pub leads : {g : Goal} {ss : List State} {e : Option Raw} {g' : Goal} {ss' : List State} {t : Tok} (n : ℕ) → Leads n g ss e g' ss' t → Alike g ss e g' ss' t
+leads {g} {ss} {e} {g'} {ss'} {t} n l =
+    let v = work_of g ss in
+    let w = work_of g' ss' in
+    let h : steps n t v ≡ (event_list e, w) = ap (λ x. x.0) l in
+    record {
+      stays = subst (λ x. Stays t v x.0 x.1) h (by_steps n t v);
+      places = λ x b k m same at ts fs d.
+          let y = subst (StaysAt x b k m v) (ap (λ u. steps n u v) same ∙ h) (steps_at n x b k m v) ts fs (subst (λ u. Places x b u (k ∷ ts) fs) (sym (quiet_placed k b w (work_quiet g' ss'))) d) in
+          subst (λ u. Places x b u (k ∷ ts) (event_at e m fs)) (quiet_placed k b v (work_quiet g ss))
+          (subst (λ es. Places x b (placed_by (position_at k b) v) (k ∷ ts) es) (each_one b k e m fs at) y);
+      may = (ap (λ x. x.1) l, ap (λ x. x.2) l);
+    }
+
+-- Whatever comes there, and that token here, is read alike.
+pub leaves_so : {g : Goal} {ss : List State} {t : Tok} {e : Option Raw} {g' : Goal} {ss' : List State} → (IsNested ss → IsFor g ss → IsNested ss' × IsFor g' ss')
     → (IsFor g ss → has_goal (work_of g' ss') ≡ true)
-    → (IsFor g ss → (u : Tok) → Admits (work_of g' ss') u → may_begin g' ss' (kind_of u) ≡ true → Leads n g ss e g' ss' u)
-    → (IsFor g ss → Admits (work_of g ss) t → may_begin g ss (kind_of t) ≡ true → Leads n g ss e g' ss' t)
+    → (IsFor g ss → (u : Tok) → Admits (work_of g' ss') u → may_begin g' ss' (kind_of u) ≡ true → Alike g ss e g' ss' u)
+    → (IsFor g ss → Admits (work_of g ss) t → may_begin g ss (kind_of t) ≡ true → Alike g ss e g' ss' t)
     → open_at g ss ≡ open_at g' ss' → (IsFor g ss → Settles g ss (Some t) g' ss') → (IsFor g ss → is_past_directives g' ss' ≡ true → (is_past_directives g ss ≡ true) ⊎ IsNoDirective (Some t)) → Leaves g ss (Some t) e g' ss'
-leaves_so {g} {ss} {t} {e} {g'} {ss'} n nested goal back on opened settles past = record {
+leaves_so {g} {ss} {t} {e} {g'} {ss'} nested goal back on opened settles past = record {
   nested = nested;
   comes = λ m f ts es a. come f ts es a;
   goes = λ m f ts es k a. go f ts es k a;
@@ -240,22 +251,21 @@ leaves_so {g} {ss} {t} {e} {g'} {ss'} n nested goal back on opened settles past 
         → (es : List (Raw × Position)) → AwaitsAt x b g' ss' ts es → AwaitsAt x b g ss ts (event_at e m es)
     place f x b m [] there at es a = absurd there
     place f x b m (k ∷ ts) there at es a =
-        let l = back f k.tok (λ i. reads_first i x b k (work_of g' ss') ts es a.0) a.1 in
-        (leads_at n (work_of g ss) e (work_of g' ss') x b k m (work_quiet g ss) (work_quiet g' ss') at (ap (λ x. x.0) l) ts es a.0, ap (λ x. x.1) l)
+        let l = back f k.tok (λ i. reads_first i x b k (work_of g' ss') ts es a.0) a.1 in (l.places x b k m refl at ts es a.0, l.may.0)
 
     come : IsFor g ss → (ts : List Tok) (es : List Raw) → Awaits g' ss' ts es → Awaits g ss ts (event_then e es)
     come f [] es a = absurd (needs_tokens (work_of g' ss') es (goal f) a.0)
     come f (u ∷ us) es a =
         let l = back f u (λ m. not_refused m u (work_of g' ss') us es a.0) a.1 in
-        (subst (λ x. Derives grammar (work_of g ss) (u ∷ us) x) (in_list e es) ((leads_stay n (work_of g ss) e (work_of g' ss') u (ap (λ x. x.0) l)).0 us es a.0), ap (λ x. x.1) l)
+        (subst (λ x. Derives grammar (work_of g ss) (u ∷ us) x) (in_list e es) (l.stays.0 us es a.0), l.may.0)
 
     go : IsFor g ss → (ts : List Tok) (es : List Raw) → IsNext (Some t) ts → Awaits g ss ts es → Then e g' ss' ts es
     go f [] es k a = absurd k
     go f (u ∷ us) es k a =
         let b = subst (λ x. Awaits g ss (x ∷ us) es) k a in
         let l = on f (λ m. not_refused m t (work_of g ss) us es b.0) b.1 in
-        let x = (leads_stay n (work_of g ss) e (work_of g' ss') t (ap (λ x. x.0) l)).1 us es b.0 in
-        (x.0, x.1 ∙ in_list e x.0, subst (λ y. Awaits g' ss' (y ∷ us) x.0) (sym k) (x.2, ap (λ x. x.2) l))
+        let x = l.stays.1 us es b.0 in
+        (x.0, x.1 ∙ in_list e x.0, subst (λ y. Awaits g' ss' (y ∷ us) x.0) (sym k) (x.2, l.may.1))
 
 -- ---- refusals, and what may come
 
