@@ -1,6 +1,6 @@
 -- The turns between documents.
 use Rattle.model_parser.proofs.Common.{subst, sym, arith, [], alike, alike_after, ap, Awaits, AwaitsAt, begins_node, Directive, directive_token, ends_content, ends_document, Extent, false, Goal, inl, inr, is_directive, IsNext, IsThere, kind_of, Leaves, List, None, nothing_written, Option, placed, Places, Position, Raw, refl, Refuses, row_of, Some, State, Takes, Then, Tok, Token, true, without_node, work_of, works, ◌++◌, ◌∙◌, ◌∷◌, ◌≡◌, ◌≢◌, before_directive}
-use Rattle.model_parser.proofs.StepRows.{leads, by_row, reads_so, takes_so, Alike, by_steps, alike_reads, after_steps, refuses, placed_alike, leaves_so, refuses_so}
+use Rattle.model_parser.proofs.StepRows.{leads, reads_so, takes_so, Alike, by_steps, alike_reads, after_steps, refuses, placed_alike, leaves_so, refuses_so}
 use Rattle.model_parser.proofs.Settling.{comes_so, empties_as, reads_node, empties}
 use Rattle.defs_event.specs.Table as part
 use Rattle.defs_event.specs.Grammar as table
@@ -60,8 +60,8 @@ documents_directives ss t e b = leaves_so (λ n f. (n, f)) (λ f. refl) (λ f u 
     (λ f. without_node refl (comes_so Goal.documents ss t (grind arith))) (λ f h. inl h)
 
 pub directed_more : (ss : List State) (read : List Directive) (d : Directive) → Takes (Goal.directed read) ss (directive_token d) None (Goal.directed (read ++ d ∷ [])) ss
-directed_more ss read (Directive.version m n) = takes_so (λ n f. (n, f)) (λ f. (refl, (λ k. refl), by_row _ refl refl)) refl (λ f. refl) (λ f. refl)
-directed_more ss read (Directive.tag h p) = takes_so (λ n f. (n, f)) (λ f. (refl, (λ k. refl), by_row _ refl refl)) refl (λ f. refl) (λ f. refl)
+directed_more ss read (Directive.version m n) = takes_so (λ n f. (n, f)) (λ f. (refl, (λ k. refl), reads_so refl)) refl (λ f. refl) (λ f. refl)
+directed_more ss read (Directive.tag h p) = takes_so (λ n f. (n, f)) (λ f. (refl, (λ k. refl), reads_so refl)) refl (λ f. refl) (λ f. refl)
 
 pub directed_refuses : (ss : List State) (read : List Directive) (t : Tok) → kind_of t ≢ kind.VersionDirective → kind_of t ≢ kind.TagDirective → kind_of t ≢ kind.DocumentStart → Refuses (Goal.directed read) ss t
 directed_refuses ss read t a b c = refuses_so (Goal.directed read) ss t 9 (λ f. grind arith)

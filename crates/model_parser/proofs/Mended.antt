@@ -31,31 +31,14 @@ others : (g : Goal) (t : Tok) (ps : List (Part Goal Raw)) → Leaves g ps Tok.st
     → ((u : Tok) (h : Held) (w : List (Work Goal Raw Held)) → before grammar h u ps w ≡ before grammar h t ps w) → LeavingRow grammar weight ends_goal g t (leaves ps)
 others g t ps a b c d e f same = inl (λ u is. (grind arith, λ h w. same u h w))
 
--- ---- a node's first token is taken
-
-goes_from : (p : Place) (t : Tok) (v : List (Work Goal Raw Held)) → ((n : ℕ) (h : Held) (es : List Raw) → step grammar (suc (suc n)) (reading (node p) h ∷ v) t ≡ refused es → ⊥)
-    → (n : ℕ) (h : Held) (es : List Raw) → 1 < n → step grammar n (reading (node p) h ∷ v) t ≡ refused es → ⊥
-goes_from p t v f (suc zero) h es l e = omega (arith, l)
-goes_from p t v f (suc (suc n)) h es l e = f n h es e
-goes_from p t v f zero h es l e = omega (arith, l)
-
--- a document that begins with its node
-bare_taken : (n : ℕ) (t : Tok) → begins_node t ≡ true → (w : List (Work Goal Raw Held)) (es : List Raw)
-    → work_weight weight (saying (Raw.document_start []) ∷ reading (node in_block) nothing_held ∷ w) < n
-    → step grammar n (saying (Raw.document_start []) ∷ reading (node in_block) nothing_held ∷ w) t ≡ refused es → ⊥
-bare_taken zero t i w es l e = omega (arith, l)
-bare_taken (suc n) t i w es l e =
-    let x : (fs : List Raw) × (step grammar n (reading (node in_block) nothing_held ∷ w) t ≡ refused fs) = grind arith in
-    goes_from in_block t w (λ n h es e. grind arith) n nothing_held x.0 (omega (arith, l)) x.1
-
 -- ---- all rows
 
 -- Rows that leave a token to a flow node, or to a document's node, leave it where it is taken.
 flow_leaving : (g : Goal) (t : Tok) (ps : List (Part Goal Raw)) → begins_flow_node t ≡ true → LeavingRow grammar weight ends_goal g t (leaves (read (node in_flow) ∷ ps))
-flow_leaving g t ps i = inr (λ n h w es l e. goes_from in_flow t (before grammar h t ps w) (λ n h es e. grind arith) n nothing_held es (omega (arith, l)) e)
+flow_leaving g t ps i = inr (λ h w es e. grind arith)
 
 bare_leaving : (g : Goal) (t : Tok) → begins_node t ≡ true → LeavingRow grammar weight ends_goal g t (leaves (say (Raw.document_start []) ∷ read (node in_block) ∷ read document_end ∷ []))
-bare_leaving g t i = inr (λ n h w es l e. bare_taken n t i (reading document_end nothing_held ∷ w) es l e)
+bare_leaving g t i = inr (λ h w es e. grind arith)
 
 leaving_rows : (g : Goal) → EachRow (λ t r. LeavingRow grammar weight ends_goal g t r) (λ t. false) (cases g)
 leaving_rows (content in_flow) = search others

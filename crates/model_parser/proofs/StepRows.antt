@@ -26,29 +26,25 @@ saying_at : (e : Option Raw) (w : Works) (b : Option Position) (k : Token) (m : 
 saying_at None w b k m at q x c ts es d = subst (λ v. Places x c v ts es) (sym (quiet_placed k b w q)) d
 saying_at (Some y) w b k m at q x c ts es d = places.says at (subst (λ v. Places x c v ts es) (sym (quiet_placed k b w q)) d)
 
--- A row takes it.
-pub by_row : {g : table.Goal} {h : Held} {w : Works} {t : Tok} {e : Option Raw} {w' : Works} (ps : List (Part table.Goal Raw))
-    → row_of (cases g) t ≡ Some (takes ps) → before grammar h t ps w ≡ and_saying e w' → Reads (reading g h ∷ w) t e w'
-by_row {g} {h} {w} {t} {e} {w'} ps r b = record {
-  back = λ ts es d. by_taking ps r (subst (λ v. Derives grammar v ts (event_then e es)) (sym b) (grind (arith, says)));
-  on = λ ts es d. let x : Derives grammar (and_saying e w') ts es = subst (λ v. Derives grammar v ts es) b (taken_by d ps r) in grind (arith, said_by);
-  places = λ q q' x c k m same at ts es d.
-      let there : placed_before k c h ps (placed w) ≡ placed_by (position_at k c) (and_saying e w') =
-      ap (placed_before k c h ps) (sym (quiet_placed k c w q)) ∙ placed_row k c h ps w ∙ ap (λ u. placed_by (position_at k c) (before grammar h u ps w)) same ∙ ap (placed_by (position_at k c)) b in
-      places.by_taking {es = event_at e m es} ps (ap (λ u. row_of (cases g) u) same ∙ r)
-      (subst (λ v. Places x (Some k.position) v ts (event_at e m es)) (sym there) (saying_at e w' c k m at q' x (Some k.position) ts es d));
-}
-
 -- what is left to show of the row that is the token's
 abbrev pub RowReads : Held → Works → Tok → Option Raw → Works → Option (Row table.Goal Raw) → Type 0
 RowReads h w t e w' (Some (takes ps)) = before grammar h t ps w ≡ and_saying e w'
 RowReads h w t e w' r = ⊥
 
+-- A row takes it.
 pub reads_so : {g : table.Goal} {h : Held} {w : Works} {t : Tok} {e : Option Raw} {w' : Works} → RowReads h w t e w' (row_of (cases g) t) → Reads (reading g h ∷ w) t e w'
 reads_so {g} {h} {w} {t} {e} {w'} b = by (row_of (cases g) t) refl b
   where
     by : (r : Option (Row table.Goal Raw)) → row_of (cases g) t ≡ r → RowReads h w t e w' r → Reads (reading g h ∷ w) t e w'
-    by (Some (takes ps)) r b = by_row ps r b
+    by (Some (takes ps)) r b = record {
+      back = λ ts es d. by_taking ps r (subst (λ v. Derives grammar v ts (event_then e es)) (sym b) (grind (arith, says)));
+      on = λ ts es d. let x : Derives grammar (and_saying e w') ts es = subst (λ v. Derives grammar v ts es) b (taken_by d ps r) in grind (arith, said_by);
+      places = λ q q' x c k m same at ts es d.
+          let there : placed_before k c h ps (placed w) ≡ placed_by (position_at k c) (and_saying e w') =
+          ap (placed_before k c h ps) (sym (quiet_placed k c w q)) ∙ placed_row k c h ps w ∙ ap (λ u. placed_by (position_at k c) (before grammar h u ps w)) same ∙ ap (placed_by (position_at k c)) b in
+          places.by_taking {es = event_at e m es} ps (ap (λ u. row_of (cases g) u) same ∙ r)
+          (subst (λ v. Places x (Some k.position) v ts (event_at e m es)) (sym there) (saying_at e w' c k m at q' x (Some k.position) ts es d));
+    }
     by r q b = absurd b
 
 pub first_any : (g : Goal) (ss : List State) (ts : List Tok) → ((k : Kind) → may_begin g ss k ≡ true) → first_may g ss ts ≡ true

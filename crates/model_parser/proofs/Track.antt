@@ -16,7 +16,7 @@ abbrev pub LeavingRow : {G T E H : Type 0} → Table G T E H → (G → ℕ) →
 LeavingRow a m ends g t (takes ps) = Unit {0}
 LeavingRow {G = G} {T = T} {E = E} {H = H} a m ends g t (leaves ps) =
     HaveIt a ends g t ps
-    ⊎ ((n : ℕ) (h : H) (w : List (Work G E H)) (es : List E) → work_weight m (before a h t ps w) < n → step a n (before a h t ps w) t ≡ refused es → ⊥)
+    ⊎ ((h : H) (w : List (Work G E H)) (es : List E) → step a (suc (work_weight m (before a h t ps w))) (before a h t ps w) t ≡ refused es → ⊥)
 
 -- The first of these tokens passes a test.
 abbrev pub begins_so : {T : Type 0} → (T → Bool) → List T → Bool
@@ -101,7 +101,7 @@ module _ {G T E H : Type 0} {a : Table G T E H} {ends : T → Bool} {start : Lis
           too = false;
           sound = λ ts es b d. x.sound ts es (grind arith) (left_sound ps ts false r (λ e. cc e) b d);
           exact = λ ts es k d. left_exact ps r ts es k d;
-          safe = λ f. not_refused v (step a n v t) c (step_sound a n v t) (λ es p. l n h w es (omega arith) p);
+          safe = λ f. not_refused v (step a n v t) c (step_sound a n v t) (λ es p. l h w es p);
         }
 
     -- No row is for the next token: no stream begins so, but one begins with the tokens before and with the events that were given.
