@@ -1,5 +1,5 @@
 -- The turns between documents.
-use Rattle.model_parser.proofs.Common.{subst, sym, arith, [], alike, alike_after, ap, Awaits, AwaitsAt, begins_node, Directive, directive_token, ends_content, ends_document, Extent, false, Goal, inl, inr, is_directive, IsNext, IsThere, kind_of, Leaves, List, None, nothing_written, Option, placed, Places, Position, Raw, refl, Refuses, row_of, Some, State, Takes, Then, Tok, Token, true, without_node, work_of, works, ◌++◌, ◌∙◌, ◌∷◌, ◌≡◌, ◌≢◌, before_directive}
+use Rattle.model_parser.proofs.Common.{subst, sym, arith, [], alike, alike_after, ap, begins_node, Directive, directive_token, ends_content, ends_document, false, Goal, inl, inr, is_directive, kind_of, Leaves, List, None, nothing_written, Raw, refl, Refuses, row_of, Some, State, Takes, Tok, true, without_node, work_of, works, ◌++◌, ◌∷◌, ◌≡◌, ◌≢◌, before_directive}
 use Rattle.model_parser.proofs.StepRows.{leads, reads_so, takes_so, Alike, by_steps, alike_reads, after_steps, refuses, placed_alike, leaves_so, refuses_so}
 use Rattle.model_parser.proofs.Settling.{comes_so, empties_as, reads_node, empties}
 use Rattle.defs_event.specs.Table as part
@@ -21,9 +21,6 @@ pub record DocumentTurns (ss : List State) : Type 0 where
 
 pub document_turns : (ss : List State) → DocumentTurns ss
 document_turns ss = search (takes_so, reads_so, reads_node, alike, inr)
-
-pub start_refuses : (ss : List State) (t : Tok) → kind_of t ≢ kind.StreamStart → Refuses Goal.start ss t
-start_refuses ss t a = refuses_so Goal.start ss t 9 (λ f. grind arith)
 
 -- ---- where a document may do without `---`
 
@@ -64,12 +61,7 @@ directed_more ss read (Directive.version m n) = takes_so (λ n f. (n, f)) (λ f.
 directed_more ss read (Directive.tag h p) = takes_so (λ n f. (n, f)) (λ f. (refl, (λ k. refl), reads_so refl)) refl (λ f. refl) (λ f. refl)
 
 pub directed_refuses : (ss : List State) (read : List Directive) (t : Tok) → kind_of t ≢ kind.VersionDirective → kind_of t ≢ kind.TagDirective → kind_of t ≢ kind.DocumentStart → Refuses (Goal.directed read) ss t
-directed_refuses ss read t a b c = refuses_so (Goal.directed read) ss t 9 (λ f. grind arith)
-
--- ---- the stream's end, or a document that begins with `---`
-
-pub explicit_refuses : (ss : List State) (t : Tok) → kind_of t ≢ kind.StreamEnd → kind_of t ≢ kind.DocumentStart → Refuses Goal.explicit ss t
-explicit_refuses ss t a b = refuses_so Goal.explicit ss t 9 (λ f. grind arith)
+directed_refuses ss read t a b c = grind arith
 
 -- ---- after `---`
 

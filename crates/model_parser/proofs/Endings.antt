@@ -1,5 +1,5 @@
 -- How what is awaited may go on: by some tokens, and then on the shortest way to the end.
-use Rattle.model_parser.proofs.Common.{[], append_assoc, arith, Awaits, Derives, Goal, goes, grammar, Held, kind_of, List, may_begin, None, Option, Raw, refused, Some, State, step, subst, sym, Tok, true, Turned, work_of, Works, ◌++◌, ◌∷◌, ◌≡◌}
+use Rattle.model_parser.proofs.Common.{[], append_assoc, arith, Awaits, Derives, Goal, goes, grammar, Held, kind_of, List, may_begin, None, Option, Raw, refused, Some, State, step, subst, Tok, true, Turned, work_of, Works, ◌++◌, ◌∷◌, ◌≡◌}
 use Rattle.model_parser.proofs.Completions.{all_complete}
 use Rattle.model_parser.proofs.Falls.{grammar_completes}
 use Rattle.model_parser.proofs.Steps.{Sound, step_sound}

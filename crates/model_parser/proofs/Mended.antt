@@ -1,5 +1,5 @@
 -- In the table of the token grammar, rows for all other tokens are chosen by each token that ends a goal too.
-use Rattle.model_parser.proofs.Common.{[], arith, before, block_mapping_entries, block_sequence_entries, Bool, cases, content, directives, document_end, documents, ends_goal, explicit_document, false, flow_mapping_comma, flow_mapping_entries, flow_sequence_comma, flow_sequence_entries, grammar, Held, in_block, in_flow, in_pair, indentless_sequence_entries, inl, inr, key, leaves, List, node, None, nothing_held, Part, Place, Raw, read, reading, refl, refused, Row, row_of, say, saying, Some, step, stream, suc, Tok, true, value, weight, Work, work_weight, zero, ℕ, ◌<◌, ◌∷◌, ◌≡◌}
+use Rattle.model_parser.proofs.Common.{[], arith, before, Bool, cases, content, directives, document_end, documents, ends_goal, explicit_document, false, grammar, Held, in_block, in_flow, in_pair, indentless_sequence_entries, inl, inr, key, leaves, List, node, None, Part, Raw, read, refl, Row, row_of, say, Some, stream, Tok, true, value, weight, Work, ◌∷◌, ◌≡◌}
 use Rattle.defs_event.specs.Kinds.{begins_flow_node, begins_node}
 use Rattle.defs_event.specs.Grammar.{Goal}
 use Rattle.defs_event.proofs.Meanings.{EachRow, row_holds}

@@ -1,9 +1,8 @@
 -- The turns in nodes.
 use Rattle.std.proofs.Math.Bool.{or-true}
-use Rattle.model_parser.proofs.Common.{arith, alike, anchor_of, anchored, anchored_tagged, ap, begins_content, begins_node, both_ways, context_at, false, Goal, inl, is_past_directives, is_under, Kind, kind_of, Leaves, List, may_begin_content, narrows, NodeContext, None, not, Option, perhaps_anchor_of, perhaps_tag_of, place_of, Properties, Raw, read, refl, Refuses, show, Some, State, Style, sym, Tag, tag_of, tag_token, tagged, tagged_anchored, Takes, then_in, Tok, true, with_properties, work_of, works, ℕ, ◌||◌, ◌∙◌, ◌∷◌, ◌≡◌, ◌≢◌}
+use Rattle.model_parser.proofs.Common.{arith, alike, anchor_of, anchored, anchored_tagged, ap, begins_content, begins_node, both_ways, context_at, false, Goal, inl, is_past_directives, is_under, Kind, kind_of, Leaves, List, may_begin_content, narrows, NodeContext, None, not, Option, perhaps_anchor_of, perhaps_tag_of, place_of, Properties, Raw, refl, Refuses, Some, State, Style, sym, Tag, tag_of, tag_token, tagged, tagged_anchored, Takes, Tok, true, with_properties, work_of, works, ℕ, ◌||◌, ◌∙◌, ◌∷◌, ◌≡◌, ◌≢◌}
 use Rattle.model_parser.proofs.StepRows.{Alike, leads, Reads, reads_so, takes_so, refuses, leaves_so}
 use Rattle.model_parser.proofs.Settling.{no_content, content_refuses, closes_so, none_begins, empty_content, under_goes, under_other, under_past, under_any, under_reads}
-use Rattle.defs_event.specs.Grammar as table
 use Rattle.model_parser.specs.declared.kind.Kind.TheVariants as kind
 use Rattle.model_parser.specs.declared.context.NodeContext.TheVariants as context
 use Rattle.model_parser.specs.declared.state.State.TheVariants as state
@@ -109,4 +108,4 @@ properties_only ss o t a = leaves_so (λ n f. (n, under_goes ss f.0)) (λ f. und
     (λ f. alike (under_other ss f.0) refl) (λ f h. absurd (both_ways (is_past_directives Goal.done ss) (under_past ss f.0) h))
 
 pub nothing_refuses : (ss : List State) (t : Tok) → begins_content context.Flow (kind_of t) ≡ false → Refuses (Goal.after_properties context.Flow None) ss t
-nothing_refuses ss t a n f ts es x = both_ways (begins_content context.Flow (kind_of t)) a x.1
+nothing_refuses ss t a = grind arith

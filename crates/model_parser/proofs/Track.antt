@@ -1,5 +1,5 @@
 -- The steps of a parser by a table: whatever the table, it stays on track.
-use Rattle.model_parser.proofs.Common.{[], ap, append_assoc, arith, before, Begins, Bool, by_leaving, by_taking, Derives, false, goes, GoesOn, inl, inr, IsOnTrack, leaves, List, MayBegin, NeverGoesOn, None, Option, Part, reading, refl, refused, Row, row_of, saying, says, Some, step, subst, suc, sym, Table, takes, true, Turned, Work, work_weight, ℕ, ◌++◌, ◌<◌, ◌∙◌, ◌∷◌, ◌≡◌, ◌⊎◌}
+use Rattle.model_parser.proofs.Common.{[], ap, append_assoc, arith, before, Begins, Bool, by_leaving, by_taking, Derives, false, goes, GoesOn, inl, inr, IsOnTrack, leaves, List, MayBegin, NeverGoesOn, None, Option, Part, reading, refl, refused, Row, row_of, saying, says, Some, step, subst, suc, sym, Table, takes, true, Turned, Work, work_weight, ℕ, ◌++◌, ◌∙◌, ◌∷◌, ◌≡◌, ◌⊎◌}
 use Rattle.model_parser.specs.Track.{IsNext}
 use Rattle.model_parser.proofs.Steps.{Sound, step_sound}
 use Rattle.model_parser.proofs.Completions.{taken_by, left_by, none_by, said_by, Completes, all_complete}
