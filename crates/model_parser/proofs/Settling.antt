@@ -1,6 +1,6 @@
 -- What may come behind a node, and what is read next.
 use Rattle.model_parser.proofs.Common.{arith, [], and_parts, ap, before, begins_content, begins_node, Bool, both_ways, cases, context_at, empty, empty_event, ends_document, ends_entry, ends_flow_key, ends_flow_pair, ends_indentless_entry, ends_item, ends_item_key, ends_part, false, Goal, goal_and, grammar, Held, is_in_mapping, is_node, is_over_document, is_past_directives, is_under, IsFor, IsGoing, IsNested, keep, Kind, kind_of, Leaves, leaves, List, may_begin, MayCome, next_at, NodeContext, None, not, nothing_held, nothing_written, open_at, other_next, past, Place, place_of, reading, refl, row_of, Settles, Some, State, step, sym, then_in, Tok, true, without_node, work_of, Works, works, ◌&&◌, ◌∙◌, ◌∷◌, ◌≡◌, ◌⊎◌, IsNoDirective}
-use Rattle.model_parser.proofs.StepRows.{Alike, has_goal, is_going, leads, leave_row, leaves_so, may_come, refuse_row, refuses, steps}
+use Rattle.model_parser.proofs.StepRows.{Alike, has_goal, is_going, leads, leaves_so, may_come, refuse_row, refuses, steps}
 use Rattle.defs_event.specs.Grammar as table
 use Rattle.model_parser.specs.declared.state.State.TheVariants as state
 
@@ -82,17 +82,14 @@ content_row p t b = grind arith
 
 pub empty_content : (ss : List State) (h : Held) (t : Tok) → begins_content (context_at (place_of ss)) (kind_of t) ≡ false
     → steps 2 t (reading (table.content (place_of ss)) h ∷ past ss (works ss)) ≡ (empty_event h ∷ [], works ss)
-empty_content ss h t b =
-    ap (leave_row h t (table.content (place_of ss)) (past ss (works ss)) (λ v. steps 1 t v)) (content_row (place_of ss) t b) ∙ ap (λ w. (empty_event h ∷ [], w)) (then_works ss h t)
+empty_content ss h t b = rw (content_row (place_of ss) t b, then_works ss h t)
 
 -- the work of a node over these
 abbrev pub over : List State → Works
 over ss = goal_and (table.node (place_of ss)) (past ss (works ss))
 
 empty_node : (ss : List State) (t : Tok) → begins_node (context_at (place_of ss)) (kind_of t) ≡ false → steps 3 t (over ss) ≡ (nothing_written ∷ [], works ss)
-empty_node ss t b =
-    ap (leave_row nothing_held t (table.node (place_of ss)) (past ss (works ss)) (λ v. steps 2 t v)) (node_row (place_of ss) t b)
-    ∙ empty_content ss nothing_held t (no_content (context_at (place_of ss)) (kind_of t) b)
+empty_node ss t b = rw (node_row (place_of ss) t b) (empty_content ss nothing_held t (no_content (context_at (place_of ss)) (kind_of t) b))
 
 -- So it is refused if it is refused behind the content.
 pub content_refuses : (ss : List State) (h : Held) (t : Tok) → begins_content (context_at (place_of ss)) (kind_of t) ≡ false
