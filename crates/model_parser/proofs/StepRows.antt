@@ -1,6 +1,6 @@
 -- A turn of the parser by the rows of the grammar's table.
 use Rattle.model_parser.proofs.Common.{◌≡◌, [], ap, arith, Awaits, AwaitsAt, before, Bool, by_leaving, by_taking, cases, Derives, event_at, event_then, Extent, false, first_may, Goal, goes, grammar, Held, is_past_directives, IsAt, IsAtFirst, IsFor, IsNested, IsNext, IsNoDirective, IsThere, Kind, kind_of, Leaves, leaves, List, may_begin, next_at, next_past, None, open_at, open_past, Option, placed, placed_before, placed_by, PlacedWork, Places, Position, position_at, Raw, reading, refl, refused, Refuses, Row, row_of, saying, says, Settles, Some, State, step, subst, suc, sym, Takes, takes, Then, Tok, Token, true, Turned, work_of, Works, zero, ℕ, ◌++◌, ◌∙◌, ◌∷◌, ◌≡◌, ◌⊎◌}
-use Rattle.model_parser.proofs.Completions.{taken_by, left_by, none_by, said_by, all_complete}
+use Rattle.model_parser.proofs.Completions.{RowRest, rest_by, said_by, all_complete}
 use Rattle.model_parser.proofs.Falls.{grammar_completes}
 use Rattle.model_parser.proofs.Steps.{Sound, step_sound}
 use Rattle.model_parser.proofs.Places.{or_at, plain_work, plain_before}
@@ -38,7 +38,7 @@ reads_so {g} {h} {w} {t} {e} {w'} b = by (row_of (cases g) t) refl b
     by : (r : Option (Row table.Goal Raw)) → row_of (cases g) t ≡ r → RowReads h w t e w' r → Reads (reading g h ∷ w) t e w'
     by (Some (takes ps)) r b = record {
       back = λ ts es d. by_taking ps r (subst (λ v. Derives grammar v ts (event_then e es)) (sym b) (grind (arith, says)));
-      on = λ ts es d. let x : Derives grammar (and_saying e w') ts es = subst (λ v. Derives grammar v ts es) b (taken_by d ps r) in grind (arith, said_by);
+      on = λ ts es d. let x : Derives grammar (and_saying e w') ts es = subst (λ v. Derives grammar v ts es) b (rest_by d (Some (takes ps)) r) in grind (arith, said_by);
       places = λ q q' x c k m same at ts es d.
           let there : placed_before k c h ps (placed w) ≡ placed_by (position_at k c) (and_saying e w') =
           ap (placed_before k c h ps) (sym (quiet_placed k c w q)) ∙ placed_row k c h ps w ∙ ap (λ u. placed_by (position_at k c) (before grammar h u ps w)) same ∙ ap (placed_by (position_at k c)) b in
@@ -95,7 +95,7 @@ by_steps (suc n) t (reading g h ∷ w) = by (row_of (cases g) t) refl (λ v. by_
   where
     by : (r : Option (Row table.Goal Raw)) → row_of (cases g) t ≡ r → ((v : Works) → Stays t v (steps n t v).0 (steps n t v).1)
         → Stays t (reading g h ∷ w) (leave_row h t g w (λ v. steps n t v) r).0 (leave_row h t g w (λ v. steps n t v) r).1
-    by (Some (leaves ps)) q again = let i = again (before grammar h t ps w) in (λ ts fs d. by_leaving ps q (i.0 ts fs d), λ ts gs d. i.1 ts gs (left_by d ps q))
+    by (Some (leaves ps)) q again = let i = again (before grammar h t ps w) in (λ ts fs d. by_leaving ps q (i.0 ts fs d), λ ts gs d. i.1 ts gs (rest_by d (Some (leaves ps)) q))
     by r q again = (λ ts fs d. d, λ ts gs d. (gs, refl, d))
 
 -- ---- and where its events stand
@@ -124,6 +124,11 @@ steps_at (suc n) x b k m (reading g h ∷ w) = by (row_of (cases g) k.tok) refl 
 
 each_one : (b : Option Position) (k : Token) (e : Option Raw) (m : Position) (fs : List (Raw × Position)) → IsAt b k e m → each_at (λ x. or_at m (position_at k b x)) (event_list e) fs ≡ event_at e m fs
 each_one b k e m fs at = grind arith
+
+-- What is read behind the row of the next token, for a search.
+pub row_read : (g : table.Goal) (h : Held) (w : Works) (t : Tok) (ts : List Tok) (es : List Raw) → Derives grammar (reading g h ∷ w) (t ∷ ts) es
+    → RowRest grammar h w t ts es (row_of (cases g) t)
+row_read g h w t ts es d = rest_by d (row_of (cases g) t) refl
 
 -- Two goals that have the same row for a token read it alike.
 pub placed_alike : {g g' : table.Goal} {h : Held} {w : PlacedWork} {x : Extent} {b : Option Position} {k : Token} {ts : List Token} {es : List (Raw × Position)}
@@ -162,8 +167,8 @@ not_refused (suc n) t (saying e ∷ w) ts es d = let s = said_by d in not_refuse
 not_refused (suc n) t (reading g h ∷ w) ts es d = by (row_of (cases g) t) refl (λ v x. not_refused n t v ts es x)
   where
     by : (r : Option (Row table.Goal Raw)) → row_of (cases g) t ≡ r → ((v : Works) → Derives grammar v (t ∷ ts) es → refuses n t v ≡ false) → refuse_row h t w (λ v. refuses n t v) r ≡ false
-    by (Some (leaves ps)) q again = again (before grammar h t ps w) (left_by d ps q)
-    by r q again = grind (arith, none_by d)
+    by (Some (leaves ps)) q again = again (before grammar h t ps w) (rest_by d (Some (leaves ps)) q)
+    by r q again = let x = rest_by d r q in grind arith
 
 -- nor is one that is read with positions
 placed_admits : (n : ℕ) (x : Extent) (b : Option Position) (k : Token) (v : PlacedWork) (ts : List Token) (es : List (Raw × Position)) → Places x b v (k ∷ ts) es → refuses n k.tok (plain_work v) ≡ false

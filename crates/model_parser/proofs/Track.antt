@@ -2,7 +2,7 @@
 use Rattle.model_parser.proofs.Common.{[], ap, append_assoc, arith, before, Begins, Bool, by_leaving, by_taking, Derives, false, goes, GoesOn, inl, inr, IsOnTrack, leaves, List, MayBegin, NeverGoesOn, None, Option, Part, reading, refl, refused, Row, row_of, saying, says, Some, step, subst, suc, sym, Table, takes, true, Turned, Work, work_weight, ℕ, ◌++◌, ◌∙◌, ◌∷◌, ◌≡◌, ◌⊎◌}
 use Rattle.model_parser.specs.Track.{IsNext}
 use Rattle.model_parser.proofs.Steps.{Sound, step_sound}
-use Rattle.model_parser.proofs.Completions.{taken_by, left_by, none_by, said_by, Completes, all_complete}
+use Rattle.model_parser.proofs.Completions.{rest_by, said_by, Completes, all_complete}
 
 -- ---- what is asked of a table
 
@@ -57,7 +57,7 @@ module _ {G T E H : Type 0} {a : Table G T E H} {ends : T → Bool} {start : Lis
       too = true;
       sound = λ ts es b d.
           subst (λ l. Derives a start l (given ++ es)) (sym (append_assoc taken (t ∷ []) ts)) (x.sound (t ∷ ts) es (grind arith) (by_taking ps r d));
-      exact = λ ts es n d. let y = x.exact (t ∷ ts) es refl (subst (λ l. Derives a start l es) (append_assoc taken (t ∷ []) ts) d) in (y.0, y.1, taken_by y.2 ps r);
+      exact = λ ts es n d. let y = x.exact (t ∷ ts) es refl (subst (λ l. Derives a start l es) (append_assoc taken (t ∷ []) ts) d) in (y.0, y.1, rest_by y.2 (Some (takes ps)) r);
       safe = λ f. absurd (cc f);
     }
 
@@ -79,7 +79,7 @@ module _ {G T E H : Type 0} {a : Table G T E H} {ends : T → Bool} {start : Lis
     left_exact ps r (u ∷ ts) es n d =
         let y = x.exact (u ∷ ts) es n d in
         let z : Derives a (reading g h ∷ w) (t ∷ ts) y.0 = subst (λ v. Derives a (reading g h ∷ w) (v ∷ ts) y.0) n y.2 in
-        (y.0, y.1, subst (λ v. Derives a (before a h t ps w) (v ∷ ts) y.0) (sym n) (left_by z ps r))
+        (y.0, y.1, subst (λ v. Derives a (before a h t ps w) (v ∷ ts) y.0) (sym n) (rest_by z (Some (leaves ps)) r))
 
     -- work whose turn does not refuse the token goes on with it
     not_refused : (v : List (Work G E H)) (o : Turned G E H) → Completes a → Sound a v t o → ((es : List E) → o ≡ refused es → ⊥) → GoesOn a v (Some t)
@@ -92,7 +92,7 @@ module _ {G T E H : Type 0} {a : Table G T E H} {ends : T → Bool} {start : Lis
       too = x.too;
       sound = λ ts es b d. x.sound ts es b (left_sound ps ts x.too r (λ e. l) b d);
       exact = λ ts es n d. left_exact ps r ts es n d;
-      safe = λ f. let y = x.safe f in (y.0, y.1, left_by y.2 ps r);
+      safe = λ f. let y = x.safe f in (y.0, y.1, rest_by y.2 (Some (leaves ps)) r);
     }
     leave m c ps r (inr l) =
         let v = before a h t ps w in
@@ -106,11 +106,11 @@ module _ {G T E H : Type 0} {a : Table G T E H} {ends : T → Bool} {start : Lis
 
     -- No row is for the next token: no stream begins so, but one begins with the tokens before and with the events that were given.
     pub refuse : (c : Completes a) → EndsGoal c ends g h → row_of (a.cases g) t ≡ None → Begins a start taken given × NeverGoesOn a start taken t
-    refuse c e r = (begun x.too refl, λ ts es d. let y = x.exact (t ∷ ts) es refl d in none_by y.2 r)
+    refuse c e r = (begun x.too refl, λ ts es d. let y = x.exact (t ∷ ts) es refl d in rest_by y.2 None r)
       where
         begun : (b : Bool) → x.too ≡ b → Begins a start taken given
         begun true p =
             let k = all_complete a c (reading g h ∷ w) in
             let b : MayBegin ends x.too (Some t) k.0 = may_end ends t (c g h).0 (all_complete a c w).0 x.too p e in
             (k.0, k.1, x.sound k.0 k.1 b k.2)
-        begun false p = let y = x.safe p in absurd (none_by y.2 r)
+        begun false p = let y = x.safe p in absurd (rest_by y.2 None r)
