@@ -44,10 +44,10 @@ pops {s} {ss} {taken} {p} h = record {
   sound = λ ts es a. h.sound ts es (a.0, first_of s ss ts ∙ a.1);
   exact = λ ts es u d. let x = h.exact ts es u d in (x.0, x.1, (x.2.0, sym (first_of s ss ts) ∙ x.2.1));
 }
+
 -- At the end the tokens taken are a stream, and begin no other.
 read_out : (ts : List Tok) (es : List Raw) → Derives grammar [] ts es → (ts ≡ []) × (es ≡ [])
-read_out [] _ nothing_left = (refl, refl)
-read_out (t ∷ ts) es d = elim d [ ]
+read_out ts es d = grind arith
 
 pub ends : (ss : List State) (taken : List Tok) (given : List Raw) → IsOnTrack Goal.ended ss taken None given → StreamSays taken given × ((ts : List Tok) (es : List Raw) → StreamSays (taken ++ ts) es → (ts ≡ []) × (es ≡ given))
 ends [] taken given s = (

@@ -22,8 +22,8 @@ pub use Rattle.model_parser.proofs.Places.{nowhere, plain_before, plain_work, wi
 pub use Rattle.model_parser.proofs.Quiet.{plain_placed}
 pub use Rattle.model_parser.proofs.Settling.{mapping_under}
 pub use Rattle.model_parser.proofs.Standing.{first_of, looks, pops, top_of}
-pub use Rattle.model_parser.proofs.Completions.{left_by, none_by, said_by, taken_by}
-pub use Rattle.model_parser.proofs.StepRows.{by_steps, first_any, needs_tokens, not_refused, steps}
+pub use Rattle.model_parser.proofs.Completions.{rest_by, said_by}
+pub use Rattle.model_parser.proofs.StepRows.{by_steps, first_any, needs_tokens, not_refused, row_read, steps}
 pub use Rattle.model_parser.specs.Place.{open_under}
 pub use Rattle.model_parser.specs.Rest.{IsBottom, with_directives}
 pub use Rattle.model_parser.specs.Stands.{GoesOn, IsOnTrack}
