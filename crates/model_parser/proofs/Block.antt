@@ -1,6 +1,6 @@
 -- The turns in block collections.
 use Rattle.model_parser.proofs.Common.{arith, alike, both_ways, ends_entry, ends_indentless_entry, ends_part, false, Goal, inl, is_past_directives, kind_of, Leaves, List, None, nothing_written, Raw, refl, Refuses, Some, State, Takes, Tok, true, ◌∷◌, ◌≡◌, ◌≢◌}
-use Rattle.model_parser.proofs.StepRows.{reads_so, takes_so, leaves_so, refuses_so}
+use Rattle.model_parser.proofs.StepRows.{leads, reads_so, takes_so, leaves_so}
 use Rattle.model_parser.proofs.Settling.{under_goes, under_other, under_past, under_any, mapping_under, under_reads, empties, reads_node, closes_so}
 use Rattle.model_parser.specs.declared.kind.Kind.TheVariants as kind
 use Rattle.model_parser.specs.declared.context.NodeContext.TheVariants as context
@@ -24,28 +24,27 @@ pub record BlockTurns (ss : List State) : Type 0 where
 pub block_turns : (ss : List State) → BlockTurns ss
 block_turns ss = search (takes_so, reads_so, under_goes, under_any, under_other, under_past, empties, reads_node, alike, inl)
 
--- ---- a block sequence
+-- Tokens that are refused, here and between documents, and goals that go on as the same work.
+pub record PlainTurns (ss : List State) : Type 0 where
+  pub start_refuses : (t : Tok) → kind_of t ≢ kind.StreamStart → Refuses Goal.start ss t
+  pub explicit_refuses : (t : Tok) → kind_of t ≢ kind.StreamEnd → kind_of t ≢ kind.DocumentStart → Refuses Goal.explicit ss t
+  pub entries_refuses : (t : Tok) → kind_of t ≢ kind.BlockEnd → kind_of t ≢ kind.BlockEntry → Refuses Goal.entries ss t
+  pub key_pairs_refuses : (t : Tok) → kind_of t ≢ kind.BlockEnd → kind_of t ≢ kind.Key → Refuses Goal.key_pairs ss t
+  pub pairs_key : (t : Tok) → kind_of t ≢ kind.Value → Leaves Goal.pairs ss (Some t) None Goal.key_pairs ss
 
-pub entries_refuses : (ss : List State) (t : Tok) → kind_of t ≢ kind.BlockEnd → kind_of t ≢ kind.BlockEntry → Refuses Goal.entries ss t
-entries_refuses ss t a b = refuses_so Goal.entries ss t 9 (λ f. grind arith)
+pub plain_turns : (ss : List State) → PlainTurns ss
+plain_turns ss = grind (arith, inl, alike)
 
 -- ---- a sequence without indentation
 
 pub indentless_entries_end : (ss : List State) (t : Tok) → kind_of t ≢ kind.BlockEntry → Leaves Goal.indentless_entries ss (Some t) (Some Raw.indentless_sequence_end) Goal.done ss
-indentless_entries_end ss t a = leaves_so 2 (λ n f. (n, under_goes ss (mapping_under ss f))) (λ f. under_reads ss (mapping_under ss f)) (λ f u r m. let c = closes_so ss u (mapping_under ss f) (r 9) in grind arith) (λ f r m. grind arith) refl
+indentless_entries_end ss t a = leaves_so (λ n f. (n, under_goes ss (mapping_under ss f))) (λ f. under_reads ss (mapping_under ss f)) (λ f u r m. let c = closes_so ss u (mapping_under ss f) (r 9) in leads 2 (grind arith)) (λ f r m. leads 2 (grind arith)) refl
     (λ f. alike (under_other ss (mapping_under ss f)) refl) (λ f h. absurd (both_ways (is_past_directives Goal.done ss) (under_past ss (mapping_under ss f)) h))
 
 -- ---- a block mapping
 
-pub pairs_key : (ss : List State) (t : Tok) → kind_of t ≢ kind.Value → Leaves Goal.pairs ss (Some t) None Goal.key_pairs ss
-pairs_key ss t a = leaves_so 0 (λ n f. (n, f)) (λ f. refl) (λ f u r m. cc m) (λ f r m. grind arith) refl (λ f. alike refl refl) (λ f h. inl h)
-
-pub key_pairs_refuses : (ss : List State) (t : Tok) → kind_of t ≢ kind.BlockEnd → kind_of t ≢ kind.Key → Refuses Goal.key_pairs ss t
-key_pairs_refuses ss Tok.value a b = λ n f ts es x. cc x.1
-key_pairs_refuses ss t a b = refuses_so Goal.key_pairs ss t 9 (λ f. grind arith)
-
 pub after_key_empty : (ss : List State) (t : Tok) → kind_of t ≢ kind.Value → Leaves Goal.after_key ss (Some t) (Some nothing_written) Goal.done (state.BlockMappingNextKey ∷ ss)
-after_key_empty ss t a = leaves_so 2 (λ n f. ((f, n), tt)) (λ f. refl) (λ f u r m. grind arith) (λ f r m. grind arith) refl (λ f. alike refl refl) (λ f h. inl h)
+after_key_empty ss t a = leaves_so (λ n f. ((f, n), tt)) (λ f. refl) (λ f u r m. leads 2 (grind arith)) (λ f r m. leads 2 (grind arith)) refl (λ f. alike refl refl) (λ f h. inl h)
 
 pub part_empty : (ss : List State) (t : Tok) → ends_part (kind_of t) ≡ true → Leaves Goal.part ss (Some t) (Some nothing_written) Goal.done ss
 part_empty ss t a = empties (search mapping_under) t (λ f. grind arith)

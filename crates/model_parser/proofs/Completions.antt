@@ -1,20 +1,16 @@
 -- What a derivation came by: its first work, and the row of its next token. Where each goal of a table can be read to an end, all work can.
-use Rattle.model_parser.proofs.Common.{[], ap, before, Begins, by_leaving, by_taking, Derives, List, nothing_left, Part, part_work, reading, refl, saying, says, subst, Table, Work, ◌++◌, ◌∷◌, ◌≡◌, leaves, None, row_of, Some, takes}
+use Rattle.model_parser.proofs.Common.{[], ap, before, Begins, by_leaving, by_taking, Derives, List, nothing_left, Part, part_work, reading, refl, saying, says, subst, Table, Work, ◌++◌, ◌∷◌, ◌≡◌, leaves, None, Option, Row, row_of, Some, sym, takes, ◌∙◌}
 
-pub taken_by : {G T E H : Type 0} {a : Table G T E H} {g : G} {h : H} {w : List (Work G E H)} {t : T} {ts : List T} {es : List E}
-    → Derives a (reading g h ∷ w) (t ∷ ts) es → (ps : List (Part G E)) → row_of (a.cases g) t ≡ Some (takes ps) → Derives a (before a h t ps w) ts es
-taken_by {a = a} {h = h} {w = w} {t = t} {ts = ts} {es = es} (by_taking qs q d) ps r = let same : qs ≡ ps = cc (q, r) in subst (λ l. Derives a (before a h t l w) ts es) same d
-taken_by (by_leaving qs q d) ps r = cc
+-- what is read behind a token that has this row
+abbrev pub RowRest : {G T E H : Type 0} → Table G T E H → H → List (Work G E H) → T → List T → List E → Option (Row G E) → Type 0
+RowRest a h w t ts es (Some (takes ps)) = Derives a (before a h t ps w) ts es
+RowRest a h w t ts es (Some (leaves ps)) = Derives a (before a h t ps w) (t ∷ ts) es
+RowRest a h w t ts es None = ⊥
 
-pub left_by : {G T E H : Type 0} {a : Table G T E H} {g : G} {h : H} {w : List (Work G E H)} {t : T} {ts : List T} {es : List E}
-    → Derives a (reading g h ∷ w) (t ∷ ts) es → (ps : List (Part G E)) → row_of (a.cases g) t ≡ Some (leaves ps) → Derives a (before a h t ps w) (t ∷ ts) es
-left_by (by_taking qs q d) ps r = cc
-left_by {a = a} {h = h} {w = w} {t = t} {ts = ts} {es = es} (by_leaving qs q d) ps r = let same : qs ≡ ps = cc (q, r) in subst (λ l. Derives a (before a h t l w) (t ∷ ts) es) same d
-
-pub none_by : {G T E H : Type 0} {a : Table G T E H} {g : G} {h : H} {w : List (Work G E H)} {t : T} {ts : List T} {es : List E}
-    → Derives a (reading g h ∷ w) (t ∷ ts) es → row_of (a.cases g) t ≡ None → ⊥
-none_by (by_taking qs q d) r = cc
-none_by (by_leaving qs q d) r = cc
+pub rest_by : {G T E H : Type 0} {a : Table G T E H} {g : G} {h : H} {w : List (Work G E H)} {t : T} {ts : List T} {es : List E}
+    → Derives a (reading g h ∷ w) (t ∷ ts) es → (r : Option (Row G E)) → row_of (a.cases g) t ≡ r → RowRest a h w t ts es r
+rest_by {a = a} {h = h} {w = w} {t = t} {ts = ts} {es = es} (by_taking ps q d) r e = subst (RowRest a h w t ts es) (sym q ∙ e) d
+rest_by {a = a} {h = h} {w = w} {t = t} {ts = ts} {es = es} (by_leaving ps q d) r e = subst (RowRest a h w t ts es) (sym q ∙ e) d
 
 pub said_by : {G T E H : Type 0} {a : Table G T E H} {e : E} {w : List (Work G E H)} {ts : List T} {es : List E} → Derives a (saying e ∷ w) ts es
     → (fs : List E) × (es ≡ e ∷ fs) × Derives a w ts fs

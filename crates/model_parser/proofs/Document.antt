@@ -1,6 +1,6 @@
 -- The turns between documents.
-use Rattle.model_parser.proofs.Common.{subst, sym, arith, [], alike, alike_after, ap, Awaits, AwaitsAt, begins_node, Directive, directive_token, ends_content, ends_document, Extent, false, Goal, inl, inr, is_directive, IsNext, IsThere, kind_of, Leaves, List, None, nothing_written, Option, placed, Places, Position, Raw, refl, Refuses, row_of, Some, State, Takes, Then, Tok, Token, true, without_node, work_of, works, ◌++◌, ◌∙◌, ◌∷◌, ◌≡◌, ◌≢◌, before_directive}
-use Rattle.model_parser.proofs.StepRows.{by_row, reads_so, takes_so, Stays, by_steps, alike_reads, after_steps, refuses, not_refused, reads_first, placed_alike, needs_tokens, leaves_so, refuses_so}
+use Rattle.model_parser.proofs.Common.{subst, sym, arith, [], alike, alike_after, ap, begins_node, Directive, directive_token, ends_content, ends_document, false, Goal, inl, inr, is_directive, kind_of, Leaves, List, None, nothing_written, Raw, refl, Refuses, row_of, Some, State, Takes, Tok, true, without_node, work_of, works, ◌++◌, ◌∷◌, ◌≡◌, ◌≢◌, before_directive}
+use Rattle.model_parser.proofs.StepRows.{leads, reads_so, takes_so, Alike, by_steps, alike_reads, after_steps, refuses, placed_alike, leaves_so, refuses_so}
 use Rattle.model_parser.proofs.Settling.{comes_so, empties_as, reads_node, empties}
 use Rattle.defs_event.specs.Table as part
 use Rattle.defs_event.specs.Grammar as table
@@ -22,75 +22,46 @@ pub record DocumentTurns (ss : List State) : Type 0 where
 pub document_turns : (ss : List State) → DocumentTurns ss
 document_turns ss = search (takes_so, reads_so, reads_node, alike, inr)
 
-pub start_refuses : (ss : List State) (t : Tok) → kind_of t ≢ kind.StreamStart → Refuses Goal.start ss t
-start_refuses ss t a = refuses_so Goal.start ss t 9 (λ f. grind arith)
-
 -- ---- where a document may do without `---`
 
 pub documents_explicit : (ss : List State) (t : Tok) → ends_document (kind_of t) ≡ true → kind_of t ≢ kind.DocumentEnd → begins_node context.Block (kind_of t) ≡ false → Leaves Goal.documents ss (Some t) None Goal.explicit ss
-documents_explicit ss t e a b = leaves_so 1 (λ n f. (n, f)) (λ f. refl) (λ f u r m. let h = r 9 in grind arith) (λ f r m. grind arith) refl (λ f. without_node refl (comes_so Goal.documents ss t (grind arith))) (λ f h. inr (grind arith))
+documents_explicit ss t e a b = leaves_so (λ n f. (n, f)) (λ f. refl) (λ f u r m. let h = r 9 in leads 1 (grind arith)) (λ f r m. leads 1 (grind arith)) refl (λ f. without_node refl (comes_so Goal.documents ss t (grind arith))) (λ f h. inr (grind arith))
 
 pub documents_bare : (ss : List State) (t : Tok) → ends_document (kind_of t) ≡ false → is_directive (kind_of t) ≡ false → Leaves Goal.documents ss (Some t) (Some (Raw.document_start [])) Goal.done (state.BlockNode ∷ state.DocumentEnd ∷ ss)
-documents_bare ss t e a = leaves_so 2 (λ n f. (((refl, refl), (f, n)), tt)) (λ f. refl) (λ f u r m. grind arith) (λ f r m. let h = r 9 in grind arith) refl (λ f. alike refl refl) (λ f h. inr a)
+documents_bare ss t e a = leaves_so (λ n f. (((refl, refl), (f, n)), tt)) (λ f. refl) (λ f u r m. leads 2 (grind arith)) (λ f r m. let h = r 9 in leads 2 (grind arith)) refl (λ f. alike refl refl) (λ f h. inr a)
 
 -- ---- directives
 
 -- Directives and `---` are taken by both goals.
-both_read : (ss : List State) (u : Tok) → refuses 9 u (work_of (Goal.directed []) ss) ≡ false → Stays u (work_of Goal.documents ss) [] (work_of (Goal.directed []) ss)
-both_read ss (Tok.version_directive m n) r = alike_reads table.documents table.directives table.nothing_held (works ss) (Tok.version_directive m n) refl
-both_read ss (Tok.tag_directive x y) r = alike_reads table.documents table.directives table.nothing_held (works ss) (Tok.tag_directive x y) refl
-both_read ss Tok.document_start r =
-    after_steps (by_steps 1 Tok.document_start (work_of Goal.documents ss)) (alike_reads table.explicit_document table.directives table.nothing_held (works ss) Tok.document_start refl)
+row_alike : (ss : List State) (u : Tok) → row_of (table.cases table.directives) u ≡ row_of (table.cases table.documents) u → Alike Goal.documents ss None (Goal.directed []) ss u
+row_alike ss u r = record {
+  stays = alike_reads table.documents table.directives table.nothing_held (works ss) u (sym r);
+  places = λ x b k m same at ts es d. placed_alike (subst (λ v. row_of (table.cases table.directives) v ≡ row_of (table.cases table.documents) v) (sym same) r) d;
+  may = (refl, refl);
+}
+
+both_read : (ss : List State) (u : Tok) → refuses 9 u (work_of (Goal.directed []) ss) ≡ false → Alike Goal.documents ss None (Goal.directed []) ss u
+both_read ss (Tok.version_directive m n) r = row_alike ss (Tok.version_directive m n) refl
+both_read ss (Tok.tag_directive x y) r = row_alike ss (Tok.tag_directive x y) refl
+both_read ss Tok.document_start r = record {
+  stays = after_steps (by_steps 1 Tok.document_start (work_of Goal.documents ss)) (alike_reads table.explicit_document table.directives table.nothing_held (works ss) Tok.document_start refl);
+  places = λ x b k m same at ts es d.
+      places.by_leaving (part.read table.explicit_document ∷ []) (ap (λ u. row_of (table.cases table.documents) u) same)
+      (placed_alike (subst (λ v. row_of (table.cases table.directives) v ≡ row_of (table.cases table.explicit_document) v) (sym same) refl) d);
+  may = (refl, refl);
+}
 both_read ss u r = cc
 
-both_place : (ss : List State) (x : Extent) (b : Option Position) (k : Token) (u : Tok) → k.tok ≡ u → refuses 9 u (work_of (Goal.directed []) ss) ≡ false → (ts : List Token) (es : List (Raw × Position))
-    → Places x b (placed (work_of (Goal.directed []) ss)) (k ∷ ts) es → Places x b (placed (work_of Goal.documents ss)) (k ∷ ts) es
-both_place ss x b k (Tok.version_directive m n) e r ts es d =
-    placed_alike (subst (λ v. row_of (table.cases table.directives) v ≡ row_of (table.cases table.documents) v) (sym e) refl) d
-both_place ss x b k (Tok.tag_directive y z) e r ts es d =
-    placed_alike (subst (λ v. row_of (table.cases table.directives) v ≡ row_of (table.cases table.documents) v) (sym e) refl) d
-both_place ss x b k Tok.document_start e r ts es d =
-    places.by_leaving (part.read table.explicit_document ∷ []) (ap (λ u. row_of (table.cases table.documents) u) e)
-    (placed_alike (subst (λ v. row_of (table.cases table.directives) v ≡ row_of (table.cases table.explicit_document) v) (sym e) refl) d)
-both_place ss x b k u e r ts es d = cc
-
 pub documents_directives : (ss : List State) (t : Tok) → is_directive (kind_of t) ≡ true → begins_node context.Block (kind_of t) ≡ false → Leaves Goal.documents ss (Some t) None (Goal.directed []) ss
-documents_directives ss t e b = record {
-  nested = λ n f. (n, f);
-  comes = λ n f ts es a. come ts es a;
-  goes = λ n f ts es k a. go ts es k a;
-  places = λ n f x c m ts there p es a. place x c ts there es a;
-  opened = refl;
-  settles = λ f. without_node refl (comes_so Goal.documents ss t (grind arith));
-  past = λ f h. inl h;
-}
-  where
-    place : (x : Extent) (c : Option Position) (ts : List Token) → IsThere (Some t) ts → (es : List (Raw × Position)) → AwaitsAt x c (Goal.directed []) ss ts es → AwaitsAt x c Goal.documents ss ts es
-    place x c [] there es a = absurd there
-    place x c (k ∷ ts) there es a = (both_place ss x c k k.tok refl (reads_first 9 x c k (work_of (Goal.directed []) ss) ts es a.0) ts es a.0, refl)
-
-    come : (ts : List Tok) (es : List Raw) → Awaits (Goal.directed []) ss ts es → Awaits Goal.documents ss ts es
-    come [] es a = absurd (needs_tokens (work_of (Goal.directed []) ss) es refl a.0)
-    come (u ∷ us) es a = ((both_read ss u (not_refused 9 u (work_of (Goal.directed []) ss) us es a.0)).0 us es a.0, refl)
-
-    admitted : (u : Tok) → is_directive (kind_of u) ≡ true → refuses 9 u (work_of (Goal.directed []) ss) ≡ false
-    admitted u h = grind arith
-
-    go : (ts : List Tok) (es : List Raw) → IsNext (Some t) ts → Awaits Goal.documents ss ts es → Then None (Goal.directed []) ss ts es
-    go [] es k a = absurd k
-    go (u ∷ us) es k a = let x = (both_read ss u (admitted u (ap (λ v. is_directive (kind_of v)) k ∙ e))).1 us es a.0 in (x.0, x.1, (x.2, refl))
+documents_directives ss t e b = leaves_so (λ n f. (n, f)) (λ f. refl) (λ f u r m. both_read ss u (r 9)) (λ f r m. both_read ss t (grind arith)) refl
+    (λ f. without_node refl (comes_so Goal.documents ss t (grind arith))) (λ f h. inl h)
 
 pub directed_more : (ss : List State) (read : List Directive) (d : Directive) → Takes (Goal.directed read) ss (directive_token d) None (Goal.directed (read ++ d ∷ [])) ss
-directed_more ss read (Directive.version m n) = takes_so (λ n f. (n, f)) (λ f. (refl, (λ k. refl), by_row _ refl refl)) refl (λ f. refl) (λ f. refl)
-directed_more ss read (Directive.tag h p) = takes_so (λ n f. (n, f)) (λ f. (refl, (λ k. refl), by_row _ refl refl)) refl (λ f. refl) (λ f. refl)
+directed_more ss read (Directive.version m n) = takes_so (λ n f. (n, f)) (λ f. (refl, (λ k. refl), reads_so refl)) refl (λ f. refl) (λ f. refl)
+directed_more ss read (Directive.tag h p) = takes_so (λ n f. (n, f)) (λ f. (refl, (λ k. refl), reads_so refl)) refl (λ f. refl) (λ f. refl)
 
 pub directed_refuses : (ss : List State) (read : List Directive) (t : Tok) → kind_of t ≢ kind.VersionDirective → kind_of t ≢ kind.TagDirective → kind_of t ≢ kind.DocumentStart → Refuses (Goal.directed read) ss t
-directed_refuses ss read t a b c = refuses_so (Goal.directed read) ss t 9 (λ f. grind arith)
-
--- ---- the stream's end, or a document that begins with `---`
-
-pub explicit_refuses : (ss : List State) (t : Tok) → kind_of t ≢ kind.StreamEnd → kind_of t ≢ kind.DocumentStart → Refuses Goal.explicit ss t
-explicit_refuses ss t a b = refuses_so Goal.explicit ss t 9 (λ f. grind arith)
+directed_refuses ss read t a b c = grind arith
 
 -- ---- after `---`
 
@@ -103,7 +74,7 @@ content_empty ss t a = empties (search) t (λ f. a)
 -- ---- after a document's node
 
 pub after_unmarked : (ss : List State) (t : Tok) → kind_of t ≢ kind.DocumentEnd → is_directive (kind_of t) ≡ false → Leaves Goal.after ss (Some t) (Some Raw.document_end) Goal.done (state.DocumentStart ∷ ss)
-after_unmarked ss t a b = leaves_so 2 (λ n f. ((f, n), tt)) (λ f. refl) (λ f u r m. let h = r 9 in grind arith) (λ f r m. grind arith) refl (λ f. alike_after refl b) (λ f h. inr b)
+after_unmarked ss t a b = leaves_so (λ n f. ((f, n), tt)) (λ f. refl) (λ f u r m. let h = r 9 in leads 2 (grind arith)) (λ f r m. leads 2 (grind arith)) refl (λ f. alike_after refl b) (λ f h. inr b)
 
 pub after_refuses : (ss : List State) (t : Tok) → ends_document (kind_of t) ≡ false → Refuses Goal.after ss t
 after_refuses ss t a = refuses_so Goal.after ss t 9 (λ f. grind arith)

@@ -1,5 +1,5 @@
 -- How what is awaited may go on: by some tokens, and then on the shortest way to the end.
-use Rattle.model_parser.proofs.Common.{[], append_assoc, Awaits, Derives, Goal, goes, grammar, Held, kind_of, List, may_begin, None, Option, Raw, refused, Some, State, step, subst, sym, Tok, true, Turned, work_of, Works, ◌++◌, ◌∷◌, ◌≡◌}
+use Rattle.model_parser.proofs.Common.{[], append_assoc, arith, Awaits, Derives, Goal, goes, grammar, Held, kind_of, List, may_begin, None, Option, Raw, refused, Some, State, step, subst, Tok, true, Turned, work_of, Works, ◌++◌, ◌∷◌, ◌≡◌}
 use Rattle.model_parser.proofs.Completions.{all_complete}
 use Rattle.model_parser.proofs.Falls.{grammar_completes}
 use Rattle.model_parser.proofs.Steps.{Sound, step_sound}
@@ -35,13 +35,8 @@ abbrev Past : Works → List Tok → Option (List Raw × Works) → Type 0
 Past w ts None = Unit {0}
 Past w ts (Some x) = (us : List Tok) (fs : List Raw) → Derives grammar x.1 us fs → Derives grammar w (ts ++ us) (x.0 ++ fs)
 
-further : (w v : Works) (t : Tok) (ts : List Tok) (es : List Raw) → Sound grammar w t (goes es v) → (x : Option (List Raw × Works)) → Past v ts x → Past w (t ∷ ts) (with_events es x)
-further w v t ts es s None p = tt
-further w v t ts es s (Some x) p = λ us fs d. subst (λ l. Derives grammar w (t ∷ (ts ++ us)) l) (sym (append_assoc es x.0 fs)) (s (ts ++ us) (x.0 ++ fs) (p us fs d))
-
 turned : (w : Works) (t : Tok) (ts : List Tok) (o : Turned table.Goal Raw Held) → Sound grammar w t o → ((v : Works) → Past v ts (past_tokens v ts)) → Past w (t ∷ ts) (on_turn o (λ v. past_tokens v ts))
-turned w t ts (goes es v) s i = further w v t ts es s (past_tokens v ts) (i v)
-turned w t ts (refused es) s i = tt
+turned w t ts o s i = grind (arith, append_assoc)
 
 past_so : (w : Works) (ts : List Tok) → Past w ts (past_tokens w ts)
 past_so w [] = λ us fs d. d

@@ -1,6 +1,5 @@
 -- Tokens and their kinds.
 use Rattle.model_parser.proofs.Common.{ap, HasNoText, Kind, kind_of, refl, subst, sym, Tok, tok_of_kind, ◌∙◌, ◌≡◌}
-use Rattle.model_parser.specs.declared.kind.Kind.TheVariants as kind
 
 -- a token without texts is known by its kind
 plain_tok : (t : Tok) → HasNoText (kind_of t) → tok_of_kind (kind_of t) ≡ t

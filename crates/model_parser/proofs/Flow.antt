@@ -1,6 +1,6 @@
 -- The turns in flow collections.
-use Rattle.model_parser.proofs.Common.{says, toks, alike, arith, ends_flow_key, ends_flow_pair, ends_item, ends_item_key, false, Goal, inl, kind_of, Leaves, List, None, nothing_written, Option, Raw, refl, Refuses, Some, State, Takes, Tok, true, without_node, ◌∷◌, ◌≡◌, ◌≢◌}
-use Rattle.model_parser.proofs.StepRows.{reads_so, takes_so, leaves_so, first_any, refuses_so}
+use Rattle.model_parser.proofs.Common.{says, alike, arith, ends_flow_key, ends_flow_pair, ends_item, ends_item_key, false, Goal, inl, kind_of, Leaves, List, None, nothing_written, Option, Raw, refl, Refuses, Some, State, Takes, Tok, true, without_node, ◌∷◌, ◌≡◌, ◌≢◌}
+use Rattle.model_parser.proofs.StepRows.{leads, reads_so, takes_so, leaves_so}
 use Rattle.model_parser.proofs.Settling.{under_goes, under_other, under_past, under_any, comes_so, empties, reads_node}
 use Rattle.defs_text.specs.Position as chars
 use Rattle.model_parser.specs.declared.kind.Kind.TheVariants as kind
@@ -34,55 +34,41 @@ pub record FlowTurns (ss : List State) : Type 0 where
 pub flow_turns : (ss : List State) → FlowTurns ss
 flow_turns ss = search (takes_so, reads_so, under_goes, under_any, under_other, under_past, empties, reads_node, alike, inl)
 
+-- Tokens that are refused, and goals that go on as the same work.
+pub record PlainFlowTurns (ss : List State) : Type 0 where
+  pub more_items_refuses : (t : Tok) → kind_of t ≢ kind.FlowSequenceEnd → kind_of t ≢ kind.FlowEntry → Refuses Goal.more_items ss t
+  pub more_flow_refuses : (t : Tok) → kind_of t ≢ kind.FlowMappingEnd → kind_of t ≢ kind.FlowEntry → Refuses Goal.more_flow_pairs ss t
+  pub items_item : (t : Tok) → kind_of t ≢ kind.FlowSequenceEnd → Leaves Goal.items ss (Some t) None Goal.item ss
+  pub flow_pairs_pair : (t : Tok) → kind_of t ≢ kind.FlowMappingEnd → Leaves Goal.flow_pairs ss (Some t) None (Goal.flow_pair table.after_brace) ss
+  pub comma_flow_has_pair : (t : Tok) → kind_of t ≢ kind.FlowMappingEnd → Leaves Goal.comma_flow_pairs ss (Some t) None (Goal.flow_pair table.after_comma) ss
+  pub pair_ends : (p : Option Tok) → Leaves Goal.pair_end ss p (Some Raw.pair_end) Goal.done (state.FlowSequenceEntry ∷ ss)
+
+pub plain_flow_turns : (ss : List State) → PlainFlowTurns ss
+plain_flow_turns ss = grind (arith, says, said_by, places.says, inl, alike)
+
 -- ---- a flow sequence
 
-pub items_item : (ss : List State) (t : Tok) → kind_of t ≢ kind.FlowSequenceEnd → Leaves Goal.items ss (Some t) None Goal.item ss
-items_item ss t a = leaves_so 0 (λ n f. (n, f)) (λ f. refl) (λ f u r m. cc m) (λ f r m. grind arith) refl (λ f. alike refl refl) (λ f h. inl h)
-
-pub more_items_refuses : (ss : List State) (t : Tok) → kind_of t ≢ kind.FlowSequenceEnd → kind_of t ≢ kind.FlowEntry → Refuses Goal.more_items ss t
-more_items_refuses ss t a b = refuses_so Goal.more_items ss t 9 (λ f. grind arith)
-
 pub item_node : (ss : List State) (t : Tok) → kind_of t ≢ kind.Key → Leaves Goal.item ss (Some t) None (Goal.node context.Flow) (state.FlowSequenceEntry ∷ ss)
-item_node ss t a = leaves_so 1 (λ n f. ((f, n), (refl, refl))) (λ f. refl) (λ f u r m. grind arith) (λ f r m. let h = r 9 in grind arith) refl (λ f. alike refl refl) (λ f h. inl h)
+item_node ss t a = leaves_so (λ n f. ((f, n), (refl, refl))) (λ f. refl) (λ f u r m. leads 1 (grind arith)) (λ f r m. let h = r 9 in leads 1 (grind arith)) refl (λ f. alike refl refl) (λ f h. inl h)
 
 -- ---- a pair that is an item
 
 pub pair_value_empty : (ss : List State) (t : Tok) → kind_of t ≢ kind.Value → Leaves Goal.pair_value ss (Some t) (Some nothing_written) Goal.done (state.FlowSequenceEntryMappingEnd ∷ ss)
-pair_value_empty ss t a = leaves_so 2 (λ n f. ((f, n), tt)) (λ f. refl) (λ f u r m. let h = r 9 in grind arith) (λ f r m. grind arith) refl (λ f. alike refl refl) (λ f h. inl h)
-
-pub pair_ends : (ss : List State) (p : Option Tok) → Leaves Goal.pair_end ss p (Some Raw.pair_end) Goal.done (state.FlowSequenceEntry ∷ ss)
-pair_ends ss p = record {
-  nested = λ n f. ((f, n), tt);
-  comes = λ n f ts es a. (says a.0, first_any Goal.pair_end ss ts (λ k. refl));
-  goes = λ n f ts es k a. let s = said_by a.0 in (s.0, s.1, (s.2, first_any Goal.done (state.FlowSequenceEntry ∷ ss) ts (λ k. refl)));
-  places = λ n f x b m ts there at es a. (places.says tt a.0, first_any Goal.pair_end ss (toks ts) (λ k. refl));
-  opened = refl;
-  settles = λ f. alike refl refl;
-  past = λ f h. inl h;
-}
+pair_value_empty ss t a = leaves_so (λ n f. ((f, n), tt)) (λ f. refl) (λ f u r m. let h = r 9 in leads 2 (grind arith)) (λ f r m. leads 2 (grind arith)) refl (λ f. alike refl refl) (λ f h. inl h)
 
 -- ---- a flow mapping
 
-pub flow_pairs_pair : (ss : List State) (t : Tok) → kind_of t ≢ kind.FlowMappingEnd → Leaves Goal.flow_pairs ss (Some t) None (Goal.flow_pair table.after_brace) ss
-flow_pairs_pair ss t a = leaves_so 0 (λ n f. (n, f)) (λ f. refl) (λ f u r m. cc m) (λ f r m. grind arith) refl (λ f. alike refl refl) (λ f h. inl h)
-
-pub more_flow_refuses : (ss : List State) (t : Tok) → kind_of t ≢ kind.FlowMappingEnd → kind_of t ≢ kind.FlowEntry → Refuses Goal.more_flow_pairs ss t
-more_flow_refuses ss t a b = refuses_so Goal.more_flow_pairs ss t 9 (λ f. grind arith)
-
-pub comma_flow_has_pair : (ss : List State) (t : Tok) → kind_of t ≢ kind.FlowMappingEnd → Leaves Goal.comma_flow_pairs ss (Some t) None (Goal.flow_pair table.after_comma) ss
-comma_flow_has_pair ss t a = leaves_so 0 (λ n f. (n, f)) (λ f. refl) (λ f u r m. cc m) (λ f r m. grind arith) refl (λ f. alike refl refl) (λ f h. inl h)
-
 pub flow_pair_node : (s : table.Start) (ss : List State) (t : Tok) → kind_of t ≢ kind.Key → kind_of t ≢ kind.Value → Leaves (Goal.flow_pair s) ss (Some t) None (Goal.node context.Flow) (state.FlowMappingEmptyValue ∷ ss)
-flow_pair_node s ss t a b = leaves_so 1 (λ n f. ((f, n), (refl, refl))) (λ f. refl) (λ f u r m. grind arith) (λ f r m. let h = r 9 in grind arith) refl (λ f. alike refl refl) (λ f h. inl h)
+flow_pair_node s ss t a b = leaves_so (λ n f. ((f, n), (refl, refl))) (λ f. refl) (λ f u r m. leads 1 (grind arith)) (λ f r m. let h = r 9 in leads 1 (grind arith)) refl (λ f. alike refl refl) (λ f h. inl h)
 
 pub flow_after_empty : (ss : List State) (t : Tok) → kind_of t ≢ kind.Value → Leaves Goal.flow_after_key ss (Some t) (Some nothing_written) Goal.done (state.FlowMappingKey ∷ ss)
-flow_after_empty ss t a = leaves_so 2 (λ n f. ((f, n), tt)) (λ f. refl) (λ f u r m. let h = r 9 in grind arith) (λ f r m. grind arith) refl (λ f. alike refl refl) (λ f h. inl h)
+flow_after_empty ss t a = leaves_so (λ n f. ((f, n), tt)) (λ f. refl) (λ f u r m. let h = r 9 in leads 2 (grind arith)) (λ f r m. leads 2 (grind arith)) refl (λ f. alike refl refl) (λ f h. inl h)
 
 pub flow_valued_empty : (m : chars.Position) (ss : List State) (t : Tok) → ends_flow_pair (kind_of t) ≡ true → Leaves (Goal.flow_valued m) ss (Some t) (Some Raw.unwritten_value) Goal.done (state.FlowMappingKey ∷ ss)
-flow_valued_empty c ss t a = leaves_so 2 (λ n f. ((f, n), tt)) (λ f. refl) (λ f u r m. let h = r 9 in grind arith) (λ f r m. grind arith) refl (λ f. without_node refl (comes_so (Goal.flow_valued c) ss t (grind arith))) (λ f h. inl h)
+flow_valued_empty c ss t a = leaves_so (λ n f. ((f, n), tt)) (λ f. refl) (λ f u r m. let h = r 9 in leads 2 (grind arith)) (λ f r m. leads 2 (grind arith)) refl (λ f. without_node refl (comes_so (Goal.flow_valued c) ss t (grind arith))) (λ f h. inl h)
 
 pub flow_valued_node : (m : chars.Position) (ss : List State) (t : Tok) → ends_flow_pair (kind_of t) ≡ false → Leaves (Goal.flow_valued m) ss (Some t) None (Goal.node context.Flow) (state.FlowMappingKey ∷ ss)
-flow_valued_node c ss t a = leaves_so 1 (λ n f. ((f, n), (refl, refl))) (λ f. refl) (λ f u r m. grind arith) (λ f r m. let h = r 9 in grind arith) refl (λ f. alike refl refl) (λ f h. inl h)
+flow_valued_node c ss t a = leaves_so (λ n f. ((f, n), (refl, refl))) (λ f. refl) (λ f u r m. leads 1 (grind arith)) (λ f r m. let h = r 9 in leads 1 (grind arith)) refl (λ f. alike refl refl) (λ f h. inl h)
 
 pub flow_empties : (ss : List State) (t : Tok) → Leaves Goal.flow_empty ss (Some t) (Some nothing_written) Goal.done (state.FlowMappingKey ∷ ss)
-flow_empties ss t = leaves_so 2 (λ n f. ((f, n), tt)) (λ f. refl) (λ f u r m. refl) (λ f r m. refl) refl (λ f. alike refl refl) (λ f h. inl h)
+flow_empties ss t = leaves_so (λ n f. ((f, n), tt)) (λ f. refl) (λ f u r m. leads 2 refl) (λ f r m. leads 2 refl) refl (λ f. alike refl refl) (λ f h. inl h)

@@ -1,5 +1,5 @@
 -- In the table of the token grammar, rows for all other tokens are chosen by each token that ends a goal too.
-use Rattle.model_parser.proofs.Common.{[], arith, before, block_mapping_entries, block_sequence_entries, Bool, cases, content, directives, document_end, documents, ends_goal, explicit_document, false, flow_mapping_comma, flow_mapping_entries, flow_sequence_comma, flow_sequence_entries, grammar, Held, in_block, in_flow, in_pair, indentless_sequence_entries, inl, inr, key, leaves, List, node, None, nothing_held, Part, Place, Raw, read, reading, refl, refused, Row, row_of, say, saying, Some, step, stream, suc, Tok, true, value, weight, Work, work_weight, zero, ℕ, ◌<◌, ◌∷◌, ◌≡◌}
+use Rattle.model_parser.proofs.Common.{[], arith, before, Bool, cases, content, directives, document_end, documents, ends_goal, explicit_document, false, grammar, Held, in_block, in_flow, in_pair, indentless_sequence_entries, inl, inr, key, leaves, List, node, None, Part, Raw, read, refl, Row, row_of, say, Some, stream, Tok, true, value, weight, Work, ◌∷◌, ◌≡◌}
 use Rattle.defs_event.specs.Kinds.{begins_flow_node, begins_node}
 use Rattle.defs_event.specs.Grammar.{Goal}
 use Rattle.defs_event.proofs.Meanings.{EachRow, row_holds}
@@ -31,31 +31,14 @@ others : (g : Goal) (t : Tok) (ps : List (Part Goal Raw)) → Leaves g ps Tok.st
     → ((u : Tok) (h : Held) (w : List (Work Goal Raw Held)) → before grammar h u ps w ≡ before grammar h t ps w) → LeavingRow grammar weight ends_goal g t (leaves ps)
 others g t ps a b c d e f same = inl (λ u is. (grind arith, λ h w. same u h w))
 
--- ---- a node's first token is taken
-
-goes_from : (p : Place) (t : Tok) (v : List (Work Goal Raw Held)) → ((n : ℕ) (h : Held) (es : List Raw) → step grammar (suc (suc n)) (reading (node p) h ∷ v) t ≡ refused es → ⊥)
-    → (n : ℕ) (h : Held) (es : List Raw) → 1 < n → step grammar n (reading (node p) h ∷ v) t ≡ refused es → ⊥
-goes_from p t v f (suc zero) h es l e = omega (arith, l)
-goes_from p t v f (suc (suc n)) h es l e = f n h es e
-goes_from p t v f zero h es l e = omega (arith, l)
-
--- a document that begins with its node
-bare_taken : (n : ℕ) (t : Tok) → begins_node t ≡ true → (w : List (Work Goal Raw Held)) (es : List Raw)
-    → work_weight weight (saying (Raw.document_start []) ∷ reading (node in_block) nothing_held ∷ w) < n
-    → step grammar n (saying (Raw.document_start []) ∷ reading (node in_block) nothing_held ∷ w) t ≡ refused es → ⊥
-bare_taken zero t i w es l e = omega (arith, l)
-bare_taken (suc n) t i w es l e =
-    let x : (fs : List Raw) × (step grammar n (reading (node in_block) nothing_held ∷ w) t ≡ refused fs) = grind arith in
-    goes_from in_block t w (λ n h es e. grind arith) n nothing_held x.0 (omega (arith, l)) x.1
-
 -- ---- all rows
 
 -- Rows that leave a token to a flow node, or to a document's node, leave it where it is taken.
 flow_leaving : (g : Goal) (t : Tok) (ps : List (Part Goal Raw)) → begins_flow_node t ≡ true → LeavingRow grammar weight ends_goal g t (leaves (read (node in_flow) ∷ ps))
-flow_leaving g t ps i = inr (λ n h w es l e. goes_from in_flow t (before grammar h t ps w) (λ n h es e. grind arith) n nothing_held es (omega (arith, l)) e)
+flow_leaving g t ps i = inr (λ h w es e. grind arith)
 
 bare_leaving : (g : Goal) (t : Tok) → begins_node t ≡ true → LeavingRow grammar weight ends_goal g t (leaves (say (Raw.document_start []) ∷ read (node in_block) ∷ read document_end ∷ []))
-bare_leaving g t i = inr (λ n h w es l e. bare_taken n t i (reading document_end nothing_held ∷ w) es l e)
+bare_leaving g t i = inr (λ h w es e. grind arith)
 
 leaving_rows : (g : Goal) → EachRow (λ t r. LeavingRow grammar weight ends_goal g t r) (λ t. false) (cases g)
 leaving_rows (content in_flow) = search others
@@ -69,19 +52,10 @@ leaving g t r p = row_holds (λ t r. LeavingRow grammar weight ends_goal g t r) 
 
 -- ---- goals that refuse tokens
 
-pub ended : (g : Goal) (h : Held) (t : Tok) → row_of (cases g) t ≡ None → EndsGoal grammar ends_goal g h
-ended stream h t p = (_, _, _, refl, (grammar_completes stream h).2)
-ended directives h t p = (_, _, _, refl, (grammar_completes directives h).2)
-ended explicit_document h t p = (_, _, _, refl, (grammar_completes explicit_document h).2)
-ended block_sequence_entries h t p = (_, _, _, refl, (grammar_completes block_sequence_entries h).2)
-ended block_mapping_entries h t p = (_, _, _, refl, (grammar_completes block_mapping_entries h).2)
-ended flow_sequence_entries h t p = (_, _, _, refl, (grammar_completes flow_sequence_entries h).2)
-ended flow_sequence_comma h t p = (_, _, _, refl, (grammar_completes flow_sequence_comma h).2)
-ended (flow_mapping_entries s) h t p = (_, _, _, refl, (grammar_completes (flow_mapping_entries s) h).2)
-ended flow_mapping_comma h t p = (_, _, _, refl, (grammar_completes flow_mapping_comma h).2)
+pub ended : (g : Goal) (h : Held) (t : Tok) → row_of (cases g) t ≡ None → EndsGoal grammar_completes ends_goal g h
 ended (content in_flow) h t p = absurd (grind arith)
 ended (content in_block) h t p = absurd (grind arith)
-ended g h t p = absurd (grind arith)
+ended g h t p = grind arith
 
 pub mended : IsMended grammar weight is_bottom ends_goal
 mended = record { falls = grammar_falls; completes = grammar_completes; bottoms = bottoms; leaving = leaving; ended = ended }

@@ -1,5 +1,5 @@
 -- Of the same tokens, read so far, the same events are said, at the same positions.
-use Rattle.model_parser.proofs.Common.{[], AgreeAt, and_parts, ap, arith, before, Bool, cases, Ev, events_of, Extent, false, grammar, HasPlacedTo, Held, IfSome, List, map, named, Names, names_after, no_names, None, Option, Part, placed_before, placed_by, PlacedWork, Places, Position, position_at, positions_of, Raw, raws_of, reading, refl, resolved_event, row_of, saying, Some, stream, StreamPlacesTo, subst, takes, to_last, Tok, Token, true, Work, ◌&&◌, ◌++◌, ◌∷◌, ◌≡◌, ◌≢◌}
+use Rattle.model_parser.proofs.Common.{[], AgreeAt, and_parts, ap, arith, before, Bool, Ev, events_of, Extent, false, grammar, HasPlacedTo, Held, List, map, named, Names, names_after, no_names, None, Option, placed_before, placed_by, PlacedWork, Places, Position, position_at, positions_of, Raw, raws_of, reading, refl, resolved_event, saying, Some, StreamPlacesTo, subst, to_last, Token, true, Work, ◌&&◌, ◌++◌, ◌∷◌, ◌≡◌, ◌≢◌}
 use Rattle.defs_event.specs.Grammar.{Goal}
 use Rattle.defs_event.proofs.NameLemmas.{both_some}
 use Rattle.defs_event.specs.Stream as placed

@@ -34,7 +34,7 @@ pub record IsMended {G T E H : Type 0} (a : Table G T E H) (m : G → ℕ) (bott
   pub completes : Completes a
   pub bottoms : (g : G) (t : T) (r : Row G E) → bottom g ≡ true → row_of (a.cases g) t ≡ Some r → BottomRow a bottom t r
   pub leaving : (g : G) (t : T) (r : Row G E) → row_of (a.cases g) t ≡ Some r → LeavingRow a m ends g t r
-  pub ended : (g : G) (h : H) (t : T) → row_of (a.cases g) t ≡ None → EndsGoal a ends g h
+  pub ended : (g : G) (h : H) (t : T) → row_of (a.cases g) t ≡ None → EndsGoal completes ends g h
 
 open_after : {G E H : Type 0} (bottom : G → Bool) (x : Work G E H) (w : List (Work G E H)) → is_open bottom w ≡ true → is_open bottom (x ∷ w) ≡ true
 open_after bottom a w o = grind arith

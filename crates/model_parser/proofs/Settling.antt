@@ -1,6 +1,6 @@
 -- What may come behind a node, and what is read next.
 use Rattle.model_parser.proofs.Common.{arith, [], and_parts, ap, before, begins_content, begins_node, Bool, both_ways, cases, context_at, empty, empty_event, ends_document, ends_entry, ends_flow_key, ends_flow_pair, ends_indentless_entry, ends_item, ends_item_key, ends_part, false, Goal, goal_and, grammar, Held, is_in_mapping, is_node, is_over_document, is_past_directives, is_under, IsFor, IsGoing, IsNested, keep, Kind, kind_of, Leaves, leaves, List, may_begin, MayCome, next_at, NodeContext, None, not, nothing_held, nothing_written, open_at, other_next, past, Place, place_of, reading, refl, row_of, Settles, Some, State, step, sym, then_in, Tok, true, without_node, work_of, Works, works, ◌&&◌, ◌∙◌, ◌∷◌, ◌≡◌, ◌⊎◌, IsNoDirective}
-use Rattle.model_parser.proofs.StepRows.{has_goal, is_going, Leads, leads_stay, leave_row, leaves_so, may_come, refuse_row, refuses, steps}
+use Rattle.model_parser.proofs.StepRows.{Alike, has_goal, is_going, leads, leaves_so, may_come, refuse_row, refuses, steps}
 use Rattle.defs_event.specs.Grammar as table
 use Rattle.model_parser.specs.declared.state.State.TheVariants as state
 
@@ -82,17 +82,14 @@ content_row p t b = grind arith
 
 pub empty_content : (ss : List State) (h : Held) (t : Tok) → begins_content (context_at (place_of ss)) (kind_of t) ≡ false
     → steps 2 t (reading (table.content (place_of ss)) h ∷ past ss (works ss)) ≡ (empty_event h ∷ [], works ss)
-empty_content ss h t b =
-    ap (leave_row h t (table.content (place_of ss)) (past ss (works ss)) (λ v. steps 1 t v)) (content_row (place_of ss) t b) ∙ ap (λ w. (empty_event h ∷ [], w)) (then_works ss h t)
+empty_content ss h t b = rw (content_row (place_of ss) t b, then_works ss h t)
 
 -- the work of a node over these
 abbrev pub over : List State → Works
 over ss = goal_and (table.node (place_of ss)) (past ss (works ss))
 
 empty_node : (ss : List State) (t : Tok) → begins_node (context_at (place_of ss)) (kind_of t) ≡ false → steps 3 t (over ss) ≡ (nothing_written ∷ [], works ss)
-empty_node ss t b =
-    ap (leave_row nothing_held t (table.node (place_of ss)) (past ss (works ss)) (λ v. steps 2 t v)) (node_row (place_of ss) t b)
-    ∙ empty_content ss nothing_held t (no_content (context_at (place_of ss)) (kind_of t) b)
+empty_node ss t b = rw (node_row (place_of ss) t b) (empty_content ss nothing_held t (no_content (context_at (place_of ss)) (kind_of t) b))
 
 -- So it is refused if it is refused behind the content.
 pub content_refuses : (ss : List State) (h : Held) (t : Tok) → begins_content (context_at (place_of ss)) (kind_of t) ≡ false
@@ -124,12 +121,12 @@ pub record MayRead (g : Goal) (ss ss' : List State) : Type 0 where
   pub opened : open_at g ss ≡ open_at Goal.done ss'
 
 module _ {g : Goal} {ss ss' : List State} (m : MayRead g ss ss') (t : Tok) where
-  empty_leads : IsFor g ss → (u : Tok) → begins_node (context_at (place_of ss')) (kind_of u) ≡ false → Leads 3 g ss (Some nothing_written) Goal.done ss' u
-  empty_leads f u b = cc (ap (steps 3 u) m.work ∙ empty_node ss' u b, m.any (kind_of u), under_any ss' (m.under f) (kind_of u))
+  empty_leads : IsFor g ss → (u : Tok) → begins_node (context_at (place_of ss')) (kind_of u) ≡ false → Alike g ss (Some nothing_written) Goal.done ss' u
+  empty_leads f u b = leads 3 (cc (ap (steps 3 u) m.work ∙ empty_node ss' u b, m.any (kind_of u), under_any ss' (m.under f) (kind_of u)))
 
   -- It is empty, since a token comes that begins none.
   pub empties_as : (IsFor g ss → begins_node (context_at (place_of ss')) (kind_of t) ≡ false) → (IsFor g ss → Settles g ss (Some t) Goal.done ss') → Leaves g ss (Some t) (Some nothing_written) Goal.done ss'
-  empties_as b settles = leaves_so 3 (λ n f. (m.nested n f, under_goes ss' (m.under f))) (λ f. under_reads ss' (m.under f))
+  empties_as b settles = leaves_so (λ n f. (m.nested n f, under_goes ss' (m.under f))) (λ f. under_reads ss' (m.under f))
       (λ f u r o. empty_leads f u (none_begins ss' u (m.under f) (closes_so ss' u (m.under f) (r 9)))) (λ f r o. empty_leads f t (b f)) m.opened settles
       (λ f h. absurd (both_ways (is_past_directives Goal.done ss') (under_past ss' (m.under f)) h))
 
@@ -141,17 +138,14 @@ module _ {g : Goal} {ss ss' : List State} (m : MayRead g ss ss') (t : Tok) where
       comes f =
           let k = may_come 9 t (works ss') ((closed ss' (m.under f) t).1 ∙ c f) in
           let l = empty_leads f t (none_begins ss' t (m.under f) (c f)) in
-          (k.0, nothing_written ∷ k.1, ((leads_stay 3 (work_of g ss) (Some nothing_written) (works ss') t (ap (λ x. x.0) l)).0 k.0 k.1 k.2, m.any (kind_of t)))
+          (k.0, nothing_written ∷ k.1, (l.stays.0 k.0 k.1 k.2, m.any (kind_of t)))
 
   -- One comes that may not.
   pub reads_node : (c : NodeContext) → (IsFor g ss → context_at (place_of ss') ≡ c) → (IsFor g ss → closes ss' (kind_of t) ≡ false) → (IsFor g ss → Settles g ss (Some t) (Goal.node c) ss')
       → (IsFor g ss → is_over_document ss' ≡ true → (is_past_directives g ss ≡ true) ⊎ IsNoDirective (Some t)) → Leaves g ss (Some t) None (Goal.node c) ss'
   reads_node c e a settles past =
-      leaves_so 0 (λ n f. (m.nested n f, (m.under f, e f))) (λ f. refl) (λ f u r b. leads u b)
-      (λ f r o. leads t (ap (λ x. begins_node x (kind_of t)) (sym (e f)) ∙ must_begin ss' t (m.under f) (a f) (ap (refuses 12 t) (sym m.work) ∙ r 12))) m.opened settles past
-    where
-      leads : (u : Tok) → begins_node c (kind_of u) ≡ true → Leads 0 g ss None (Goal.node c) ss' u
-      leads u b = cc (m.work, m.any (kind_of u), b)
+      leaves_so (λ n f. (m.nested n f, (m.under f, e f))) (λ f. refl) (λ f u r b. leads 0 (cc (m.work, m.any (kind_of u), b)))
+      (λ f r o. leads 0 (cc (m.work, m.any (kind_of t), ap (λ x. begins_node x (kind_of t)) (sym (e f)) ∙ must_begin ss' t (m.under f) (a f) (ap (refuses 12 t) (sym m.work) ∙ r 12)))) m.opened settles past
 
 -- ---- what may come where no node does
 

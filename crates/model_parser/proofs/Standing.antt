@@ -21,14 +21,11 @@ looks {g} {ss} {taken} o s = record {
   nested = s.nested;
   fits = s.fits;
   opened = s.opened;
-  settled = by s.settled;
+  settled = let h = s.settled in grind (arith, as_tokens);
   past = λ h. absurd (s.past h);
   sound = s.sound;
   exact = λ ts es u d. s.exact ts es tt d;
 }
-  where
-    by : IsSettled g ss taken None → IsSettled g ss taken o
-    by h = grind (arith, as_tokens)
 
 -- What a state reads is read next.
 pub top_of : (s : State) (ss : List State) → top (goal_of s) ss ≡ goal_of s
@@ -42,19 +39,15 @@ pops {s} {ss} {taken} {p} h = record {
   nested = h.nested.1;
   fits = h.nested.0;
   opened = h.opened;
-  settled = by h.settled;
+  settled = let e = h.settled in let same = top_of s ss in grind (arith, as_tokens, goes_on, at_directive);
   past = λ e. h.past (grind arith);
   sound = λ ts es a. h.sound ts es (a.0, first_of s ss ts ∙ a.1);
   exact = λ ts es u d. let x = h.exact ts es u d in (x.0, x.1, (x.2.0, sym (first_of s ss ts) ∙ x.2.1));
 }
-  where
-    by : IsSettled Goal.done (s ∷ ss) taken p → IsSettled (goal_of s) ss taken p
-    by e = let same = top_of s ss in grind (arith, as_tokens, goes_on, at_directive)
 
 -- At the end the tokens taken are a stream, and begin no other.
 read_out : (ts : List Tok) (es : List Raw) → Derives grammar [] ts es → (ts ≡ []) × (es ≡ [])
-read_out [] _ nothing_left = (refl, refl)
-read_out (t ∷ ts) es d = elim d [ ]
+read_out ts es d = grind arith
 
 pub ends : (ss : List State) (taken : List Tok) (given : List Raw) → IsOnTrack Goal.ended ss taken None given → StreamSays taken given × ((ts : List Tok) (es : List Raw) → StreamSays (taken ++ ts) es → (ts ≡ []) × (es ≡ given))
 ends [] taken given s = (

@@ -1,6 +1,6 @@
 -- A turn of the parser by the rows of the grammar's table.
-use Rattle.model_parser.proofs.Common.{◌≡◌, [], ap, arith, Awaits, AwaitsAt, before, Bool, by_leaving, by_taking, cases, Derives, event_at, event_then, Extent, false, first_may, Goal, goes, grammar, Held, is_past_directives, IsAt, IsAtFirst, IsFor, IsNested, IsNext, IsNoDirective, IsThere, Kind, kind_of, Leaves, leaves, List, may_begin, next_at, next_past, None, open_at, open_past, Option, Part, placed, placed_before, placed_by, PlacedWork, Places, Position, position_at, Raw, reading, refl, refused, Refuses, Row, row_of, saying, says, Settles, Some, State, step, subst, suc, sym, Takes, takes, Then, Tok, Token, true, Turned, work_of, Works, zero, ℕ, ◌++◌, ◌∙◌, ◌∷◌, ◌≡◌, ◌⊎◌}
-use Rattle.model_parser.proofs.Completions.{taken_by, left_by, none_by, said_by, all_complete}
+use Rattle.model_parser.proofs.Common.{◌≡◌, [], ap, arith, Awaits, AwaitsAt, before, Bool, by_leaving, by_taking, cases, Derives, event_at, event_then, Extent, false, first_may, Goal, goes, grammar, Held, is_past_directives, IsAt, IsAtFirst, IsFor, IsNested, IsNext, IsNoDirective, IsThere, Kind, kind_of, Leaves, leaves, List, may_begin, next_at, next_past, None, open_at, open_past, Option, placed, placed_before, placed_by, PlacedWork, Places, Position, position_at, Raw, reading, refl, refused, Refuses, Row, row_of, saying, says, Settles, Some, State, step, subst, suc, sym, Takes, takes, Then, Tok, Token, true, Turned, work_of, Works, zero, ℕ, ◌++◌, ◌∙◌, ◌∷◌, ◌≡◌, ◌⊎◌}
+use Rattle.model_parser.proofs.Completions.{RowRest, rest_by, said_by, all_complete}
 use Rattle.model_parser.proofs.Falls.{grammar_completes}
 use Rattle.model_parser.proofs.Steps.{Sound, step_sound}
 use Rattle.model_parser.proofs.Places.{or_at, plain_work, plain_before}
@@ -26,29 +26,25 @@ saying_at : (e : Option Raw) (w : Works) (b : Option Position) (k : Token) (m : 
 saying_at None w b k m at q x c ts es d = subst (λ v. Places x c v ts es) (sym (quiet_placed k b w q)) d
 saying_at (Some y) w b k m at q x c ts es d = places.says at (subst (λ v. Places x c v ts es) (sym (quiet_placed k b w q)) d)
 
--- A row takes it.
-pub by_row : {g : table.Goal} {h : Held} {w : Works} {t : Tok} {e : Option Raw} {w' : Works} (ps : List (Part table.Goal Raw))
-    → row_of (cases g) t ≡ Some (takes ps) → before grammar h t ps w ≡ and_saying e w' → Reads (reading g h ∷ w) t e w'
-by_row {g} {h} {w} {t} {e} {w'} ps r b = record {
-  back = λ ts es d. by_taking ps r (subst (λ v. Derives grammar v ts (event_then e es)) (sym b) (grind (arith, says)));
-  on = λ ts es d. let x : Derives grammar (and_saying e w') ts es = subst (λ v. Derives grammar v ts es) b (taken_by d ps r) in grind (arith, said_by);
-  places = λ q q' x c k m same at ts es d.
-      let there : placed_before k c h ps (placed w) ≡ placed_by (position_at k c) (and_saying e w') =
-      ap (placed_before k c h ps) (sym (quiet_placed k c w q)) ∙ placed_row k c h ps w ∙ ap (λ u. placed_by (position_at k c) (before grammar h u ps w)) same ∙ ap (placed_by (position_at k c)) b in
-      places.by_taking {es = event_at e m es} ps (ap (λ u. row_of (cases g) u) same ∙ r)
-      (subst (λ v. Places x (Some k.position) v ts (event_at e m es)) (sym there) (saying_at e w' c k m at q' x (Some k.position) ts es d));
-}
-
 -- what is left to show of the row that is the token's
 abbrev pub RowReads : Held → Works → Tok → Option Raw → Works → Option (Row table.Goal Raw) → Type 0
 RowReads h w t e w' (Some (takes ps)) = before grammar h t ps w ≡ and_saying e w'
 RowReads h w t e w' r = ⊥
 
+-- A row takes it.
 pub reads_so : {g : table.Goal} {h : Held} {w : Works} {t : Tok} {e : Option Raw} {w' : Works} → RowReads h w t e w' (row_of (cases g) t) → Reads (reading g h ∷ w) t e w'
 reads_so {g} {h} {w} {t} {e} {w'} b = by (row_of (cases g) t) refl b
   where
     by : (r : Option (Row table.Goal Raw)) → row_of (cases g) t ≡ r → RowReads h w t e w' r → Reads (reading g h ∷ w) t e w'
-    by (Some (takes ps)) r b = by_row ps r b
+    by (Some (takes ps)) r b = record {
+      back = λ ts es d. by_taking ps r (subst (λ v. Derives grammar v ts (event_then e es)) (sym b) (grind (arith, says)));
+      on = λ ts es d. let x : Derives grammar (and_saying e w') ts es = subst (λ v. Derives grammar v ts es) b (rest_by d (Some (takes ps)) r) in grind (arith, said_by);
+      places = λ q q' x c k m same at ts es d.
+          let there : placed_before k c h ps (placed w) ≡ placed_by (position_at k c) (and_saying e w') =
+          ap (placed_before k c h ps) (sym (quiet_placed k c w q)) ∙ placed_row k c h ps w ∙ ap (λ u. placed_by (position_at k c) (before grammar h u ps w)) same ∙ ap (placed_by (position_at k c)) b in
+          places.by_taking {es = event_at e m es} ps (ap (λ u. row_of (cases g) u) same ∙ r)
+          (subst (λ v. Places x (Some k.position) v ts (event_at e m es)) (sym there) (saying_at e w' c k m at q' x (Some k.position) ts es d));
+    }
     by r q b = absurd b
 
 pub first_any : (g : Goal) (ss : List State) (ts : List Tok) → ((k : Kind) → may_begin g ss k ≡ true) → first_may g ss ts ≡ true
@@ -99,7 +95,7 @@ by_steps (suc n) t (reading g h ∷ w) = by (row_of (cases g) t) refl (λ v. by_
   where
     by : (r : Option (Row table.Goal Raw)) → row_of (cases g) t ≡ r → ((v : Works) → Stays t v (steps n t v).0 (steps n t v).1)
         → Stays t (reading g h ∷ w) (leave_row h t g w (λ v. steps n t v) r).0 (leave_row h t g w (λ v. steps n t v) r).1
-    by (Some (leaves ps)) q again = let i = again (before grammar h t ps w) in (λ ts fs d. by_leaving ps q (i.0 ts fs d), λ ts gs d. i.1 ts gs (left_by d ps q))
+    by (Some (leaves ps)) q again = let i = again (before grammar h t ps w) in (λ ts fs d. by_leaving ps q (i.0 ts fs d), λ ts gs d. i.1 ts gs (rest_by d (Some (leaves ps)) q))
     by r q again = (λ ts fs d. d, λ ts gs d. (gs, refl, d))
 
 -- ---- and where its events stand
@@ -129,11 +125,10 @@ steps_at (suc n) x b k m (reading g h ∷ w) = by (row_of (cases g) k.tok) refl 
 each_one : (b : Option Position) (k : Token) (e : Option Raw) (m : Position) (fs : List (Raw × Position)) → IsAt b k e m → each_at (λ x. or_at m (position_at k b x)) (event_list e) fs ≡ event_at e m fs
 each_one b k e m fs at = grind arith
 
-pub leads_at : (n : ℕ) (w : Works) (e : Option Raw) (w' : Works) (x : Extent) (b : Option Position) (k : Token) (m : Position) → is_quiet any_held w ≡ true → is_quiet any_held w' ≡ true → IsAt b k e m → steps n k.tok w ≡ (event_list e, w')
-    → (ts : List Token) (fs : List (Raw × Position)) → Places x b (placed w') (k ∷ ts) fs → Places x b (placed w) (k ∷ ts) (event_at e m fs)
-leads_at n w e w' x b k m q q' at h ts fs d =
-    let y = subst (StaysAt x b k m w) h (steps_at n x b k m w) ts fs (subst (λ v. Places x b v (k ∷ ts) fs) (sym (quiet_placed k b w' q')) d) in
-    subst (λ v. Places x b v (k ∷ ts) (event_at e m fs)) (quiet_placed k b w q) (subst (λ es. Places x b (placed_by (position_at k b) w) (k ∷ ts) es) (each_one b k e m fs at) y)
+-- What is read behind the row of the next token, for a search.
+pub row_read : (g : table.Goal) (h : Held) (w : Works) (t : Tok) (ts : List Tok) (es : List Raw) → Derives grammar (reading g h ∷ w) (t ∷ ts) es
+    → RowRest grammar h w t ts es (row_of (cases g) t)
+row_read g h w t ts es d = rest_by d (row_of (cases g) t) refl
 
 -- Two goals that have the same row for a token read it alike.
 pub placed_alike : {g g' : table.Goal} {h : Held} {w : PlacedWork} {x : Extent} {b : Option Position} {k : Token} {ts : List Token} {es : List (Raw × Position)}
@@ -172,8 +167,8 @@ not_refused (suc n) t (saying e ∷ w) ts es d = let s = said_by d in not_refuse
 not_refused (suc n) t (reading g h ∷ w) ts es d = by (row_of (cases g) t) refl (λ v x. not_refused n t v ts es x)
   where
     by : (r : Option (Row table.Goal Raw)) → row_of (cases g) t ≡ r → ((v : Works) → Derives grammar v (t ∷ ts) es → refuses n t v ≡ false) → refuse_row h t w (λ v. refuses n t v) r ≡ false
-    by (Some (leaves ps)) q again = again (before grammar h t ps w) (left_by d ps q)
-    by r q again = grind (arith, none_by d)
+    by (Some (leaves ps)) q again = again (before grammar h t ps w) (rest_by d (Some (leaves ps)) q)
+    by r q again = let x = rest_by d r q in grind arith
 
 -- nor is one that is read with positions
 placed_admits : (n : ℕ) (x : Extent) (b : Option Position) (k : Token) (v : PlacedWork) (ts : List Token) (es : List (Raw × Position)) → Places x b v (k ∷ ts) es → refuses n k.tok (plain_work v) ≡ false
@@ -216,17 +211,34 @@ Leads n g ss e g' ss' t = leading n g ss g' ss' t ≡ led e g' ss'
 abbrev pub Admits : Works → Tok → Type 0
 Admits w t = (m : ℕ) → refuses m t w ≡ false
 
-pub leads_stay : (n : ℕ) (w : Works) (e : Option Raw) (w' : Works) (t : Tok) → steps n t w ≡ (event_list e, w') → Stays t w (event_list e) w'
-leads_stay n w e w' t h = subst (λ x. Stays t w x.0 x.1) h (by_steps n t w)
+-- With that token, one goal says this event or none and goes on as the other, wherever the event stands; and it may come in both places.
+pub record Alike (g : Goal) (ss : List State) (e : Option Raw) (g' : Goal) (ss' : List State) (t : Tok) : Type 0 where
+  pub stays : Stays t (work_of g ss) (event_list e) (work_of g' ss')
+  pub places : (x : Extent) (b : Option Position) (k : Token) (m : Position) → k.tok ≡ t → IsAt b k e m → (ts : List Token) (fs : List (Raw × Position))
+      → Places x b (placed (work_of g' ss')) (k ∷ ts) fs → Places x b (placed (work_of g ss)) (k ∷ ts) (event_at e m fs)
+  pub may : (may_begin g ss (kind_of t) ≡ true) × (may_begin g' ss' (kind_of t) ≡ true)
 
--- What leads there, and where the token leads.
-pub leaves_so : {g : Goal} {ss : List State} {t : Tok} {e : Option Raw} {g' : Goal} {ss' : List State} (n : ℕ)
-    → (IsNested ss → IsFor g ss → IsNested ss' × IsFor g' ss')
+pub leads : {g : Goal} {ss : List State} {e : Option Raw} {g' : Goal} {ss' : List State} {t : Tok} (n : ℕ) → Leads n g ss e g' ss' t → Alike g ss e g' ss' t
+leads {g} {ss} {e} {g'} {ss'} {t} n l =
+    let v = work_of g ss in
+    let w = work_of g' ss' in
+    let h : steps n t v ≡ (event_list e, w) = ap (λ x. x.0) l in
+    record {
+      stays = subst (λ x. Stays t v x.0 x.1) h (by_steps n t v);
+      places = λ x b k m same at ts fs d.
+          let y = subst (StaysAt x b k m v) (ap (λ u. steps n u v) same ∙ h) (steps_at n x b k m v) ts fs (subst (λ u. Places x b u (k ∷ ts) fs) (sym (quiet_placed k b w (work_quiet g' ss'))) d) in
+          subst (λ u. Places x b u (k ∷ ts) (event_at e m fs)) (quiet_placed k b v (work_quiet g ss))
+          (subst (λ es. Places x b (placed_by (position_at k b) v) (k ∷ ts) es) (each_one b k e m fs at) y);
+      may = (ap (λ x. x.1) l, ap (λ x. x.2) l);
+    }
+
+-- Whatever comes there, and that token here, is read alike.
+pub leaves_so : {g : Goal} {ss : List State} {t : Tok} {e : Option Raw} {g' : Goal} {ss' : List State} → (IsNested ss → IsFor g ss → IsNested ss' × IsFor g' ss')
     → (IsFor g ss → has_goal (work_of g' ss') ≡ true)
-    → (IsFor g ss → (u : Tok) → Admits (work_of g' ss') u → may_begin g' ss' (kind_of u) ≡ true → Leads n g ss e g' ss' u)
-    → (IsFor g ss → Admits (work_of g ss) t → may_begin g ss (kind_of t) ≡ true → Leads n g ss e g' ss' t)
+    → (IsFor g ss → (u : Tok) → Admits (work_of g' ss') u → may_begin g' ss' (kind_of u) ≡ true → Alike g ss e g' ss' u)
+    → (IsFor g ss → Admits (work_of g ss) t → may_begin g ss (kind_of t) ≡ true → Alike g ss e g' ss' t)
     → open_at g ss ≡ open_at g' ss' → (IsFor g ss → Settles g ss (Some t) g' ss') → (IsFor g ss → is_past_directives g' ss' ≡ true → (is_past_directives g ss ≡ true) ⊎ IsNoDirective (Some t)) → Leaves g ss (Some t) e g' ss'
-leaves_so {g} {ss} {t} {e} {g'} {ss'} n nested goal back on opened settles past = record {
+leaves_so {g} {ss} {t} {e} {g'} {ss'} nested goal back on opened settles past = record {
   nested = nested;
   comes = λ m f ts es a. come f ts es a;
   goes = λ m f ts es k a. go f ts es k a;
@@ -240,22 +252,21 @@ leaves_so {g} {ss} {t} {e} {g'} {ss'} n nested goal back on opened settles past 
         → (es : List (Raw × Position)) → AwaitsAt x b g' ss' ts es → AwaitsAt x b g ss ts (event_at e m es)
     place f x b m [] there at es a = absurd there
     place f x b m (k ∷ ts) there at es a =
-        let l = back f k.tok (λ i. reads_first i x b k (work_of g' ss') ts es a.0) a.1 in
-        (leads_at n (work_of g ss) e (work_of g' ss') x b k m (work_quiet g ss) (work_quiet g' ss') at (ap (λ x. x.0) l) ts es a.0, ap (λ x. x.1) l)
+        let l = back f k.tok (λ i. reads_first i x b k (work_of g' ss') ts es a.0) a.1 in (l.places x b k m refl at ts es a.0, l.may.0)
 
     come : IsFor g ss → (ts : List Tok) (es : List Raw) → Awaits g' ss' ts es → Awaits g ss ts (event_then e es)
     come f [] es a = absurd (needs_tokens (work_of g' ss') es (goal f) a.0)
     come f (u ∷ us) es a =
         let l = back f u (λ m. not_refused m u (work_of g' ss') us es a.0) a.1 in
-        (subst (λ x. Derives grammar (work_of g ss) (u ∷ us) x) (in_list e es) ((leads_stay n (work_of g ss) e (work_of g' ss') u (ap (λ x. x.0) l)).0 us es a.0), ap (λ x. x.1) l)
+        (subst (λ x. Derives grammar (work_of g ss) (u ∷ us) x) (in_list e es) (l.stays.0 us es a.0), l.may.0)
 
     go : IsFor g ss → (ts : List Tok) (es : List Raw) → IsNext (Some t) ts → Awaits g ss ts es → Then e g' ss' ts es
     go f [] es k a = absurd k
     go f (u ∷ us) es k a =
         let b = subst (λ x. Awaits g ss (x ∷ us) es) k a in
         let l = on f (λ m. not_refused m t (work_of g ss) us es b.0) b.1 in
-        let x = (leads_stay n (work_of g ss) e (work_of g' ss') t (ap (λ x. x.0) l)).1 us es b.0 in
-        (x.0, x.1 ∙ in_list e x.0, subst (λ y. Awaits g' ss' (y ∷ us) x.0) (sym k) (x.2, ap (λ x. x.2) l))
+        let x = l.stays.1 us es b.0 in
+        (x.0, x.1 ∙ in_list e x.0, subst (λ y. Awaits g' ss' (y ∷ us) x.0) (sym k) (x.2, l.may.1))
 
 -- ---- refusals, and what may come
 

@@ -9,13 +9,9 @@ abbrev pub Sound : {G T E H : Type 0} → Table G T E H → List (Work G E H) �
 Sound {T = T} {E = E} a w t (goes es v) = (ts : List T) (fs : List E) → Derives a v ts fs → Derives a w (t ∷ ts) (es ++ fs)
 Sound a w t (refused es) = Unit {0}
 
-sound_leaving : {G T E H : Type 0} (a : Table G T E H) (g : G) (h : H) (w : List (Work G E H)) (t : T) (ps : List (Part G E)) (o : Turned G E H)
-    → row_of (a.cases g) t ≡ Some (leaves ps) → Sound a (before a h t ps w) t o → Sound a (reading g h ∷ w) t o
-sound_leaving a g h w t ps o p s = grind (arith, by_leaving)
-
 sound_row : {G T E H : Type 0} (a : Table G T E H) (g : G) (h : H) (w : List (Work G E H)) (t : T) (again : List (Work G E H) → Turned G E H) (r : Option (Row G E))
     → row_of (a.cases g) t ≡ r → ((v : List (Work G E H)) → Sound a v t (again v)) → Sound a (reading g h ∷ w) t (by_row a h t w again r)
-sound_row a g h w t again r p s = grind (arith, by_taking, sound_leaving)
+sound_row a g h w t again r p s = grind (arith, by_taking, by_leaving)
 
 pub step_sound : {G T E H : Type 0} (a : Table G T E H) (n : ℕ) (w : List (Work G E H)) (t : T) → Sound a w t (step a n w t)
 step_sound a zero w t = tt

@@ -1,8 +1,8 @@
 -- The steps of a parser by a table: whatever the table, it stays on track.
-use Rattle.model_parser.proofs.Common.{[], ap, append_assoc, arith, before, Begins, Bool, by_leaving, by_taking, Derives, false, goes, GoesOn, inl, inr, IsOnTrack, leaves, List, MayBegin, NeverGoesOn, None, Option, Part, reading, refl, refused, Row, row_of, saying, says, Some, step, subst, suc, sym, Table, takes, true, Turned, Work, work_weight, ℕ, ◌++◌, ◌<◌, ◌∙◌, ◌∷◌, ◌≡◌, ◌⊎◌}
+use Rattle.model_parser.proofs.Common.{[], ap, append_assoc, arith, before, Begins, Bool, by_leaving, by_taking, Derives, false, goes, GoesOn, inl, inr, IsOnTrack, leaves, List, MayBegin, NeverGoesOn, None, Option, Part, reading, refl, refused, Row, row_of, saying, says, Some, step, subst, suc, sym, Table, takes, true, Turned, Work, work_weight, ℕ, ◌++◌, ◌∙◌, ◌∷◌, ◌≡◌, ◌⊎◌}
 use Rattle.model_parser.specs.Track.{IsNext}
 use Rattle.model_parser.proofs.Steps.{Sound, step_sound}
-use Rattle.model_parser.proofs.Completions.{taken_by, left_by, none_by, said_by, along, Completes, all_complete}
+use Rattle.model_parser.proofs.Completions.{rest_by, said_by, Completes, all_complete}
 
 -- ---- what is asked of a table
 
@@ -16,13 +16,21 @@ abbrev pub LeavingRow : {G T E H : Type 0} → Table G T E H → (G → ℕ) →
 LeavingRow a m ends g t (takes ps) = Unit {0}
 LeavingRow {G = G} {T = T} {E = E} {H = H} a m ends g t (leaves ps) =
     HaveIt a ends g t ps
-    ⊎ ((n : ℕ) (h : H) (w : List (Work G E H)) (es : List E) → work_weight m (before a h t ps w) < n → step a n (before a h t ps w) t ≡ refused es → ⊥)
+    ⊎ ((h : H) (w : List (Work G E H)) (es : List E) → step a (suc (work_weight m (before a h t ps w))) (before a h t ps w) t ≡ refused es → ⊥)
+
+-- The first of these tokens passes a test.
+abbrev pub begins_so : {T : Type 0} → (T → Bool) → List T → Bool
+begins_so f [] = false
+begins_so f (t ∷ ts) = f t
 
 -- A goal that refuses tokens is read to its end by tokens that begin with one that ends a goal.
-abbrev pub EndsGoal : {G T E H : Type 0} → Table G T E H → (ends : T → Bool) → G → H → Type 0
-EndsGoal {T = T} {E = E} a ends g h = (u : T) × (us : List T) × (es : List E) × (ends u ≡ true) × Derives a (reading g h ∷ []) (u ∷ us) es
+abbrev pub EndsGoal : {G T E H : Type 0} {a : Table G T E H} → Completes a → (ends : T → Bool) → G → H → Type 0
+EndsGoal c ends g h = begins_so ends (c g h).0 ≡ true
 
 -- ---- steps
+
+may_end : {T : Type 0} (ends : T → Bool) (t : T) (ts us : List T) (too : Bool) → too ≡ true → begins_so ends ts ≡ true → MayBegin ends too (Some t) (ts ++ us)
+may_end ends t ts us too p e = grind arith
 
 pub starts : {G T E H : Type 0} (a : Table G T E H) (ends : T → Bool) (w : List (Work G E H)) → IsOnTrack a ends w w [] None []
 starts a ends w = record { too = true; sound = λ ts es b d. d; exact = λ ts es n d. (es, refl, d); safe = λ f. absurd (cc f) }
@@ -49,7 +57,7 @@ module _ {G T E H : Type 0} {a : Table G T E H} {ends : T → Bool} {start : Lis
       too = true;
       sound = λ ts es b d.
           subst (λ l. Derives a start l (given ++ es)) (sym (append_assoc taken (t ∷ []) ts)) (x.sound (t ∷ ts) es (grind arith) (by_taking ps r d));
-      exact = λ ts es n d. let y = x.exact (t ∷ ts) es refl (subst (λ l. Derives a start l es) (append_assoc taken (t ∷ []) ts) d) in (y.0, y.1, taken_by y.2 ps r);
+      exact = λ ts es n d. let y = x.exact (t ∷ ts) es refl (subst (λ l. Derives a start l es) (append_assoc taken (t ∷ []) ts) d) in (y.0, y.1, rest_by y.2 (Some (takes ps)) r);
       safe = λ f. absurd (cc f);
     }
 
@@ -71,7 +79,7 @@ module _ {G T E H : Type 0} {a : Table G T E H} {ends : T → Bool} {start : Lis
     left_exact ps r (u ∷ ts) es n d =
         let y = x.exact (u ∷ ts) es n d in
         let z : Derives a (reading g h ∷ w) (t ∷ ts) y.0 = subst (λ v. Derives a (reading g h ∷ w) (v ∷ ts) y.0) n y.2 in
-        (y.0, y.1, subst (λ v. Derives a (before a h t ps w) (v ∷ ts) y.0) (sym n) (left_by z ps r))
+        (y.0, y.1, subst (λ v. Derives a (before a h t ps w) (v ∷ ts) y.0) (sym n) (rest_by z (Some (leaves ps)) r))
 
     -- work whose turn does not refuse the token goes on with it
     not_refused : (v : List (Work G E H)) (o : Turned G E H) → Completes a → Sound a v t o → ((es : List E) → o ≡ refused es → ⊥) → GoesOn a v (Some t)
@@ -84,7 +92,7 @@ module _ {G T E H : Type 0} {a : Table G T E H} {ends : T → Bool} {start : Lis
       too = x.too;
       sound = λ ts es b d. x.sound ts es b (left_sound ps ts x.too r (λ e. l) b d);
       exact = λ ts es n d. left_exact ps r ts es n d;
-      safe = λ f. let y = x.safe f in (y.0, y.1, left_by y.2 ps r);
+      safe = λ f. let y = x.safe f in (y.0, y.1, rest_by y.2 (Some (leaves ps)) r);
     }
     leave m c ps r (inr l) =
         let v = before a h t ps w in
@@ -93,17 +101,16 @@ module _ {G T E H : Type 0} {a : Table G T E H} {ends : T → Bool} {start : Lis
           too = false;
           sound = λ ts es b d. x.sound ts es (grind arith) (left_sound ps ts false r (λ e. cc e) b d);
           exact = λ ts es k d. left_exact ps r ts es k d;
-          safe = λ f. not_refused v (step a n v t) c (step_sound a n v t) (λ es p. l n h w es (omega arith) p);
+          safe = λ f. not_refused v (step a n v t) c (step_sound a n v t) (λ es p. l h w es p);
         }
 
     -- No row is for the next token: no stream begins so, but one begins with the tokens before and with the events that were given.
-    pub refuse : Completes a → EndsGoal a ends g h → row_of (a.cases g) t ≡ None → Begins a start taken given × NeverGoesOn a start taken t
-    refuse c e r = (begun x.too refl, λ ts es d. let y = x.exact (t ∷ ts) es refl d in none_by y.2 r)
+    pub refuse : (c : Completes a) → EndsGoal c ends g h → row_of (a.cases g) t ≡ None → Begins a start taken given × NeverGoesOn a start taken t
+    refuse c e r = (begun x.too refl, λ ts es d. let y = x.exact (t ∷ ts) es refl d in rest_by y.2 None r)
       where
         begun : (b : Bool) → x.too ≡ b → Begins a start taken given
         begun true p =
-            let k = all_complete a c w in
-            let d = along a (reading g h ∷ []) w (e.0 ∷ e.1) k.0 e.2 k.1 e.4 k.2 in
-            let b : MayBegin ends x.too (Some t) (e.0 ∷ (e.1 ++ k.0)) = subst (λ z. MayBegin ends z (Some t) (e.0 ∷ (e.1 ++ k.0))) (sym p) (inr e.3) in
-            (e.0 ∷ (e.1 ++ k.0), e.2 ++ k.1, x.sound (e.0 ∷ (e.1 ++ k.0)) (e.2 ++ k.1) b d)
-        begun false p = let y = x.safe p in absurd (none_by y.2 r)
+            let k = all_complete a c (reading g h ∷ w) in
+            let b : MayBegin ends x.too (Some t) k.0 = may_end ends t (c g h).0 (all_complete a c w).0 x.too p e in
+            (k.0, k.1, x.sound k.0 k.1 b k.2)
+        begun false p = let y = x.safe p in absurd (rest_by y.2 None r)

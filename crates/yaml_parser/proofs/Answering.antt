@@ -13,5 +13,5 @@ pub use Rattle.yaml_parser.proofs.Parsing.{advanced, event_given, fault_met, fau
 pub use Rattle.yaml_parser.proofs.Says.{says_after, says_directed, says_explicit, says_inside, says_node}
 pub use Rattle.yaml_parser.proofs.Steps.{if_some_at, looked, looks_on}
 pub use Rattle.yaml_parser.proofs.Ways.{after_goes_apart, explicit_right, goes_apart}
-pub use Rattle.yaml_parser.proofs.Common.{Advances, answered, [], after_braces, after_brackets, after_dash, after_key_empty, after_mapping, after_refuses, after_scalar, after_sequence, after_unmarked, all_placed, anchor_alone, anchor_tag, ap, arith, At, block_flow, block_mapping, block_sequence, BlockMappingKey, BlockSequenceEntry, bytes_eq, codes, comma_flow_has_pair, common_steps, content_empty, directed_refuses, Directing, DirectiveWithoutDocumentEnd, documents_bare, documents_explicit, DocumentStartToken, ends, entries_refuses, Err, Ev, explicit_refuses, false, flow_after_empty, flow_empties, flow_mapping, flow_pair_node, flow_pairs_pair, flow_sequence, flow_valued_empty, flow_valued_node, FlowMappingEntry, FlowSequenceEntry, get_by_text, Goal, Has, IfSome, if◌then◌else◌, indentless_entries_end, inl, inr, is_document_end, is_open, is_own, is_some, IsHeld, IsNamed, item_node, items_item, key_pairs_refuses, kind_of, Loads, mapping_under, more_flow_refuses, more_items_refuses, node_anchor, node_tag, NodeContent, None, not, nothing_refuses, Ok, option_map, pair_ends, pair_value_empty, pairs_key, parsed, part_block, part_empty, part_has_node, perhaps_tag_of, placed, properties_only, Raw, Reader, refl, Some, start_of, start_refuses, stays_steady, string_bytes, subst, sym, tag_alone, tag_anchor, TakesBoth, Tok, tok_of, true, with_anchor, ◌+◌, ◌∙◌, ◌≡◌, ◌⊎◌, block_turns, document_turns, flow_turns, read, behind, all_shown, problem_of, Faulted}
+pub use Rattle.yaml_parser.proofs.Common.{Advances, answered, [], after_braces, after_brackets, after_dash, after_key_empty, after_mapping, after_refuses, after_scalar, after_sequence, after_unmarked, all_placed, anchor_alone, anchor_tag, ap, arith, At, block_flow, block_mapping, block_sequence, BlockMappingKey, BlockSequenceEntry, bytes_eq, codes, common_steps, content_empty, directed_refuses, Directing, DirectiveWithoutDocumentEnd, documents_bare, documents_explicit, DocumentStartToken, ends, Err, Ev, false, flow_after_empty, flow_empties, flow_mapping, flow_pair_node, flow_sequence, flow_valued_empty, flow_valued_node, FlowMappingEntry, FlowSequenceEntry, get_by_text, Goal, Has, IfSome, if◌then◌else◌, indentless_entries_end, inl, inr, is_document_end, is_open, is_own, is_some, IsHeld, IsNamed, item_node, kind_of, Loads, mapping_under, node_anchor, node_tag, NodeContent, None, not, nothing_refuses, Ok, option_map, pair_value_empty, parsed, part_block, part_empty, part_has_node, perhaps_tag_of, placed, properties_only, Raw, Reader, refl, Some, start_of, stays_steady, string_bytes, subst, sym, tag_alone, tag_anchor, TakesBoth, Tok, tok_of, true, with_anchor, ◌+◌, ◌∙◌, ◌≡◌, ◌⊎◌, block_turns, document_turns, flow_turns, plain_flow_turns, plain_turns, read, behind, all_shown, problem_of, Faulted}
 unfoldable pub use Rattle.yaml_parser.proofs.Common.{string_chars}

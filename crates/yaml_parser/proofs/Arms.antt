@@ -3,7 +3,6 @@ use Rattle.yaml_parser.proofs.Common.{IsRightAfter, arith, [], answered, Answers
 use Rattle.yaml_parser.proofs.Positions.{behind_more}
 use Rattle.yaml_parser.proofs.Steps.{looked, took, left, Named, breaks, if_some_at, gave, gave_none}
 use Rattle.defs_token.specs.Token as defs
-use Rattle.model_parser.specs.declared.kind.Kind.TheVariants as kind
 
 -- the token at hand is taken, and this is what there is after it
 abbrev pub Skipped : {T : Type 0} → Reader T → Reader T → List State → Type 0
@@ -127,8 +126,7 @@ fails {T} p given (Ok u) slot h f = cc
 fails {T} p given (Err e) slot h f = f
 
 pub error_is : {A E : Type 0} (r : Result A E) (x : E) → IsErrAnd r (λ e. e ≡ x) → r ≡ Err x
-error_is (Ok u) x h = absurd h
-error_is (Err e) x h = ap Err h
+error_is r x h = grind arith
 
 pub is_error : {A E : Type 0} (r : Result A E) (x : E) → IsErrAnd r (λ e. e ≡ x) → IsErr r
 is_error r x h = ap is_err (error_is r x h)

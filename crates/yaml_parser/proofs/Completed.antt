@@ -6,7 +6,6 @@ use Rattle.model_parser.specs.Rest.{place_of as where_it_stands}
 use Rattle.model_parser.proofs.Quiet.{is_quiet, past_quiet, works_quiet}
 use Rattle.defs_event.specs.Grammar as table
 use Rattle.model_parser.specs.declared.kind.Kind.TheVariants as kind
-use Rattle.model_parser.specs.declared.context.NodeContext.TheVariants as context
 use Rattle.model_parser.specs.declared.state.State.TheVariants as state
 
 -- ---- it can be named
@@ -46,8 +45,7 @@ are_free [] = true
 are_free (e ∷ es) = is_free e && are_free es
 
 is_some_value : {A : Type 0} (o : Option A) → IsSome o → (x : A) × (o ≡ Some x)
-is_some_value None h = cc
-is_some_value (Some x) h = (x, refl)
+is_some_value o h = grind arith
 
 pub free_named : (keep : Bool) (es : List Raw) → are_free es ≡ true → AnyNameable keep es
 free_named keep [] h s = ([], refl)
@@ -134,11 +132,8 @@ is_barred (Goal.flow_pair s) = true
 is_barred _ = false
 
 may_end : (g : Goal) (ss : List State) → is_barred g ≡ false → first_may g ss (end_tokens (work_of g ss)) ≡ true
-may_end (Goal.node context.Flow) ss h = refl
-may_end (Goal.node _) ss h = refl
-may_end (Goal.after_properties context.Flow None) ss h = refl
-may_end (Goal.after_properties _ None) ss h = refl
-may_end (Goal.after_properties _ (Some o)) ss h = refl
+may_end (Goal.node q) ss h = grind arith
+may_end (Goal.after_properties q o) ss h = grind arith
 may_end Goal.key_pairs ss h = refl
 may_end Goal.item ss h = cc
 may_end (Goal.flow_pair s) ss h = cc

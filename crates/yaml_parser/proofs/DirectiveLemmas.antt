@@ -41,9 +41,7 @@ once_twice h p (q ∷ xs) more e = let there = is_there h p xs more in grind (ar
 declared_append : (ds es : List Directive) → declared (ds ++ es) ≡ declared ds ++ declared es
 declared_append [] es = refl
 declared_append (version m n ∷ ds) es = declared_append ds es
-declared_append (tag [] [] ∷ ds) es = declared_append ds es
-declared_append (tag [] (c ∷ p) ∷ ds) es = ap (λ xs. ([], c ∷ p) ∷ xs) (declared_append ds es)
-declared_append (tag (c ∷ h) p ∷ ds) es = ap (λ xs. (c ∷ h, p) ∷ xs) (declared_append ds es)
+declared_append (tag h p ∷ ds) es = let i = declared_append ds es in grind arith
 
 declared_one : (h p : List ℕ) (es : List Directive) → (h ≡ [] → p ≡ [] → ⊥) → declared (tag h p ∷ es) ≡ (h, p) ∷ declared es
 declared_one h p es a = grind arith
@@ -102,15 +100,10 @@ has_declared {code} {new} {keep} {names} {read} handle d h count anchors earlier
 
 -- Names depend on directives by what these declare.
 pub named_alike : {code : Names} (keep : Bool) (names : defs.Names) (read more : List Directive) → declared more ≡ declared read → IsNamed code (at_document keep names read) → IsNamed code (at_document keep names more)
-named_alike {code} keep names read more same x = record {
-  count = x.count;
-  anchors = x.anchors;
-  handles = λ y. x.handles y ∙ sym (ap (λ xs. under_name (string_chars y) (xs ++ (if keep then names.handles else []))) same);
-  numbers = x.numbers;
-}
+named_alike {code} keep names read more same x = rw same x
 
 pub own_alike : {code : Names} (read more : List Directive) → declared more ≡ declared read → IsOwn code read → IsOwn code more
-own_alike {code} read more same x = record { own = λ y. x.own y ∙ sym (ap (λ xs. is_some (under_name (string_chars y) xs)) same); earlier = x.earlier }
+own_alike {code} read more same x = record { own = λ y. rw same (x.own y); earlier = x.earlier }
 
 -- A directive of another name changes nothing.
 pub has_ignored : {code : Names} {keep : Bool} {names : defs.Names} {read : List Directive} (h p : List ℕ) → h ≡ [] → p ≡ [] → HasRead code keep names read

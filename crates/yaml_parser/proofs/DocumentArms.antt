@@ -1,5 +1,5 @@
 -- The arms of the productions of documents.
-use Rattle.yaml_parser.proofs.Common.{[], all_shown, and_from, and_left, and_parts, and_right, ap, append-nil, append_assoc, are_allowed, arith, At, at_document, BeginAt, Bool, Carries, declared, Declares, Derives, directed_more, Directing, Directive, directive_token, directives_tokens, DirectsTo, documents_directives, Err, Ev, events_of, false, Faulted, fits, Goal, grammar, HasRead, IfSome, if◌then◌else◌, inl, is_directive, is_each_once, is_end, is_of_names, is_over, IsAfter, IsCause, IsNamed, IsOfKind, IsOwn, Kind, kind_of, last_position, Leaves, List, lt-leb, named, nat_le, needs_tokens, none_by, None, Ok, Option, option_map, OutOfMemory, Position, Problem, Raw, Reader, reading, refl, RepeatedHandle, Result, taken_by, said_by, SecondVersion, shown, Skips, Some, SpoilsDirectives, Stayed, Fault, subst, sym, taken_toks, Takes, Tok, tok_is, tok_of, Token, Tokens, toks, true, UndeclaredHandle, versions, with_directives, Works, works, ℕ, ◌++◌, ◌+◌, ◌<◌, ◌∙◌, ◌∷◌, ◌≡◌, resolved_event, document_turns}
+use Rattle.yaml_parser.proofs.Common.{nat_tests, [], all_shown, and_right, ap, append-nil, append_assoc, are_allowed, arith, At, at_document, BeginAt, Bool, Carries, declared, Declares, Derives, directed_more, Directing, Directive, directive_token, directives_tokens, DirectsTo, documents_directives, Err, Ev, events_of, false, Faulted, fits, Goal, grammar, HasRead, IfSome, if◌then◌else◌, inl, is_directive, is_each_once, is_end, is_of_names, is_over, IsAfter, IsCause, IsNamed, IsOfKind, IsOwn, Kind, kind_of, last_position, Leaves, List, named, nat_le, needs_tokens, None, Ok, Option, option_map, OutOfMemory, Position, Problem, Raw, Reader, reading, refl, RepeatedHandle, rest_by, Result, said_by, SecondVersion, shown, Skips, Some, SpoilsDirectives, Stayed, Fault, subst, sym, taken_toks, Takes, Tok, tok_is, tok_of, Token, Tokens, toks, true, UndeclaredHandle, versions, with_directives, Works, works, ℕ, ◌++◌, ◌+◌, ◌∙◌, ◌∷◌, ◌≡◌, resolved_event, document_turns}
 use Rattle.yaml_parser.specs.declared.names.Names.{Names}
 use Rattle.yaml_parser.proofs.Steps.{looked, taken_snoc, took, left, if_some_at, gave, gave_none}
 use Rattle.yaml_parser.proofs.Arms.{Skipped, here_at, faulted_as}
@@ -82,39 +82,28 @@ directives_begin {T} {p} {q} k {names} {given} here h tokens stack keep starts o
     }
 
 version_text : (t : Tok) → kind_of t ≡ kind.VersionDirective → (m : ℕ) × (n : ℕ) × (t ≡ Tok.version_directive m n)
-version_text (Tok.version_directive m n) h = (m, n, refl)
-version_text _ h = cc
+version_text t h = grind arith
 
 allowed_version : (read : List Directive) (m n : ℕ) → are_allowed read ≡ true → versions read ≡ 0 → are_allowed (read ++ raw.version m n ∷ []) ≡ true
-allowed_version read m n h e =
-    let one : versions (read ++ raw.version m n ∷ []) ≡ 1 = version_snoc read m n ∙ ap (λ x. x + 1) e in
-    and_from (nat_le (versions (read ++ raw.version m n ∷ [])) 1) (is_each_once (declared (read ++ raw.version m n ∷ []))) (ap (λ x. nat_le x 1) one)
-    (ap is_each_once (version_ignored read m n) ∙ (and_parts (nat_le (versions read) 1) (is_each_once (declared read)) h).1)
+allowed_version read m n h e = let v = version_snoc read m n in let d = version_ignored read m n in grind (arith, nat_tests)
 
 second_version : (read : List Directive) (m n : ℕ) (more : List Directive) → versions read ≡ 1 → are_allowed ((read ++ raw.version m n ∷ []) ++ more) ≡ false
 second_version read m n more e =
-    let two : 1 < versions ((read ++ raw.version m n ∷ []) ++ more) = omega (arith, versions_append (read ++ raw.version m n ∷ []) more, version_snoc read m n) in
-    and_left (nat_le (versions ((read ++ raw.version m n ∷ []) ++ more)) 1) (is_each_once (declared ((read ++ raw.version m n ∷ []) ++ more))) (lt-leb _ 1 two)
+    let v = version_snoc read m n in let all = versions_append (read ++ raw.version m n ∷ []) more in grind (arith, nat_tests)
 
 allowed_tag : (read : List Directive) (h p : List ℕ) → are_allowed read ≡ true → is_each_once (declared (read ++ raw.tag h p ∷ [])) ≡ is_each_once (declared read) → are_allowed (read ++ raw.tag h p ∷ []) ≡ true
-allowed_tag read h p a e =
-    let parts = and_parts (nat_le (versions read) 1) (is_each_once (declared read)) a in
-    and_from (nat_le (versions (read ++ raw.tag h p ∷ [])) 1) (is_each_once (declared (read ++ raw.tag h p ∷ []))) (ap (λ x. nat_le x 1) (tag_snoc read h p) ∙ parts.0) (e ∙ parts.1)
+allowed_tag read h p a e = let t = tag_snoc read h p in grind (arith, nat_tests)
 
-directives_snoc : (ds : List Directive) (d : Directive) (r : List Tok) → directives_tokens (ds ++ d ∷ []) r ≡ directives_tokens ds (directive_token d ∷ r)
-directives_snoc [] d r = refl
-directives_snoc (x ∷ ds) d r = ap (λ ts. directive_token x ∷ ts) (directives_snoc ds d r)
-
-directives_append : (ds : List Directive) (ts : List Tok) → directives_tokens ds ts ≡ directives_tokens ds [] ++ ts
-directives_append [] ts = refl
-directives_append (d ∷ ds) ts = ap (λ us. directive_token d ∷ us) (directives_append ds ts)
+directives_more : (ds : List Directive) (d : Directive) → directives_tokens (ds ++ d ∷ []) [] ≡ directives_tokens ds [] ++ directive_token d ∷ []
+directives_more [] d = refl
+directives_more (x ∷ ds) d = ap (λ ts. directive_token x ∷ ts) (directives_more ds d)
 
 -- One more directive is taken.
 read_more : {T : Type 0} {p r : Tokens T} {t : Token} (read : List Directive) (d : Directive) → Skips p t r → tok_of t.1 ≡ directive_token d → IsAfter read (taken_toks p) → IsAfter (read ++ d ∷ []) (taken_toks r)
 read_more {T} {p} {r} {t} read d skips tok a = (
   a.0,
   ap (λ ts. toks (all_shown ts)) skips.taken ∙ taken_snoc p.taken.items t ∙ ap (λ us. us ++ tok_of t.1 ∷ []) a.1 ∙ append_assoc a.0 (directives_tokens read []) (tok_of t.1 ∷ [])
-      ∙ ap (λ us. a.0 ++ us) (ap (λ u. directives_tokens read [] ++ u ∷ []) tok ∙ sym (directives_append read (directive_token d ∷ [])) ∙ sym (directives_snoc read d [])),
+      ∙ ap (λ us. a.0 ++ us) (ap (λ u. directives_tokens read [] ++ u ∷ []) tok ∙ sym (directives_more read d)),
 )
 
 -- A version is taken, the first one.
@@ -143,13 +132,13 @@ more_of ds d es x = (d ∷ x.0, x.1, x.2 ∙ ap (λ y. Raw.document_start y ∷ 
 directives_say : (ds : List Directive) (w : Works) (ts : List Tok) (es : List Raw) → Derives grammar (reading table.directives (with_directives ds) ∷ w) ts es → (more : List Directive) × (fs : List Raw) × (es ≡ Raw.document_start (ds ++ more) ∷ fs)
 directives_say ds w [] es d = absurd (needs_tokens (reading table.directives (with_directives ds) ∷ w) es refl d)
 directives_say ds w (Tok.version_directive m n ∷ ts) es d =
-    more_of ds (raw.version m n) es (directives_say (ds ++ raw.version m n ∷ []) w ts es (taken_by d _ refl))
+    more_of ds (raw.version m n) es (directives_say (ds ++ raw.version m n ∷ []) w ts es (rest_by d _ refl))
 directives_say ds w (Tok.tag_directive x y ∷ ts) es d =
-    more_of ds (raw.tag x y) es (directives_say (ds ++ raw.tag x y ∷ []) w ts es (taken_by d _ refl))
+    more_of ds (raw.tag x y) es (directives_say (ds ++ raw.tag x y ∷ []) w ts es (rest_by d _ refl))
 directives_say ds w (Tok.document_start ∷ ts) es d =
-    let s = said_by (taken_by d _ refl) in
+    let s = said_by (rest_by d _ refl) in
     ([], s.0, s.1 ∙ ap (λ x. Raw.document_start x ∷ s.0) (sym (append-nil ds)))
-directives_say ds w (t ∷ ts) es d = absurd (none_by d refl)
+directives_say ds w (t ∷ ts) es d = absurd (rest_by d _ refl)
 
 -- Directives that are not allowed are refused with the last one.
 refused_directive : {T : Type 0} {p r : Reader T} {t : Token} {m : Position} (q : Problem) (read : List Directive) (d : Directive) {names : defs.Names} {given : List (Ev × Position)}

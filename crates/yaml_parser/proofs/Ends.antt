@@ -1,9 +1,9 @@
 -- The shortest way to the end from each position: so no fault is late.
-use Rattle.yaml_parser.proofs.Common.{[], all_shown, ap, append_assoc, as_tokens, At, at_directive, BeginAt, Bool, both_some, both_ways, Derives, Ev, events_of, false, Faulted, first_may, fits, Goal, goal_of, GoesOn, grammar, IfSome, inl, is_after, is_of_names, is_over, IsCause, IsDerived, IsOfKind, IsPending, IsSettled, Kind, kind_of, last_position, List, map-append, named, Names, names_after, names_by, needs_tokens, next_after, next_at, no_names, None, nowhere, Option, option_map, other_next, peeked_tok, plain_placed, Position, Problem, problem_of, Raw, raws_of, Reader, refl, Refuses, resolved_event, scanned, shown, shown_list, Some, StandsApart, StandsBefore, State, stood, StreamPlaces, StreamSays, subst, sym, taken_toks, to_end, Tok, tok_of, Token, token_at, toks, top, true, with_positions, work_of, ◌++◌, ◌∙◌, ◌∷◌, ◌≡◌, arith}
+use Rattle.yaml_parser.proofs.Common.{[], all_shown, ap, append_assoc, At, BeginAt, Bool, both_some, both_ways, Derives, Ev, events_of, false, Faulted, first_may, fits, Goal, goal_of, GoesOn, grammar, IfSome, inl, is_after, is_of_names, is_over, IsCause, IsDerived, IsOfKind, IsPending, IsSettled, Kind, kind_of, last_position, List, map-append, named, Names, names_after, names_by, needs_tokens, next_after, next_at, no_names, None, nowhere, Option, option_map, other_next, peeked_tok, plain_placed, Position, Problem, problem_of, Raw, raws_of, Reader, refl, Refuses, resolved_event, scanned, shown, shown_list, Some, StandsApart, StandsBefore, State, stood, StreamPlaces, StreamSays, subst, sym, taken_toks, to_end, Tok, tok_of, Token, token_at, toks, top, true, with_positions, work_of, ◌++◌, ◌∙◌, ◌∷◌, ◌≡◌, arith}
 use Rattle.model_parser.specs.Rest.{placed}
 use Rattle.yaml_parser.proofs.Completed.{completed}
-use Rattle.model_parser.specs.Stands.{IsNext as Begins1, goes_on}
-use Rattle.yaml_parser.proofs.Steps.{map_snoc, looked, if_some_at}
+use Rattle.model_parser.specs.Stands.{IsNext as Begins1}
+use Rattle.yaml_parser.proofs.Steps.{looked, if_some_at}
 use Rattle.yaml_parser.proofs.Positions.{stood_over}
 use Rattle.yaml_parser.proofs.Since.{since_append}
 use Rattle.defs_token.specs.Token as defs
@@ -105,14 +105,10 @@ IsKnown g p = is_after (top g p.stack) ≡ false → next_after other_next (take
 -- So it is where the next token is refused.
 known : {T : Type 0} {g : Goal} {p : Reader T} {t : Token} {names : Names} {given : List (Ev × Position)}
     → p.tokens.peeked ≡ Some t → Refuses g p.stack (tok_of t.1) → At g p names given → IsKnown g p
-known {T} {g} {p} {t} {names} {given} here turn a not_after = by a.stands.settled
-  where
-    by : IsSettled g p.stack (taken_toks p.tokens) (peeked_tok p.tokens) → next_after other_next (taken_toks p.tokens) ≡ next_at g p.stack
-    by (as_tokens h) = h
-    by (goes_on h c) =
-        let k : GoesOn (taken_toks p.tokens) (Some (tok_of t.1)) = subst (λ o. GoesOn (taken_toks p.tokens) (option_map (λ (x : Token). tok_of x.1) o)) here c in
-        absurd (never here turn a k.0 k.1 k.2)
-    by (at_directive h d) = absurd (both_ways (is_after (top g p.stack)) not_after h)
+known {T} {g} {p} {t} here turn a not_after =
+    let none : GoesOn (taken_toks p.tokens) (Some (tok_of t.1)) → ⊥ = λ k. never here turn a k.0 k.1 k.2 in
+    let s = subst (λ o. IsSettled g p.stack (taken_toks p.tokens) (option_map (λ (x : Token). tok_of x.1) o)) here a.stands.settled in
+    grind arith
 
 -- No stream begins with the tokens up to it.
 cut : {T : Type 0} {g : Goal} {p : Reader T} {t : Token} {names : Names} {given : List (Ev × Position)}
@@ -120,7 +116,7 @@ cut : {T : Type 0} {g : Goal} {p : Reader T} {t : Token} {names : Names} {given 
     → (ts : List Tok) (es : List Raw) → StreamSays (toks (scanned p.tokens.scanner).given ++ ts) es → ⊥
 cut {T} {g} {p} {t} {names} {given} here turn a ts es d =
     let h : toks (scanned p.tokens.scanner).given ++ ts ≡ taken_toks p.tokens ++ (tok_of t.1 ∷ ts) =
-    ap (λ xs. toks xs ++ ts) (handed_with here a) ∙ ap (λ xs. xs ++ ts) (map_snoc (λ (x : defs.Token). x.tok) (all_shown p.tokens.taken.items) (shown t)) ∙ append_assoc (taken_toks p.tokens) (tok_of t.1 ∷ []) ts in
+    ap (λ xs. toks xs ++ ts) (handed_with here a) ∙ ap (λ xs. xs ++ ts) (map-append (λ (x : defs.Token). x.tok) (all_shown p.tokens.taken.items) (shown t ∷ [])) ∙ append_assoc (taken_toks p.tokens) (tok_of t.1 ∷ []) ts in
     never here turn a ts es (subst (λ us. StreamSays us es) h d)
 
 -- What stands beside a refused token, and at its place.

@@ -1,9 +1,8 @@
 -- The events that a parser gives are a beginning of nested events, so the stream's end comes in no document.
-use Rattle.yaml_parser.proofs.Common.{[], ap, arith, At, Awaits, BeginsNested, Bool, both, by_steps, Derives, Directive, end_events, end_tokens, Ev, events_of, false, false_from_ne_true, Goal, goes_so, if◌then◌else◌, is_open, length, List, named, named_shaped, Names, names_after, needs_tokens, no_names, none_by, None, not_refused, opened, Option, Position, Raw, Reader, reading, refl, resolved_event, left_by, taken_by, said_by, Some, steps, StreamSays, subst, sym, taken_toks, Tok, true, works, ◌++◌, ◌∙◌, ◌∷◌, ◌≡◌, both_some, named_since, NamedFirst, Shaped}
+use Rattle.yaml_parser.proofs.Common.{[], ap, arith, At, Awaits, BeginsNested, Bool, both, Derives, Directive, end_events, end_tokens, Ev, events_of, false, false_from_ne_true, Goal, goes_so, if◌then◌else◌, is_open, length, List, named, named_shaped, Names, names_after, needs_tokens, no_names, None, not_refused, opened, Option, Position, Raw, Reader, reading, refl, resolved_event, row_read, said_by, Some, StreamSays, subst, sym, taken_toks, Tok, true, works, ◌++◌, ◌∙◌, ◌∷◌, ◌≡◌, both_some, named_since, NamedFirst, Shaped}
 use Rattle.defs_event.specs.Nested.{Open, in_stream, before_node, after_node, in_sequence, at_key, at_value, open_after, there_and, closes, is_nested, IsNested}
 use Rattle.defs_event.proofs.NestedTest.{test_is_exact}
 use Rattle.defs_event.proofs.StreamNests.{shaped_nests}
-use Rattle.model_parser.proofs.StepRows.{refuses}
 use Rattle.yaml_parser.proofs.Completed.{Nameable, are_free, free_named, works_free, completed}
 use Rattle.defs_event.specs.Grammar as table
 
@@ -11,15 +10,7 @@ use Rattle.defs_event.specs.Grammar as table
 
 -- A resolved event has its raw one's shape.
 one_more : (r : Raw) (v : Ev) (rs : List Raw) (vs : List Ev) → Shaped (r ∷ []) (v ∷ []) → Shaped rs vs → Shaped (r ∷ rs) (v ∷ vs)
-one_more (Raw.alias name) v rs vs h k = (h.0, vs, cc, k)
-one_more (Raw.scalar x s a t) v rs vs h k = (h.0, h.1, vs, cc, k)
-one_more (Raw.empty_scalar a t) v rs vs h k = (h.0, h.1, vs, cc, k)
-one_more (Raw.flow_sequence_start a t) v rs vs h k = (h.0, h.1, vs, cc, k)
-one_more (Raw.sequence_start a t) v rs vs h k = (h.0, h.1, vs, cc, k)
-one_more (Raw.indentless_sequence_start a t) v rs vs h k = (h.0, h.1, vs, cc, k)
-one_more (Raw.flow_mapping_start a t) v rs vs h k = (h.0, h.1, vs, cc, k)
-one_more (Raw.mapping_start a t) v rs vs h k = (h.0, h.1, vs, cc, k)
-one_more _ v rs vs h k = (vs, cc, k)
+one_more r v rs vs h k = grind arith
 
 -- the first event, and the shape of the others
 first_shaped : (k : Bool) (s : Names) (r : Raw) (rs : List Raw) (os : Option (List Ev)) (vs ws : List Ev) → (f : NamedFirst (resolved_event s r) os vs) → Shaped rs (f.more ++ ws) → Shaped (r ∷ rs) (vs ++ ws)
@@ -86,8 +77,7 @@ never_closes v out [] more b os k o h = let no : there_and (closes more) None �
 never_closes v out (e ∷ es) more b os k o h = closes_on (open_after e os) (es ++ v ∷ more) (λ new i. never_closes v out es more (opened e b) new (λ q. subst (λ x. all_in_document x ≡ true) i (opens e os b k q)) o) h
 
 from_start : (e : Ev) (es : List Ev) → is_nested (e ∷ es) ≡ true → (e ≡ Ev.stream_start) × (closes es (in_stream ∷ []) ≡ true)
-from_start Ev.stream_start es h = (refl, h)
-from_start e es h = cc
+from_start e es h = grind arith
 
 never_nested : (v : Ev) → IsOutside v → (es more : List Ev) → is_open false es ≡ true → is_nested (es ++ v ∷ more) ≡ true → ⊥
 never_nested v out [] more o h = cc
@@ -138,10 +128,10 @@ never_starts (e ∷ es) more os h = closes_on (open_after e os) (es ++ Ev.stream
 -- The start of a document comes after directives.
 directed_first : (h : table.Held) (ts : List Tok) (es : List Raw) → Derives table.grammar (reading table.directives h ∷ []) ts (Raw.stream_end ∷ es) → ⊥
 directed_first h [] es d = needs_tokens (reading table.directives h ∷ []) (Raw.stream_end ∷ es) refl d
-directed_first h (Tok.version_directive m n ∷ ts) es d = directed_first _ ts es (taken_by d _ refl)
-directed_first h (Tok.tag_directive x y ∷ ts) es d = directed_first _ ts es (taken_by d _ refl)
-directed_first h (Tok.document_start ∷ ts) es d = let s = said_by (taken_by d _ refl) in cc s.1
-directed_first h (t ∷ ts) es d = none_by d refl
+directed_first h (t ∷ ts) es d =
+    let i = λ (k : table.Held). directed_first k ts es in
+    let r = row_read table.directives h [] t ts (Raw.stream_end ∷ es) d in
+    grind (arith, said_by)
 
 nothing_left : (ts us : List Tok) (es : List Raw) → Derives table.grammar [] (ts ++ Tok.stream_start ∷ us) es → ⊥
 nothing_left [] us es d = elim d [ ]
@@ -150,17 +140,7 @@ nothing_left (t ∷ ts) us es d = elim d [ ]
 -- A stream in which no document begins has its start first and never again.
 starts_once : (ts us : List Tok) (es : List Raw) → Derives table.grammar (reading table.documents table.nothing_held ∷ []) (ts ++ Tok.stream_start ∷ us) (Raw.stream_end ∷ es) → ⊥
 starts_once [] us es d = let r : true ≡ false = not_refused 9 Tok.stream_start (reading table.documents table.nothing_held ∷ []) us (Raw.stream_end ∷ es) d in cc
-starts_once (Tok.document_end ∷ ts) us es d = starts_once ts us es (taken_by d _ refl)
-starts_once (Tok.version_directive m n ∷ ts) us es d = directed_first _ (ts ++ Tok.stream_start ∷ us) es (taken_by d _ refl)
-starts_once (Tok.tag_directive x y ∷ ts) us es d = directed_first _ (ts ++ Tok.stream_start ∷ us) es (taken_by d _ refl)
-starts_once (Tok.document_start ∷ ts) us es d = let s = said_by (taken_by (left_by d _ refl) _ refl) in cc s.1
-starts_once (Tok.stream_end ∷ ts) us es d = let s = said_by (taken_by (left_by d _ refl) _ refl) in nothing_left ts us s.0 s.2
-starts_once (t ∷ ts) us es d =
-    let w = reading table.documents table.nothing_held ∷ [] in
-    let r : refuses 9 t w ≡ false = not_refused 9 t w (ts ++ Tok.stream_start ∷ us) (Raw.stream_end ∷ es) d in
-    let s = (by_steps 2 t w).1 (ts ++ Tok.stream_start ∷ us) (Raw.stream_end ∷ es) d in
-    let e : Raw.stream_end ∷ es ≡ (steps 2 t w).0 ++ s.0 = s.1 in
-    cc
+starts_once (t ∷ ts) us es d = let i = starts_once ts us es in grind (arith, row_read, said_by, directed_first, nothing_left)
 
 -- Before the stream's start nothing was given.
 pub nothing_given : {T : Type 0} {p : Reader T} {names : Names} {given : List (Ev × Position)} → At Goal.start p names given → events_of given ≡ []
@@ -189,8 +169,4 @@ nothing_taken {T} {p} a =
   where
     by : (taken us : List Tok) (es : List Raw) → StreamSays (taken ++ Tok.stream_start ∷ Tok.stream_end ∷ us) (Raw.stream_start ∷ Raw.stream_end ∷ es) → taken ≡ []
     by [] us es d = refl
-    by (Tok.stream_start ∷ ts) us es d =
-        let s = said_by (taken_by d _ refl) in
-        let e : Raw.stream_end ∷ es ≡ s.0 = cc in
-        absurd (starts_once ts (Tok.stream_end ∷ us) es (subst (λ rs. Derives table.grammar (reading table.documents table.nothing_held ∷ []) (ts ++ Tok.stream_start ∷ Tok.stream_end ∷ us) rs) (sym e) s.2))
-    by (t ∷ ts) us es d = absurd (none_by d refl)
+    by (t ∷ ts) us es d = absurd (grind (arith, row_read, said_by, starts_once))

@@ -1,13 +1,11 @@
 -- The arms of the productions of nodes.
-use Rattle.yaml_parser.proofs.Common.{arith, [], all_shown, answered, Answers, ap, append_assoc, At, Awaits, BeginAt, Bool, both, both_ways, cases, Derives, empty, empty_event, EndsInAnchor, Err, Ev, event_of, event_then, events_of, EventSlot, false, Faulted, fits, Goal, goal_after_event, grammar, Has, HasNoText, HasUndeclaredHandle, HasUnknownAnchor, Held, IfSome, inl, inr, is_end, is_of_names, IsCause, IsDerived, IsNamed, IsOfKind, IsPending, kept_tag, Kind, kind_of, last_position, Leaves, List, name_of, named, named_by, Names, names_after, names_by, needs_tokens, no_names, None, number, Ok, OnErr, OnOk, Option, option_map, OutOfMemory, peeked_tok, perhaps_anchor_of, perhaps_resolved, Place, placed, Position, Problem, Raw, Reader, reading, refl, Registers, resolved, resolved_event, Resolves, Result, Row, left_by, row_of, taken_by, said_by, scanned, show, shown, shown_list, Skips, SkipsOne, Some, StandsAt, State, Fault, StreamSays, Style, subst, sym, taken_toks, Takes, takes, Tok, tok_is, tok_of, tok_of_kind, Token, Tokens, toks, true, UndeclaredHandle, under_name, UnknownAnchor, with_anchor, Works, ℕ, ◌++◌, ◌∙◌, ◌∷◌, ◌≡◌, ◌≢◌, ◌⊎◌, next_after, node_next, other_next}
+use Rattle.yaml_parser.proofs.Common.{map-append, arith, [], all_shown, answered, Answers, ap, append_assoc, At, Awaits, BeginAt, Bool, both, both_ways, Derives, EndsInAnchor, Err, Ev, event_then, events_of, EventSlot, false, Faulted, fits, Goal, goal_after_event, grammar, Has, HasNoText, HasUndeclaredHandle, HasUnknownAnchor, Held, IfSome, inl, inr, is_end, is_of_names, IsCause, IsDerived, IsNamed, IsOfKind, IsPending, kept_tag, Kind, kind_of, last_position, Leaves, List, name_of, named, named_by, Names, names_after, names_by, no_names, None, number, Ok, OnErr, OnOk, Option, option_map, OutOfMemory, peeked_tok, perhaps_anchor_of, perhaps_resolved, Place, placed, Position, Problem, Raw, Reader, reading, refl, Registers, resolved, resolved_event, Resolves, Result, row_read, said_by, scanned, shown, shown_list, Skips, SkipsOne, Some, StandsAt, State, Fault, StreamSays, Style, subst, sym, taken_toks, Takes, Tok, tok_is, tok_of, tok_of_kind, Token, Tokens, toks, true, UndeclaredHandle, under_name, UnknownAnchor, with_anchor, Works, ℕ, ◌++◌, ◌∙◌, ◌∷◌, ◌≡◌, ◌≢◌, ◌⊎◌, next_after, node_next, other_next}
 use Rattle.defs_event.specs.Properties.{perhaps_tag_of}
 use Rattle.defs_event.specs.Names.{prefix_of}
-use Rattle.defs_event.specs.Table.{leaves}
 use Rattle.model_parser.specs.Stands.{IsNext as Starts}
 use Rattle.model_parser.proofs.Standing.{next_more}
 use Rattle.yaml_parser.specs.declared.node.Properties.{Properties}
-use Rattle.model_parser.proofs.OnePlacing.{some_is}
-use Rattle.yaml_parser.proofs.Steps.{looked, took, left, Named, map_snoc, if_some_at, gave}
+use Rattle.yaml_parser.proofs.Steps.{looked, took, left, Named, if_some_at, gave}
 use Rattle.yaml_parser.proofs.Arms.{StandsHere, HasNoColon, here_at, under_no_colon, Skipped, stays, stay, not_as, faulted_as}
 use Rattle.yaml_parser.proofs.Ends.{at_derived, StandsBeside, at_peeked}
 use Rattle.yaml_parser.proofs.Completed.{completed}
@@ -40,11 +38,12 @@ made_resolves : {mk : Option (List ℕ) → Option event.Tag → Raw} {f : ℕ �
 made_resolves {mk} {f} {s} {o} {p} k h = k.resolves s _ _ ∙ ap (option_map (λ u. f (number s (perhaps_anchor_of o)) u)) h.tag ∙ ap (λ a. Some (f (number s a) (kept_tag p))) h.anchor
 
 -- the names after it
-made_named : {T : Type 0} {p r : Reader T} {mk : Option (List ℕ) → Option event.Tag → Raw} {f : ℕ → Option event.Tag → Ev} {s : Names} {o : Option written.Properties} {x : Option Properties}
-    → Makes mk f → Has s o x → r.names.keeping ≡ p.names.keeping → IsNamed r.names (with_anchor s (name_of x))
-    → Named p r Goal.done s (mk (perhaps_anchor_of o) (perhaps_tag_of o)) (f (number s (name_of x)) (kept_tag x)) (with_anchor s (name_of x))
-made_named {T} {p} {r} {mk} {f} {s} {o} {x} k h keep code =
-    assumption (made_resolves k h, k.after_it p.names.keeping.tags s (perhaps_anchor_of o) (perhaps_tag_of o) ∙ ap (with_anchor s) h.anchor, keep, code)
+made_named : {T : Type 0} {p r : Reader T} {mk : Option (List ℕ) → Option event.Tag → Raw} {f : ℕ → Option event.Tag → Ev} {s : Names} {o : Option written.Properties} {x : Option Properties} {n : ℕ} {u : Option event.Tag}
+    → Makes mk f → Has s o x → (n ≡ number s (name_of x)) × (u ≡ kept_tag x) → r.names.keeping ≡ p.names.keeping → IsNamed r.names (with_anchor s (name_of x))
+    → Named p r Goal.done s (mk (perhaps_anchor_of o) (perhaps_tag_of o)) (f n u) (with_anchor s (name_of x))
+made_named {T} {p} {r} {mk} {f} {s} {o} {x} {n} {u} k h value keep code =
+    let resolves : resolved_event s (mk (perhaps_anchor_of o) (perhaps_tag_of o)) ≡ Some (f n u) = rw (value.0, value.1) (made_resolves k h) in
+    assumption (resolves, k.after_it p.names.keeping.tags s (perhaps_anchor_of o) (perhaps_tag_of o) ∙ ap (with_anchor s) h.anchor, keep, code)
 
 -- The start of a collection is taken, and its properties are registered.
 pub starts : {T E : Type 0} (m : Position) {p q : Reader T} (r : Reader T) {k k' : Kind} {w : positions.NodeContext} {o : Option written.Properties} {x : Option Properties} {ss : List State} (mk : Option (List ℕ) → Option event.Tag → Raw) (f : ℕ → Option event.Tag → Ev) {s : Names} {given : List (Ev × Position)} (res : Result (Unit {0}) E) (slot : EventSlot)
@@ -64,7 +63,7 @@ starts {T} {E} m {p} {q} r {k} {k'} {w} {o} {x} {ss} mk f {s} {given} (Ok e) slo
     let v : Ev × Position = (f (number s (name_of x)) (kept_tag x), m) in
     let one : At Goal.done r (with_anchor s (name_of x)) (given ++ v ∷ []) =
     took l.1 (subst (λ u. Skips p.tokens t u) (sym g.tokens) y.tokens) (g.stack ∙ y.stack) (subst (λ u. Takes (Goal.after_properties w o) p.stack u (Some (mk (perhaps_anchor_of o) (perhaps_tag_of o))) Goal.done ss) (sym same) turn) a
-    (gave m (made_named makes has (g.keep ∙ ap (λ n. n.keeping) y.names) g.code) a) (λ b. (refl, ap is_end same ∙ end))
+    (gave m (made_named makes has (refl, refl) (g.keep ∙ ap (λ n. n.keeping) y.names) g.code) a) (λ b. (refl, ap is_end same ∙ end))
     (here_at (last_position p.tokens) (mk (perhaps_anchor_of o) (perhaps_tag_of o)) (shown t) m (alike (perhaps_anchor_of o) (perhaps_tag_of o)) (if_some_at (λ (z : Token). z.0 ≡ m) mark l.1)) (colon (Some t.0)) in
     let two : (names : Names) × At (goal_after_event v.0) r names (given ++ v ∷ []) = (with_anchor s (name_of x), subst (λ g. At g r (with_anchor s (name_of x)) (given ++ v ∷ [])) (sym (no_end _ _)) one) in
     subst (λ z. (names : Names) × At (goal_after_event z.0) r names (given ++ z ∷ [])) (sym g.value) two
@@ -77,13 +76,11 @@ pub scalar_taken : {T : Type 0} (m : Position) {p q r : Reader T} {y : Style} {v
     → Has s o x → At (Goal.after_properties w o) p s given → (names : Names) × At Goal.done r names (given ++ (Ev.scalar v y n u, m) ∷ [])
 scalar_taken {T} m {p} {q} {r} {y} {v} {n} {u} {w} {o} {x} {ss} {s} {given} {t} here mark skips stack names_same tok turn registers colon has a =
     let g = registers s (subst (λ z. IsNamed z s) (sym names_same) a.code) in
-    let e : Ev.scalar v y (number s (name_of x)) (kept_tag x) ≡ Ev.scalar v y n u = ap (λ z. Ev.scalar v y z (kept_tag x)) (sym g.value.0) ∙ ap (λ z. Ev.scalar v y n z) (sym g.value.1) in
     let makes : Makes (λ a b. Raw.scalar v y a b) (λ a b. Ev.scalar v y a b) = record { resolves = λ s a b. refl; after_it = λ k s a b. refl } in (
       with_anchor s (name_of x),
-      subst (λ z. At Goal.done r (with_anchor s (name_of x)) (given ++ (z, m) ∷ [])) e
-          (took here (subst (λ z. Skips p.tokens t z) (sym g.tokens) skips) (g.stack ∙ stack) (subst (λ z. Takes (Goal.after_properties w o) p.stack z (Some (Raw.scalar v y (perhaps_anchor_of o) (perhaps_tag_of o))) Goal.done ss) (sym tok) turn) a
-          (gave m (made_named makes has (g.keep ∙ ap (λ z. z.keeping) names_same) g.code) a) (λ b. (refl, ap is_end tok))
-          (here_at (last_position p.tokens) (Raw.scalar v y (perhaps_anchor_of o) (perhaps_tag_of o)) (shown t) m (λ b k. refl) mark) (colon (Some t.0))),
+      took here (subst (λ z. Skips p.tokens t z) (sym g.tokens) skips) (g.stack ∙ stack) (subst (λ z. Takes (Goal.after_properties w o) p.stack z (Some (Raw.scalar v y (perhaps_anchor_of o) (perhaps_tag_of o))) Goal.done ss) (sym tok) turn) a
+          (gave m (made_named makes has g.value (g.keep ∙ ap (λ z. z.keeping) names_same) g.code) a) (λ b. (refl, ap is_end tok))
+          (here_at (last_position p.tokens) (Raw.scalar v y (perhaps_anchor_of o) (perhaps_tag_of o)) (shown t) m (λ b k. refl) mark) (colon (Some t.0)),
     )
 
 -- Properties alone are registered, and the token stays.
@@ -95,13 +92,11 @@ properties_left {T} m {p} {r} {k} {n} {u} None {x} {s} {given} here mark turn re
 properties_left {T} m {p} {r} {k} {n} {u} (Some o) {x} {s} {given} here mark turn registers has a =
     let l = looked k p.tokens.peeked here in
     let g = registers s a.code in
-    let e : Ev.scalar [] Style.plain (number s (name_of (Some x))) (kept_tag (Some x)) ≡ Ev.scalar [] Style.plain n u = ap (λ z. Ev.scalar [] Style.plain z (kept_tag (Some x))) (sym g.value.0) ∙ ap (λ z. Ev.scalar [] Style.plain n z) (sym g.value.1) in
     let makes : Makes (λ a b. Raw.empty_scalar a b) (λ a b. Ev.scalar [] Style.plain a b) = record { resolves = λ s a b. refl; after_it = λ k s a b. refl } in (
       with_anchor s (name_of (Some x)),
-      subst (λ z. At Goal.done r (with_anchor s (name_of (Some x))) (given ++ (z, m) ∷ [])) e
-          (left (ap (option_map (λ (z : Token). tok_of z.1)) l.1) g.tokens g.stack (turn o (tok_of l.0.1) l.2) a (gave m (made_named makes has g.keep g.code) a) refl
+      left (ap (option_map (λ (z : Token). tok_of z.1)) l.1) g.tokens g.stack (turn o (tok_of l.0.1) l.2) a (gave m (made_named makes has g.value g.keep g.code) a) refl
           (λ j begins. here_at (last_position p.tokens) (Raw.empty_scalar (written.anchor_of o) (written.tag_of o)) j m (λ b k. refl) (subst (λ q. BeginAt q (j ∷ [])) l.1 begins ∙ if_some_at (λ (z : Token). z.0 ≡ m) mark l.1))
-          (under_no_colon p.stack a.stands.fits.0 (last_position p.tokens))),
+          (under_no_colon p.stack a.stands.fits.0 (last_position p.tokens)),
     )
 
 -- ---- a name that stands for nothing
@@ -131,7 +126,7 @@ unnamed_at {T} {g} {g'} {p} {r} {t} {m} {ss} {e} {names} {given} q fit of_names 
         derived = subst (λ k. IsDerived k.settings.items k.tags (all_shown p.tokens.taken.items) a.raw given) (sym keep) (at_derived g p names given a);
         unnamed = λ ts raw es d resolved.
             let h : toks (scanned r.tokens.scanner).given ++ ts ≡ taken_toks p.tokens ++ (tok_of t.1 ∷ ts) =
-            ap (λ xs. toks xs ++ ts) handed ∙ ap (λ xs. xs ++ ts) (map_snoc (λ (x : defs.Token). x.tok) (all_shown p.tokens.taken.items) (shown t)) ∙ append_assoc (taken_toks p.tokens) (tok_of t.1 ∷ []) ts in
+            ap (λ xs. toks xs ++ ts) handed ∙ ap (λ xs. xs ++ ts) (map-append (λ (x : defs.Token). x.tok) (all_shown p.tokens.taken.items) (shown t ∷ [])) ∙ append_assoc (taken_toks p.tokens) (tok_of t.1 ∷ []) ts in
             let b : Starts (peeked_tok p.tokens) (tok_of t.1 ∷ ts) = subst (λ o. Starts (option_map (λ (x : Token). tok_of x.1) o) (tok_of t.1 ∷ ts)) (sym here) refl in
             let o = a.stands.exact (tok_of t.1 ∷ ts) raw b (subst (λ us. StreamSays us raw) h d) in
             let n = turn.goes a.stands.fits ts o.0 o.2 in
@@ -154,7 +149,7 @@ unnamed_at {T} {g} {g'} {p} {r} {t} {m} {ss} {e} {names} {given} q fit of_names 
             let c = completed g' ss in
             let rest = c.tokens in
             let h : toks (scanned r.tokens.scanner).given ++ rest ≡ taken_toks p.tokens ++ (tok_of t.1 ∷ rest) =
-            ap (λ xs. toks xs ++ rest) handed ∙ ap (λ xs. xs ++ rest) (map_snoc (λ (x : defs.Token). x.tok) (all_shown p.tokens.taken.items) (shown t)) ∙ append_assoc (taken_toks p.tokens) (tok_of t.1 ∷ []) rest in
+            ap (λ xs. toks xs ++ rest) handed ∙ ap (λ xs. xs ++ rest) (map-append (λ (x : defs.Token). x.tok) (all_shown p.tokens.taken.items) (shown t ∷ [])) ∙ append_assoc (taken_toks p.tokens) (tok_of t.1 ∷ []) rest in
             (rest, a.raw ++ event_then e c.events, subst (λ us. StreamSays us (a.raw ++ event_then e c.events)) (sym h) (a.stands.sound (tok_of t.1 ∷ rest) (event_then e c.events) (turn.comes a.stands.fits rest c.events c.awaits)));
       };
     }
@@ -225,42 +220,15 @@ alias_unknown {T} {p} {r} {t} {m} {w} {x} {names} {given} here mark skips same t
 
 -- ---- a node whose tag stands for nothing
 
--- Where a row says its token's event first, or that of a node that is not written, this event comes.
-abbrev first_said : Held → Tok → Option (Row table.Goal Raw) → Option Raw
-first_said h t (Some (takes (show ∷ ps))) = Some (event_of h t)
-first_said h t (Some (leaves (empty ∷ ps))) = Some (empty_event h)
-first_said h t _ = None
-
-said_first : (g : table.Goal) (h : Held) (w : Works) (t : Tok) (ts : List Tok) (es : List Raw) (e : Raw) → first_said h t (row_of (cases g) t) ≡ Some e → Derives grammar (reading g h ∷ w) (t ∷ ts) es → (fs : List Raw) × (es ≡ e ∷ fs)
-said_first g h w t ts es e f d = by (row_of (cases g) t) refl f
-  where
-    by : (r : Option (Row table.Goal Raw)) → row_of (cases g) t ≡ r → first_said h t r ≡ Some e → (fs : List Raw) × (es ≡ e ∷ fs)
-    by (Some (takes (show ∷ ps))) q k = let s = said_by (taken_by d _ q) in (s.0, s.1 ∙ ap (λ o. o ∷ s.0) (some_is k))
-    by (Some (leaves (empty ∷ ps))) q k = let s = said_by (left_by d _ q) in (s.0, s.1 ∙ ap (λ o. o ∷ s.0) (some_is k))
-    by r q k = cc
-
-content_unresolved : (s : Names) (p : Place) (h : Held) (t : Tok) → perhaps_resolved s.handles h.tag ≡ None → (e : Raw) × (first_said h t (row_of (cases (table.content p)) t) ≡ Some e) × (resolved_event s e ≡ None)
-content_unresolved s table.in_flow h (Tok.scalar y v) k = (_, refl, ap (option_map _) k)
-content_unresolved s table.in_block h Tok.block_mapping_start k = (_, refl, ap (option_map _) k)
-content_unresolved s (table.in_pair q) h Tok.block_entry k = (_, refl, ap (option_map _) k)
-content_unresolved s p h t k = (_, refl, ap (option_map _) k)
-
 content_unnameable : (keep : Bool) (s : Names) (p : Place) (h : Held) (w : Works) (ts : List Tok) (es : List Raw) → perhaps_resolved s.handles h.tag ≡ None → Derives grammar (reading (table.content p) h ∷ w) ts es → Unnameable keep s es
-content_unnameable keep s p h w [] es k d = absurd (needs_tokens (reading (table.content p) h ∷ w) es refl d)
-content_unnameable keep s p h w (t ∷ ts) es k d =
-    let c = content_unresolved s p h t k in
-    let f = said_first (table.content p) h w t ts es c.0 c.1 d in
-    ap (named keep s) f.1 ∙ unnameable_first keep s c.0 f.0 c.2
+content_unnameable keep s p h w ts es k d = grind (arith, row_read, said_by)
 
 -- An anchor may still come.
 tagged_unnameable : (keep : Bool) (s : Names) (p : Place) (h : Held) (w : Works) (ts : List Tok) (es : List Raw) → perhaps_resolved s.handles h.tag ≡ None → Derives grammar (reading (table.after_tag p) h ∷ w) ts es → Unnameable keep s es
-tagged_unnameable keep s p h w [] es k d = absurd (needs_tokens (reading (table.after_tag p) h ∷ w) es refl d)
-tagged_unnameable keep s p h w (Tok.anchor n ∷ ts) es k d = content_unnameable keep s p (record h { anchor = Some n }) w ts es k (taken_by d _ refl)
-tagged_unnameable keep s p h w (t ∷ ts) es k d = content_unnameable keep s p h w (t ∷ ts) es k (left_by d _ refl)
+tagged_unnameable keep s p h w ts es k d = grind (arith, row_read, content_unnameable)
 
 anchor_named : (t : Tok) → kind_of t ≡ kind.Anchor → (n : List ℕ) × (t ≡ Tok.anchor n)
-anchor_named (Tok.anchor n) h = (n, refl)
-anchor_named _ h = cc
+anchor_named t h = grind arith
 
 -- Where a node is to be read, no anchor was taken last: after one none begins.
 no_anchor_before : {T : Type 0} {p : Reader T} {m : Position} (w : positions.NodeContext) {names : Names} {given : List (Ev × Position)}
@@ -268,7 +236,7 @@ no_anchor_before : {T : Type 0} {p : Reader T} {m : Position} (w : positions.Nod
 no_anchor_before {T} {p} {m} w a e =
     let n = anchor_named e.anchor.tok e.is in
     let taken : taken_toks p.tokens ≡ toks e.before ++ Tok.anchor n.0 ∷ [] =
-    ap toks e.whole ∙ map_snoc (λ (x : defs.Token). x.tok) e.before e.anchor ∙ ap (λ u. toks e.before ++ u ∷ []) n.1 in
+    ap toks e.whole ∙ map-append (λ (x : defs.Token). x.tok) e.before (e.anchor ∷ []) ∙ ap (λ u. toks e.before ++ u ∷ []) n.1 in
     let no : other_next ≡ node_next = sym (next_more other_next (toks e.before) (Tok.anchor n.0)) ∙ ap (next_after other_next) (sym taken) ∙ node_comes a in
     cc
 
@@ -294,7 +262,7 @@ pub anchor_before : {T : Type 0} {p q : Tokens T} (r : Tokens T) {t : Token} {m 
 anchor_before {T} {p} {q} r {t} {m} skips taken is mark = record {
   before = all_shown p.taken.items;
   anchor = shown t;
-  whole = ap (λ x. all_shown x.items) taken ∙ ap all_shown skips.taken ∙ map_snoc shown p.taken.items t;
+  whole = ap (λ x. all_shown x.items) taken ∙ ap all_shown skips.taken ∙ map-append shown p.taken.items (t ∷ []);
   is = is;
   at = sym mark;
 }

@@ -1,6 +1,6 @@
 -- A look at the next token that fails: of the events that the tokens make certain only one may be missing.
 use Rattle.yaml_parser.proofs.Arms.{fails}
-use Rattle.yaml_parser.proofs.Common.{GoesApart, ◌||◌, [], all_shown, ap, append-nil, append_assoc, At, BeginAt, Ev, false, Faulted, Goal, is_done, is_idle, is_over, is_pair_end, EventSlot, Stops, IsAwake, IsDerived, IsHalted, IsHanded, IsOnTrack, IsOpen, IsStopped, last_position, List, map-append, Names, None, Option, or_parts, peeked_tok, perhaps, Places, Position, Raw, Reader, refl, scanned, shown_list, Some, State, stood, StreamPlacesTo, StreamSays, subst, sym, taken_toks, to_next, Tok, Token, toks, wants_token, work_of, ◌++◌, ◌∙◌, ◌∷◌, ◌≡◌}
+use Rattle.yaml_parser.proofs.Common.{arith, GoesApart, ◌||◌, [], all_shown, ap, append-nil, append_assoc, At, BeginAt, Ev, false, Faulted, Goal, is_done, is_idle, is_over, is_pair_end, EventSlot, Stops, IsAwake, IsDerived, IsHalted, IsHanded, IsOnTrack, IsOpen, IsStopped, last_position, List, map-append, Names, None, Option, or_parts, peeked_tok, perhaps, Places, Position, Raw, Reader, refl, scanned, shown_list, Some, State, stood, StreamPlacesTo, StreamSays, subst, sym, taken_toks, to_next, Tok, Token, toks, wants_token, work_of, ◌++◌, ◌∙◌, ◌∷◌, ◌≡◌}
 use Rattle.model_parser.specs.Rest.{placed}
 use Rattle.yaml_parser.proofs.Steps.{look_peeked, begins_peeked}
 use Rattle.yaml_parser.proofs.Ends.{at_derived}
@@ -21,15 +21,11 @@ open_by {two} x = record {
 
 -- The next token is wanted.
 wants_next : (g : Goal) (ss : List State) (b : Option Position) → is_idle g ≡ false → Places to_next b (placed (work_of g ss)) [] []
-wants_next Goal.done ss b h = cc
-wants_next Goal.ended ss b h = cc
-wants_next Goal.pair_end ss b h = cc
-wants_next g ss b h = wants_token
+wants_next g ss b h = grind (arith, wants_token)
 
 -- None was looked at before.
 nothing_ahead : (o q : Option Token) → ((t : Token) → o ≡ Some t → q ≡ Some t) → q ≡ None → o ≡ None
-nothing_ahead None q f h = refl
-nothing_ahead (Some t) q f h = let no : None ≡ Some t = sym h ∙ f t refl in cc
+nothing_ahead o q f h = grind arith
 
 -- What the events are, where a look at the next token fails.
 halted : {T : Type 0} (p r : Reader T) {g : Goal} {names : Names} {given : List (Ev × Position)} → r.tokens.taken ≡ p.tokens.taken → ((t : Token) → p.tokens.peeked ≡ Some t → r.tokens.peeked ≡ Some t) → r.tokens.peeked ≡ None → IsHanded r.tokens → r.names ≡ p.names

@@ -29,8 +29,7 @@ abbrev pub Known : {T : Type 0} → Inside T → Type 0
 Known p = Holds p.pull (all_placed p.given.items) (option_map placed p.current) p.started p.ended p.misplaced
 
 read_next : (given : List (Ev × Position)) (b : Bool) (e : Ev × Position) → read_so given b (Some e) ≡ given ++ (if b then [] else e ∷ [])
-read_next given true e = sym (append-nil given)
-read_next given false e = refl
+read_next given b e = grind (arith, append-nil)
 
 no_fault : {T : Type 0} (p : Inside T) → p.pull.kept ≡ None → p.misplaced ≡ None → (seen p).fault ≡ None
 no_fault p h k = ap (λ m. fault_of_all m p.pull) k ∙ ap (option_map (λ x. fault_seen x.0 x.1 (scanned p.pull.reader.tokens.scanner).fault)) h
@@ -163,8 +162,7 @@ next_read {T} p new e h none clear x =
 -- ---- an event is given
 
 all_noted : (xs ys : List (Event × Position)) (x : Event × Position) (b : Bool) → ys ≡ xs ++ (if b then [] else x ∷ []) → all_placed ys ≡ all_placed xs ++ (if b then [] else placed x ∷ [])
-all_noted xs ys x true h = ap all_placed h ∙ map-append placed xs []
-all_noted xs ys x false h = ap all_placed h ∙ map-append placed xs (x ∷ [])
+all_noted xs ys x b h = grind (arith, append-nil, map-append placed)
 
 -- after it, with these events given
 abbrev pub after : {T : Type 0} → Inside T → GhostList (Event × Position) → Bool → Inside T
@@ -193,8 +191,7 @@ event_given {T} p e given ended k here noted end =
     read_none given b = grind arith
 
     ends_alike : (b : Bool) → b ≡ has_end (seen p).given → (b || is_stream_end (ev_of e.0)) ≡ has_end ((seen p).given ++ (if b then [] else placed e ∷ []))
-    ends_alike true k = k ∙ ap has_end (sym (append-nil (seen p).given))
-    ends_alike false k = ap (λ b. b || is_stream_end (ev_of e.0)) k ∙ sym (has_end_snoc (seen p).given (placed e))
+    ends_alike b k = grind (arith, append-nil, has_end_snoc)
 
 pub none_waits : (current : Option (Event × Position)) → is_some (option_map placed current) ≡ false → is_some current ≡ false
 none_waits current h = grind arith

@@ -1,14 +1,12 @@
 -- The tokens say which problem a refused token has.
-use Rattle.yaml_parser.proofs.Common.{[], ap, Collection, Directive, directive_next, Ev, false, Goal, goes_so, if◌then◌else◌, is_after, is_directive, is_in_mapping, is_over_document, is_under, IsBottom, IsNested, IsNoDirective, Kind, kind_of, List, Names, Next, next_after, next_at, none_by, node_next, None, open_after, open_at, open_under, other_next, Position, Problem, problem_at, problem_for, problem_in, problem_of, Raw, Reader, refl, State, StreamSays, subst, sym, taken_toks, Tok, top, true, ◌++◌, ◌∙◌, ◌∷◌, ◌≡◌, ◌≢◌, arith}
+use Rattle.yaml_parser.proofs.Common.{[], ap, Collection, Directive, directive_next, Ev, false, Goal, goes_so, if◌then◌else◌, is_after, is_directive, is_in_mapping, is_over_document, is_under, IsBottom, IsNested, IsNoDirective, Kind, kind_of, List, Names, Next, next_after, next_at, node_next, None, open_after, open_at, open_under, other_next, Position, Problem, problem_at, problem_for, problem_in, problem_of, Raw, Reader, refl, State, StreamSays, subst, sym, taken_toks, Tok, top, true, ◌++◌, ◌∙◌, ◌∷◌, ◌≡◌, ◌≢◌, arith}
 use Rattle.yaml_parser.proofs.Ends.{Says}
 use Rattle.yaml_tokens.specs.declared.problem.Problem.TheVariants as problem
 use Rattle.model_parser.specs.declared.context.NodeContext.TheVariants as context
-use Rattle.model_parser.specs.declared.state.State.TheVariants as state
 
 -- by what the tokens leave to come and leave open
 by_tokens : (q : Problem) (ts : List Tok) (t : Tok) {n : Next} {cs : List Collection} → next_after other_next ts ≡ n → open_after [] ts ≡ cs → (ts ≡ [] → q ≡ problem.DocumentStartToken) → q ≡ problem_for (kind_of t) n cs → q ≡ problem_of ts t
-by_tokens q [] t next opens none e = none refl
-by_tokens q (u ∷ ts) t {n} {cs} next opens none e = e ∙ ap (λ x. problem_for (kind_of t) x cs) (sym next) ∙ ap (problem_for (kind_of t) (next_after other_next (u ∷ ts))) (sym opens)
+by_tokens q ts t next opens none e = grind arith
 
 -- An innermost collection is open here, in which no node may begin.
 abbrev pub IsInside : Goal → Collection → Type 0
@@ -43,8 +41,7 @@ says_directed {T} {k} {p} read none a known t look kind =
 
 -- Something was taken before a document's end.
 taken_some : (ts us : List Tok) (es : List Raw) → StreamSays (ts ++ Tok.stream_end ∷ us) es → ts ≢ []
-taken_some [] us es d e = none_by d refl
-taken_some (t ∷ ts) us es d e = cc
+taken_some ts us es d e = grind arith
 
 pub says_after : {T : Type 0} {k : Kind} {p : Reader T} {names : Names} {given : List (Ev × Position)} → is_directive k ≡ true → Says problem.DirectiveWithoutDocumentEnd k Goal.after p names given
 says_after {T} {k} {p} is a known t look kind =
@@ -60,13 +57,10 @@ mapping_opens ss h e = grind arith
 
 -- Where nothing is open, it is a document's.
 over_document : (ss : List State) → IsNested ss → is_under ss ≡ true → open_under ss ≡ [] → is_over_document ss ≡ true
-over_document (state.DocumentEnd ∷ ss) n u e = refl
-over_document (state.IndentlessSequenceEntry ∷ ss) n u e = absurd (mapping_opens ss n.0 e)
-over_document _ n u e = cc
+over_document ss n u e = grind (arith, mapping_opens)
 
 node_for : (k : Kind) (cs : List Collection) → (cs ≡ [] → is_directive k ≡ false) → problem.NodeContent ≡ problem_for k node_next cs
-node_for k [] none = no_directive_for k node_next (none refl)
-node_for k (c ∷ cs) none = refl
+node_for k cs none = grind (arith, no_directive_for)
 
 pub says_node : {T : Type 0} {k : Kind} {p : Reader T} {names : Names} {given : List (Ev × Position)} → Says problem.NodeContent k (Goal.after_properties context.Flow None) p names given
 says_node {T} {k} {p} a known t look kind =

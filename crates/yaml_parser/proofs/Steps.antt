@@ -1,5 +1,5 @@
 -- The turns over the code's state.
-use Rattle.yaml_parser.proofs.Common.{[], all_shown, ap, append-nil, arith, At, BeginAt, Bool, both, both_ways, Ev, events_of, false, Goal, IfSome, is_end, is_over, IsAt, IsAwake, IsHanded, IsNamed, IsNext, IsOfKind, IsOnTrack, IsPastColon, IsPending, Kind, kind_of, last_position, Leaves, length, length-append, List, looks, map, named, named_by, Names, names_after, names_at, names_by, no_names, None, nowhere, Option, option_map, or_parts, peeked_tok, Position, Raw, Reader, refl, resolved_event, shown, shown_list, Skips, Some, State, stood, subst, sym, taken_toks, Takes, Tok, tok_of, Token, Tokens, toks, top, ◌++◌, ◌||◌, ◌∙◌, ◌∷◌, ◌≡◌, ◌≤◌, then_event, event_at, append_assoc, AwaitsAt, Extent, IsAtFirst, IsFor, IsNested, IsThere, StreamPlacesTo, IsPlaced, IsTold, ◌+◌}
+use Rattle.yaml_parser.proofs.Common.{map-append, [], all_shown, ap, append-nil, arith, At, BeginAt, Bool, both, both_ways, Ev, events_of, false, Goal, IfSome, is_end, is_over, IsAt, IsAwake, IsHanded, IsNamed, IsNext, IsOfKind, IsOnTrack, IsPastColon, IsPending, Kind, kind_of, last_position, Leaves, length, length-append, List, looks, named, named_by, Names, names_after, names_at, names_by, no_names, None, nowhere, Option, option_map, or_parts, peeked_tok, Position, Raw, Reader, refl, resolved_event, shown, shown_list, Skips, Some, State, stood, subst, sym, taken_toks, Takes, Tok, tok_of, Token, Tokens, toks, top, ◌++◌, ◌||◌, ◌∙◌, ◌∷◌, ◌≡◌, ◌≤◌, then_event, event_at, append_assoc, AwaitsAt, Extent, IsAtFirst, IsFor, IsNested, IsThere, StreamPlacesTo, IsPlaced, IsTold, ◌+◌}
 use Rattle.model_parser.proofs.Standing.{stands_take, stands_leave}
 use Rattle.yaml_parser.specs.Handed.{ends}
 use Rattle.yaml_parser.proofs.Positions.{behind_more, stood_over}
@@ -25,9 +25,7 @@ placed_took t {e = e} {b = b} taken stands stands' m turn fits at more f = λ x 
     (subst (λ xs. StreamPlacesTo x (taken ++ shown t ∷ ts) xs) (event_over stands e m es ∙ ap (λ l. l ++ es) (sym more)) (f x (shown t ∷ ts) (event_at e m es) refl (turn.places fits x b (shown t) m refl at ts es a)))
 
 is_there : (peeked : Option Token) (ts : List defs.Token) → BeginAt peeked ts → IsThere (option_map (λ (t : Token). tok_of t.1) peeked) ts
-is_there None ts h = tt
-is_there (Some t) [] h = h
-is_there (Some t) (k ∷ ts) h = tt
+is_there peeked ts h = grind arith
 
 -- or the token stays.
 pub placed_left : {g g' : Goal} {ss ss' : List State} {o : Option Tok} (peeked : Option Token) {e : Option Raw} {b : Option Position} (taken : List defs.Token) (stands stands' : List (Raw × Position)) (m : Position) → option_map (λ (t : Token). tok_of t.1) peeked ≡ o
@@ -43,12 +41,8 @@ placed_left peeked {e = e} {b = b} taken stands stands' m here turn nested fits 
 
 -- ---- lists
 
-pub map_snoc : {A B : Type 0} (f : A → B) (xs : List A) (x : A) → map f (xs ++ x ∷ []) ≡ map f xs ++ f x ∷ []
-map_snoc f [] x = refl
-map_snoc f (y ∷ xs) x = ap (λ zs. f y ∷ zs) (map_snoc f xs x)
-
 pub taken_snoc : (ts : List Token) (t : Token) → toks (all_shown (ts ++ t ∷ [])) ≡ toks (all_shown ts) ++ tok_of t.1 ∷ []
-taken_snoc ts t = ap toks (map_snoc shown ts t) ∙ map_snoc (λ (x : defs.Token). x.tok) (all_shown ts) (shown t)
+taken_snoc ts t = ap toks (map-append shown ts (t ∷ [])) ∙ map-append (λ (x : defs.Token). x.tok) (all_shown ts) (shown t ∷ [])
 
 -- ---- tokens
 
@@ -91,7 +85,7 @@ gave m {p = p} {r} {e = e} {v} {given} n a =
         count = length-append a.raw (e ∷ []) ∙ ap (λ n. n + 1) a.count ∙ sym (length-append given ((v, m) ∷ []));
         few = rw n.keep few;
         events = ap (λ j. named_by j (a.raw ++ e ∷ [])) n.keep ∙ since_append items k.tags no_names a.raw (e ∷ []) (events_of given) (v ∷ []) a.few a.events last
-            ∙ ap Some (sym (map_snoc (λ (x : Ev × Position). x.0) given (v, m)));
+            ∙ ap Some (sym (map-append (λ (x : Ev × Position). x.0) given ((v, m) ∷ [])));
         names_are = ap (λ j. names_by j (a.raw ++ e ∷ [])) n.keep ∙ since_after items k.tags no_names a.raw e a.few ∙ ap (λ s. names_after k.tags s e) a.names_are ∙ n.after_it;
         code = n.code;
         pending = n.pending;
@@ -118,10 +112,10 @@ took {m = m} {g} {g'} {p} {r} {t} {ss'} {e} {given = given} {given'} here s to t
       place = rw to (skipped r.tokens s (record {
         stands = subst (λ ts. IsOnTrack g' ss' ts None (then_event a.raw e)) (sym (taken_snoc items t))
             (stands_take g p.stack (tok_of t.1) e g' ss' (taken_toks p.tokens) a.raw turn (subst (λ o. IsOnTrack g p.stack (taken_toks p.tokens) (option_map (λ (x : Token). tok_of x.1) o) a.raw) here a.stands));
-        handed = a.handed ∙ ap (λ o. all_shown items ++ shown_list o) here ∙ sym (map_snoc shown items t) ∙ sym (append-nil (all_shown (items ++ t ∷ [])));
+        handed = a.handed ∙ ap (λ o. all_shown items ++ shown_list o) here ∙ sym (map-append shown items (t ∷ [])) ∙ sym (append-nil (all_shown (items ++ t ∷ [])));
         awake = λ o. let w = wakes o in let b = a.awake w.0 in (b.0 ∙ ap ends here ∙ w.1, b.1);
         over = λ o. refl;
-        places = subst (λ b. StandsSo (all_shown (items ++ t ∷ [])) None b g' ss' stands) (sym after) (subst (λ ts. StandsSo ts None (Some t.0) g' ss' stands) (sym (map_snoc shown items t))
+        places = subst (λ b. StandsSo (all_shown (items ++ t ∷ [])) None b g' ss' stands) (sym after) (subst (λ ts. StandsSo ts None (Some t.0) g' ss' stands) (sym (map-append shown items (t ∷ [])))
             (placed_took t (all_shown items) (stood a.raw given) stands m turn a.stands.fits spot y.stands (subst (λ o. StandsSo (all_shown items) o (last_position p.tokens) g p.stack (stood a.raw given)) here a.places)));
         colon = subst (IsPastColon (top g' ss')) (sym after) past;
       }));
@@ -160,8 +154,7 @@ look_peeked g ss taken (Some t) q raw f s = subst (λ x. IsOnTrack g ss taken (o
 
 -- what begins where the token stands that is looked at now, begins where that stood which was looked at before
 begins_before : (o q : Option Token) → ((t : Token) → o ≡ Some t → q ≡ Some t) → (ts : List defs.Token) → BeginAt q ts → BeginAt o ts
-begins_before None q f ts h = tt
-begins_before (Some t) q f ts h = subst (λ x. BeginAt x ts) (f t refl) h
+begins_before o q f ts h = grind arith
 
 -- the next token is the one that was looked at, where one was
 pub begins_peeked : (o : Option Token) (ts : List Tok) → IsNext (option_map (λ (t : Token). tok_of t.1) o) (toks (shown_list o) ++ ts)

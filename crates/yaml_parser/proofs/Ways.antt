@@ -1,9 +1,7 @@
 -- Where a token may be refused, streams go on in two ways.
-use Rattle.yaml_parser.proofs.Common.{nothing_written, is_idle, IfSome, may_wait, perhaps, none_by, left_by, taken_by, said_by, needs_tokens, [], all_shown, ap, append-nil, append_assoc, as_tokens, At, at_directive, Awaits, BeginAt, by_leaving, Directive, DirectiveWithoutDocumentEnd, end_events, end_tokens, Ev, false, Goal, goes_so, GoesApart, GoesOnBy, is_after, IsFor, IsSettled, kind_of, last_position, List, may_begin, Names, next_after, next_at, node_next, None, open_after, open_at, other_next, past_tokens, peeked_tok, Position, Raw, Reader, refl, says, SaysBefore, Some, State, stood, StreamPlacesTo, StreamSays, subst, sym, taken_toks, takes_last, text, to_last, Tok, token_at, top, true, two_that_come, work_of, Works, ℕ, ◌++◌, ◌∙◌, ◌∷◌, ◌≡◌, ◌≢◌, before, Bool, cases, grammar, Held, Option, placed_before, PlacedWork, Places, plain_before, plain_placed, plain_work, reading, Row, row_of, saying, suc, takes, zero}
+use Rattle.yaml_parser.proofs.Common.{nothing_written, is_idle, IfSome, may_wait, perhaps, [], all_shown, ap, append-nil, append_assoc, arith, At, Awaits, BeginAt, by_leaving, Directive, DirectiveWithoutDocumentEnd, end_events, end_tokens, Ev, false, Goal, goes_so, GoesApart, GoesOnBy, is_after, IsFor, kind_of, last_position, List, may_begin, Names, next_after, next_at, node_next, None, open_after, open_at, other_next, past_tokens, Position, Raw, Reader, refl, says, SaysBefore, Some, State, stood, StreamPlacesTo, StreamSays, subst, sym, taken_toks, takes_last, text, to_last, Tok, token_at, top, true, two_that_come, work_of, Works, ℕ, ◌++◌, ◌∙◌, ◌∷◌, ◌≡◌, ◌≢◌, before, Bool, cases, grammar, Held, Option, placed_before, PlacedWork, Places, plain_before, plain_placed, plain_work, reading, Row, row_of, saying, suc, takes, zero}
 use Rattle.model_parser.specs.declared.context.NodeContext.{NodeContext}
-use Rattle.model_parser.specs.Stands.{goes_on}
 use Rattle.yaml_parser.proofs.Ends.{IsKnown, StandsBeside}
-use Rattle.model_parser.specs.declared.context.NodeContext.TheVariants as context
 use Rattle.defs_token.specs.Token.{Token}
 use Rattle.defs_event.specs.Table.{leaves}
 use Rattle.model_parser.specs.Rest.{placed}
@@ -84,18 +82,13 @@ abbrev pub after_one : {g : Goal} {ss : List State} {t u : Tok} (l : Raw) {e f :
 after_one l waits all one other apart = opened (Some l) waits all one other apart (λ h. cc h)
 
 pub start_says : (ss : List State) (ts : List Tok) (es : List Raw) → Awaits Goal.start ss ts es → (fs : List Raw) × (es ≡ Raw.stream_start ∷ fs)
-start_says ss [] es a = absurd (needs_tokens (work_of Goal.start ss) es refl a.0)
-start_says ss (Tok.stream_start ∷ ts) es a = let s = said_by (taken_by a.0 _ refl) in (s.0, s.1)
-start_says ss (t ∷ ts) es a = absurd (none_by a.0 refl)
+start_says ss ts es a = grind arith
 
 pub end_says : (ss : List State) (ts : List Tok) (es : List Raw) → Awaits Goal.after ss ts es → (fs : List Raw) × (es ≡ Raw.document_end ∷ fs)
-end_says ss [] es a = absurd (needs_tokens (work_of Goal.after ss) es refl a.0)
-end_says ss (Tok.document_end ∷ ts) es a = let s = said_by (taken_by a.0 _ refl) in (s.0, s.1)
-end_says ss (t ∷ ts) es a = let s = said_by (left_by a.0 _ refl) in (s.0, s.1)
+end_says ss ts es a = grind arith
 
 pub empty_says : (ss : List State) (ts : List Tok) (es : List Raw) → Awaits Goal.flow_empty ss ts es → (fs : List Raw) × (es ≡ nothing_written ∷ fs)
-empty_says ss [] es a = absurd (needs_tokens (work_of Goal.flow_empty ss) es refl a.0)
-empty_says ss (t ∷ ts) es a = let s = said_by (left_by a.0 _ refl) in (s.0, s.1)
+empty_says ss ts es a = grind arith
 
 pub longer : (ds : List Directive) (d : Directive) → Raw.document_start ds ≢ Raw.document_start (ds ++ d ∷ [])
 longer ds d e = by ds (let same : ds ≡ ds ++ d ∷ [] = cc in same)
@@ -176,19 +169,13 @@ goes_apart {T} g {p} busy right a known =
 
 -- Where a node is read, the tokens leave one to come.
 pub node_comes : {T : Type 0} {w : NodeContext} {p : Reader T} {names : Names} {given : List (Ev × Position)} → At (Goal.node w) p names given → next_after other_next (taken_toks p.tokens) ≡ node_next
-node_comes {T} {w} {p} a = by a.stands.settled
-  where
-    by : IsSettled (Goal.node w) p.stack (taken_toks p.tokens) (peeked_tok p.tokens) → next_after other_next (taken_toks p.tokens) ≡ node_next
-    by (as_tokens h) = h
-    by (goes_on h c) = cc
-    by (at_directive h d) = cc
+node_comes a = let s = a.stands.settled in grind arith
 
 pub node_apart : {T : Type 0} {w : NodeContext} {p : Reader T} {names : Names} {given : List (Ev × Position)} → (a : At (Goal.node w) p names given) → GoesBeside (two_after (taken_toks p.tokens)) a
 node_apart {T} {w} {p} a = apart_as (opens (Goal.node w) p.stack refl) refl (ap (λ n. two_that_come n (open_after [] (taken_toks p.tokens))) (node_comes a)) a
 
 pub explicit_right : AreRight Goal.explicit refl
-explicit_right [] f = (refl, refl, refl)
-explicit_right (s ∷ ss) f = absurd f
+explicit_right ss f = grind arith
 
 -- Where a document's end is certain, and a directive may not stand.
 pub after_goes_apart : {T : Type 0} {p : Reader T} {names : Names} {given : List (Ev × Position)} → (a : At Goal.after p names given) → IsKnown Goal.after p → StandsBeside DirectiveWithoutDocumentEnd a

@@ -31,6 +31,7 @@ pub struct EventReader<T: Characters> {
 
 impl<T: Characters> EventReader<T> {
     /// Nothing was read yet. It takes no memory.
+    #[tactic(auto, using(crate::proofs::Holding::begun))]
     pub fn new(alloc: Global, src: T) -> EventReader<T>
         requires can { T.can_next src }
         requires finite { IsFinite (T.remaining src) }

@@ -1,4 +1,4 @@
-use Rattle.yaml_parser.proofs.Answering.{reads, Goal, block_mapping, BlockMappingKey, faulted_as, gives, goes, goes_apart, key_pairs_refuses, names_nothing, not_as, push_after, refl, refuses, says_inside, under_no_colon, wrote_event, block_turns, Some, arith, true, ◌≡◌}
+use Rattle.yaml_parser.proofs.Answering.{reads, Goal, block_mapping, BlockMappingKey, faulted_as, gives, goes, goes_apart, plain_turns, names_nothing, not_as, push_after, refl, refuses, says_inside, under_no_colon, wrote_event, block_turns, Some, arith, true, ◌≡◌}
 use Rattle.yaml_parser.specs.Blames.{fits}
 use Rattle.yaml_parser.proofs.reader.Reader.block_mapping_pair.Goals as goal
 
@@ -11,4 +11,4 @@ returns-in_ok-push-in-Key-clause-answers g c = reads (λ names given h. c.block_
 pub returns-in_default-clause-answers : goal.returns-in_default-clause-answers
 returns-in_default-clause-answers g c =
     let fit : fits BlockMappingKey c.args.next ≡ true = grind arith in
-    reads (λ names given h. faulted_as _ given c.halt.ensures (refuses BlockMappingKey refl fit c.mark.ensures c.requires (λ t e. key_pairs_refuses _ t (not_as c.in_default.not-BlockEnd e) (not_as c.in_default.not-Key e)) (λ _ _ _ _. tt) (goes_apart Goal.key_pairs refl (λ ss f. (refl, refl, refl))) (says_inside block_mapping (λ ss. (refl, refl, refl))) h))
+    reads (λ names given h. faulted_as _ given c.halt.ensures (refuses BlockMappingKey refl fit c.mark.ensures c.requires (λ t e. (plain_turns _).key_pairs_refuses t (not_as c.in_default.not-BlockEnd e) (not_as c.in_default.not-Key e)) (λ _ _ _ _. tt) (goes_apart Goal.key_pairs refl (λ ss f. (refl, refl, refl))) (says_inside block_mapping (λ ss. (refl, refl, refl))) h))

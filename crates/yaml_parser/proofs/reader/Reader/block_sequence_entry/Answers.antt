@@ -1,4 +1,4 @@
-use Rattle.yaml_parser.proofs.Answering.{reads, block_sequence, BlockSequenceEntry, entries_refuses, faulted_as, gives, Goal, goes, goes_apart, names_nothing, not_as, refl, refuses, says_inside, under_no_colon, wrote_event, block_turns, Some, arith, true, ◌≡◌}
+use Rattle.yaml_parser.proofs.Answering.{reads, block_sequence, BlockSequenceEntry, plain_turns, faulted_as, gives, Goal, goes, goes_apart, names_nothing, not_as, refl, refuses, says_inside, under_no_colon, wrote_event, block_turns, Some, arith, true, ◌≡◌}
 use Rattle.yaml_parser.specs.Blames.{fits}
 use Rattle.yaml_parser.proofs.reader.Reader.block_sequence_entry.Goals as goal
 
@@ -11,4 +11,4 @@ returns-in-BlockEntry-clause-answers g c = c.in_ok-next.ensures.on Goal.entries 
 pub returns-in_default-clause-answers : goal.returns-in_default-clause-answers
 returns-in_default-clause-answers g c =
     let fit : fits BlockSequenceEntry c.in_ok-next.next ≡ true = grind arith in
-    c.in_ok-next.ensures.on Goal.entries refl _ _ _ (reads (λ names given h. faulted_as _ given c.halt.ensures (refuses BlockSequenceEntry refl fit c.mark.ensures c.in_ok-next.ensures.peeked (λ t e. entries_refuses _ t (not_as c.in_default.not-BlockEnd e) (not_as c.in_default.not-BlockEntry e)) (λ _ _ _ _. tt) (goes_apart Goal.entries refl (λ ss f. (refl, refl, refl))) (says_inside block_sequence (λ ss. (refl, refl, refl))) h)))
+    c.in_ok-next.ensures.on Goal.entries refl _ _ _ (reads (λ names given h. faulted_as _ given c.halt.ensures (refuses BlockSequenceEntry refl fit c.mark.ensures c.in_ok-next.ensures.peeked (λ t e. (plain_turns _).entries_refuses t (not_as c.in_default.not-BlockEnd e) (not_as c.in_default.not-BlockEntry e)) (λ _ _ _ _. tt) (goes_apart Goal.entries refl (λ ss f. (refl, refl, refl))) (says_inside block_sequence (λ ss. (refl, refl, refl))) h)))

@@ -27,10 +27,5 @@ pub returns-in_err-tag_directive-in-TagDirective-clause-err : goal.returns-in_er
 returns-in_err-tag_directive-in-TagDirective-clause-err g c = on_err _ c.from_residual-in_err-tag_directive-in-TagDirective.result
     (λ names given h. c.in_err-tag_directive-in-TagDirective.ensures.directs c.directives.versioned names given (directing_on c.in_ok-next.ensures.at c.in_ok-next.ensures.names c.in_ok-next.ensures.taken (c.directives.invariant.at names given h)))
 
-pub returns-in_default : goal.returns-in_default
-returns-in_default g c = record {
-  peeked = (c.in_ok-next.ensures.peeked, c.in_default.not-VersionDirective, c.in_default.not-TagDirective);
-  bounds = record { input = record { keeping = cc; start = cc }; bound = omega (arith, c.in_ok-next.ensures.bounds.bound, c.directives.invariant.work) };
-  at = λ names given h. let d = c.directives.invariant.at names given h in (d.read, c.in_ok-next.ensures.at (Goal.directed d.read) refl names given d.here);
-  err = tt;
-}
+pub returns-in_default-clause-at : goal.returns-in_default-clause-at
+returns-in_default-clause-at g c = λ names given h. let d = c.directives.invariant.at names given h in (d.read, c.in_ok-next.ensures.at (Goal.directed d.read) refl names given d.here)

@@ -1,4 +1,4 @@
-use Rattle.yaml_parser.proofs.Answering.{reads, ap, DocumentStartToken, Goal, marked_begins, [], explicit_outside, explicit_refuses, explicit_right, faulted_as, goes_apart, kind_of, not_as, push_after, refl, refuses_for, says_explicit, stream_ends, wrote, document_turns}
+use Rattle.yaml_parser.proofs.Answering.{reads, ap, DocumentStartToken, Goal, marked_begins, [], explicit_outside, plain_turns, explicit_right, faulted_as, goes_apart, kind_of, not_as, push_after, refl, refuses_for, says_explicit, stream_ends, wrote, document_turns}
 use Rattle.yaml_parser.proofs.reader.Reader.end_or_document.Goals as goal
 
 pub returns-in-StreamEnd-clause-answers : goal.returns-in-StreamEnd-clause-answers
@@ -9,5 +9,5 @@ returns-in_ok-push-in-DocumentStart-clause-answers g c = reads (λ names given h
 
 pub returns-in_default-clause-answers : goal.returns-in_default-clause-answers
 returns-in_default-clause-answers g c = reads (λ names given h.
-    faulted_as _ given c.halt.ensures (refuses_for DocumentStartToken refl refl c.mark.ensures c.requires (λ t e. explicit_refuses _ t (not_as c.in_default.not-StreamEnd e) (not_as c.in_default.not-DocumentStart e))
+    faulted_as _ given c.halt.ensures (refuses_for DocumentStartToken refl refl c.mark.ensures c.requires (λ t e. (plain_turns _).explicit_refuses t (not_as c.in_default.not-StreamEnd e) (not_as c.in_default.not-DocumentStart e))
     (λ a t e. (explicit_outside a, λ same. absurd (not_as c.in_default.not-DocumentStart e (ap kind_of same)))) (λ a no. goes_apart Goal.explicit refl explicit_right a) says_explicit h))

@@ -1,4 +1,4 @@
-use Rattle.yaml_parser.proofs.Answering.{reads, comma_skipped, faulted_as, flow_mapping, FlowMappingEntry, gives, Goal, goes, goes_apart, more_flow_refuses, names_nothing, not_as, refl, refuses, says_inside, under_no_colon, wrote_event, flow_turns, Some, arith, true, ◌≡◌}
+use Rattle.yaml_parser.proofs.Answering.{reads, comma_skipped, faulted_as, flow_mapping, FlowMappingEntry, gives, Goal, goes, goes_apart, plain_flow_turns, names_nothing, not_as, refl, refuses, says_inside, under_no_colon, wrote_event, flow_turns, Some, arith, true, ◌≡◌}
 use Rattle.yaml_parser.specs.Blames.{fits}
 use Rattle.yaml_parser.proofs.reader.Reader.flow_mapping_key.Goals as goal
 
@@ -11,4 +11,4 @@ returns-in-FlowEntry-clause-answers g c = c.in_ok-next.ensures.on Goal.more_flow
 pub returns-in_default-clause-answers : goal.returns-in_default-clause-answers
 returns-in_default-clause-answers g c =
     let fit : fits FlowMappingEntry c.in_ok-next.next ≡ true = grind arith in
-    c.in_ok-next.ensures.on Goal.more_flow_pairs refl _ _ _ (reads (λ names given h. faulted_as _ given c.halt.ensures (refuses FlowMappingEntry refl fit c.mark.ensures c.in_ok-next.ensures.peeked (λ t e. more_flow_refuses _ t (not_as c.in_default.not-FlowMappingEnd e) (not_as c.in_default.not-FlowEntry e)) (λ _ _ _ _. tt) (goes_apart Goal.more_flow_pairs refl (λ ss f. (refl, refl, refl))) (says_inside flow_mapping (λ ss. (refl, refl, refl))) h)))
+    c.in_ok-next.ensures.on Goal.more_flow_pairs refl _ _ _ (reads (λ names given h. faulted_as _ given c.halt.ensures (refuses FlowMappingEntry refl fit c.mark.ensures c.in_ok-next.ensures.peeked (λ t e. (plain_flow_turns _).more_flow_refuses t (not_as c.in_default.not-FlowMappingEnd e) (not_as c.in_default.not-FlowEntry e)) (λ _ _ _ _. tt) (goes_apart Goal.more_flow_pairs refl (λ ss f. (refl, refl, refl))) (says_inside flow_mapping (λ ss. (refl, refl, refl))) h)))
