@@ -17,7 +17,7 @@ pub use Rattle.model_parser.specs.Machine.{after_events, and_before, finish, go_
 pub use Rattle.model_parser.specs.Outcome.{Begins, IsRight, NeverGoesOn}
 pub use Rattle.model_parser.specs.Place.{is_after, is_directive_next, is_node, is_over_document, is_past_directives, IsNoDirective, next_at, open_at, top}
 pub use Rattle.model_parser.specs.Reader.{read_stream, weight}
-pub use Rattle.model_parser.specs.Rest.{Awaits, AwaitsAt, context_at, first_may, goal_and, goal_of, is_in_mapping, is_under, IsFor, IsGoing, IsNested, may_begin, may_begin_content, narrows, past, place_of, placed, with_properties, work_of, Works, works}
+pub use Rattle.model_parser.specs.Rest.{Awaits, AwaitsAt, context_at, first_may, goal_and, goal_of, is_in_mapping, is_under, IsFor, IsGoing, IsNested, may_begin, past, place_of, placed, with_properties, work_of, Works, works}
 pub use Rattle.model_parser.specs.Stands.{as_tokens, at_directive, goes_on, IsNext, IsSettled}
 pub use Rattle.model_parser.specs.Track.{ends_goal, GoesOn, IsOnTrack, MayBegin}
 pub use Rattle.model_parser.specs.Turn.{alike, alike_after, before_directive, event_at, event_then, IsAt, IsAtFirst, IsThere, Leaves, MayCome, Refuses, Settles, Takes, Then, then_event, without_node}

@@ -45,12 +45,12 @@ after_text_events (in_pair value) = Raw.mapping_end ∷ []
 after_text_events _ = []
 
 -- what ends a block mapping behind its key or value
-pub pair_ends : (s : Side) (h : Held) (t : Tok) → Derives grammar (before grammar h t (then_in_pair s) []) (Tok.block_end ∷ []) (after_text_events (in_pair s))
-pair_ends key h t = by_leaving _ refl (says (by_taking _ refl (says nothing_left)))
-pair_ends value h t = by_taking _ refl (says nothing_left)
+pub flow_pair_ends : (s : Side) (h : Held) (t : Tok) → Derives grammar (before grammar h t (then_in_pair s) []) (Tok.block_end ∷ []) (after_text_events (in_pair s))
+flow_pair_ends key h t = by_leaving _ refl (says (by_taking _ refl (says nothing_left)))
+flow_pair_ends value h t = by_taking _ refl (says nothing_left)
 
 pub content_ends : (p : Place) (h : Held) → Derives grammar (reading (content p) h ∷ []) (text ∷ after_text p) (text_event h ∷ after_text_events p)
-content_ends (in_pair s) h = by_taking _ refl (says (pair_ends s h text))
+content_ends (in_pair s) h = by_taking _ refl (says (flow_pair_ends s h text))
 content_ends _ h = by_taking _ refl (says nothing_left)
 
 abbrev pub grammar_completes : Completes grammar
@@ -65,7 +65,7 @@ grammar_completes (after_anchor p) h = (_, _, by_leaving _ refl (content_ends p 
 grammar_completes (after_tag p) h = (_, _, by_leaving _ refl (content_ends p h))
 grammar_completes (content p) h = (_, _, content_ends p h)
 grammar_completes block_sequence_entries h = (Tok.block_end ∷ [], _, by_taking _ refl (says nothing_left))
-grammar_completes (indentless_sequence_entries s) h = (Tok.block_end ∷ [], _, by_leaving _ refl (says (pair_ends s h Tok.block_end)))
+grammar_completes (indentless_sequence_entries s) h = (Tok.block_end ∷ [], _, by_leaving _ refl (says (flow_pair_ends s h Tok.block_end)))
 grammar_completes block_mapping_entries h = (Tok.block_end ∷ [], _, by_taking _ refl (says nothing_left))
 grammar_completes block_mapping_value h = (Tok.block_end ∷ [], _, by_leaving _ refl (says (by_taking _ refl (says nothing_left))))
 grammar_completes flow_sequence_entries h = (Tok.flow_sequence_end ∷ [], _, by_taking _ refl (says nothing_left))

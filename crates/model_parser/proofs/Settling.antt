@@ -33,14 +33,14 @@ then_works ss h t = grind arith
 -- whether a token of this kind may stand there
 abbrev pub closes : List State → Kind → Bool
 closes (state.DocumentEnd ∷ ss) = ends_document
-closes (state.BlockSequenceEntry ∷ ss) = ends_entry
-closes (state.IndentlessSequenceEntry ∷ ss) = ends_indentless_entry
-closes (state.BlockMappingKey ∷ ss) = ends_part
+closes (state.BlockSequenceEntries ∷ ss) = ends_entry
+closes (state.IndentlessSequenceEntries ∷ ss) = ends_indentless_entry
+closes (state.BlockMappingEntries ∷ ss) = ends_part
 closes (state.BlockMappingValue ∷ ss) = ends_part
-closes (state.FlowSequenceEntryMappingValue ∷ ss) = ends_item_key
-closes (state.FlowMappingKey ∷ ss) = ends_flow_pair
+closes (state.FlowValue ∷ ss) = ends_item_key
+closes (state.FlowMappingComma ∷ ss) = ends_flow_pair
 closes (state.FlowMappingValue ∷ ss) = ends_flow_key
-closes (state.FlowMappingEmptyValue ∷ ss) = ends_flow_pair
+closes (state.NoFlowMappingValue ∷ ss) = ends_flow_pair
 closes ss = ends_item
 
 -- One that may is taken there, and begins no node; another is refused.
@@ -50,17 +50,17 @@ IsClosed ss t =
 
 pub closed : (ss : List State) → is_under ss ≡ true → (t : Tok) → IsClosed ss t
 closed (state.DocumentEnd ∷ ss) h = elim [ Tok.block_end ↦ (refl, refl, refl) | _ ↦ (refl, refl, refl) ]
-closed (state.BlockSequenceEntry ∷ ss) h = elim [ Tok.block_end ↦ (refl, refl, refl) | _ ↦ (refl, refl, refl) ]
-closed (state.IndentlessSequenceEntry ∷ state.BlockMappingKey ∷ ss) h = elim [ Tok.block_end ↦ (refl, refl, refl) | _ ↦ (refl, refl, refl) ]
-closed (state.IndentlessSequenceEntry ∷ state.BlockMappingValue ∷ ss) h = elim [ Tok.block_end ↦ (refl, refl, refl) | _ ↦ (refl, refl, refl) ]
-closed (state.BlockMappingKey ∷ ss) h = elim [ Tok.block_end ↦ (refl, refl, refl) | _ ↦ (refl, refl, refl) ]
+closed (state.BlockSequenceEntries ∷ ss) h = elim [ Tok.block_end ↦ (refl, refl, refl) | _ ↦ (refl, refl, refl) ]
+closed (state.IndentlessSequenceEntries ∷ state.BlockMappingEntries ∷ ss) h = elim [ Tok.block_end ↦ (refl, refl, refl) | _ ↦ (refl, refl, refl) ]
+closed (state.IndentlessSequenceEntries ∷ state.BlockMappingValue ∷ ss) h = elim [ Tok.block_end ↦ (refl, refl, refl) | _ ↦ (refl, refl, refl) ]
+closed (state.BlockMappingEntries ∷ ss) h = elim [ Tok.block_end ↦ (refl, refl, refl) | _ ↦ (refl, refl, refl) ]
 closed (state.BlockMappingValue ∷ ss) h = elim [ Tok.block_end ↦ (refl, refl, refl) | _ ↦ (refl, refl, refl) ]
-closed (state.FlowSequenceEntry ∷ ss) h = elim [ Tok.block_end ↦ (refl, refl, refl) | _ ↦ (refl, refl, refl) ]
-closed (state.FlowSequenceEntryMappingValue ∷ ss) h = elim [ Tok.block_end ↦ (refl, refl, refl) | _ ↦ (refl, refl, refl) ]
-closed (state.FlowSequenceEntryMappingEnd ∷ ss) h = elim [ Tok.block_end ↦ (refl, refl, refl) | _ ↦ (refl, refl, refl) ]
-closed (state.FlowMappingKey ∷ ss) h = elim [ Tok.block_end ↦ (refl, refl, refl) | _ ↦ (refl, refl, refl) ]
+closed (state.FlowSequenceComma ∷ ss) h = elim [ Tok.block_end ↦ (refl, refl, refl) | _ ↦ (refl, refl, refl) ]
+closed (state.FlowValue ∷ ss) h = elim [ Tok.block_end ↦ (refl, refl, refl) | _ ↦ (refl, refl, refl) ]
+closed (state.FlowPairEnd ∷ ss) h = elim [ Tok.block_end ↦ (refl, refl, refl) | _ ↦ (refl, refl, refl) ]
+closed (state.FlowMappingComma ∷ ss) h = elim [ Tok.block_end ↦ (refl, refl, refl) | _ ↦ (refl, refl, refl) ]
 closed (state.FlowMappingValue ∷ ss) h = elim [ Tok.block_end ↦ (refl, refl, refl) | _ ↦ (refl, refl, refl) ]
-closed (state.FlowMappingEmptyValue ∷ ss) h = elim [ Tok.block_end ↦ (refl, refl, refl) | _ ↦ (refl, refl, refl) ]
+closed (state.NoFlowMappingValue ∷ ss) h = elim [ Tok.block_end ↦ (refl, refl, refl) | _ ↦ (refl, refl, refl) ]
 closed ss h = cc
 
 pub closes_so : (ss : List State) (t : Tok) → is_under ss ≡ true → refuses 9 t (works ss) ≡ false → closes ss (kind_of t) ≡ true

@@ -4,7 +4,7 @@ use Rattle.model_parser.specs.Stands.{IsOnTrack, GoesOn}
 use Rattle.model_parser.proofs.StepRows.{first_any}
 use Rattle.model_parser.specs.declared.state.State.TheVariants as state
 
-pub begins : (p : Option Tok) → IsOnTrack Goal.done (state.StreamStart ∷ []) [] p []
+pub begins : (p : Option Tok) → IsOnTrack Goal.done (state.Stream ∷ []) [] p []
 begins p = record {
   nested = (tt, tt);
   fits = tt;
@@ -12,7 +12,7 @@ begins p = record {
   settled = as_tokens refl;
   past = λ h. cc;
   sound = λ ts es a. a.0;
-  exact = λ ts es u d. (es, refl, (d, first_any Goal.done (state.StreamStart ∷ []) ts (λ k. refl)));
+  exact = λ ts es u d. (es, refl, (d, first_any Goal.done (state.Stream ∷ []) ts (λ k. refl)));
 }
 
 -- The next token is looked at.

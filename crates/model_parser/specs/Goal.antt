@@ -13,43 +13,40 @@ pub data Goal : Type 0 where
   done : Goal
   -- nothing any more
   ended : Goal
-  start : Goal
+  stream : Goal
   documents : Goal
-  explicit : Goal
+  explicit_document : Goal
   -- after directives
-  directed : List Directive → Goal
+  directives : List Directive → Goal
   -- after `---`
-  content : Goal
-  after : Goal
+  document_content : Goal
+  document_end : Goal
   node : NodeContext → Goal
   -- after a node's anchor, its tag, its properties
   after_anchor : NodeContext → List ℕ → Goal
   after_tag : NodeContext → Tag → Goal
-  after_properties : NodeContext → Option Properties → Goal
-  entries : Goal
+  content : NodeContext → Option Properties → Goal
+  block_sequence_entries : Goal
   -- after `-`
-  entry : Goal
-  indentless_entries : Goal
-  indentless_entry : Goal
-  part : Goal
-  pairs : Goal
-  key_pairs : Goal
-  after_key : Goal
-  items : Goal
-  more_items : Goal
-  item : Goal
-  pair_key : Goal
-  pair_value : Goal
+  block_sequence_item : Goal
+  indentless_sequence_entries : Goal
+  indentless_sequence_item : Goal
+  pair_node : Goal
+  block_mapping_entries : Goal
+  block_mapping_next_entries : Goal
+  block_mapping_value : Goal
+  flow_sequence_entries : Goal
+  flow_sequence_comma : Goal
+  flow_pair_key : Goal
+  flow_value : Goal
   -- after its `:`
-  pair_valued : Goal
-  pair_end : Goal
-  flow_pairs : Goal
-  more_flow_pairs : Goal
-  comma_flow_pairs : Goal
-  flow_pair : Start → Goal
+  flow_valued : Goal
+  flow_pair_end : Goal
+  flow_mapping_entries : Start → Goal
+  flow_mapping_comma : Goal
   -- a key after `?`, what stands after it, and what stands after its `:`, which stands there
-  flow_key : Goal
-  flow_after_key : Goal
-  flow_valued : Position → Goal
+  flow_mapping_keyed : Goal
+  flow_mapping_value : Goal
+  flow_mapping_valued : Position → Goal
   -- after a key that has no value
-  flow_empty : Goal
+  no_flow_mapping_value : Goal

@@ -36,9 +36,9 @@ begins_content p kind.FlowSequenceStart = true
 begins_content p kind.FlowMappingStart = true
 begins_content context.Block kind.BlockSequenceStart = true
 begins_content context.Block kind.BlockMappingStart = true
-begins_content context.Part kind.BlockSequenceStart = true
-begins_content context.Part kind.BlockMappingStart = true
-begins_content context.Part kind.BlockEntry = true
+begins_content context.Pair kind.BlockSequenceStart = true
+begins_content context.Pair kind.BlockMappingStart = true
+begins_content context.Pair kind.BlockEntry = true
 begins_content _ _ = false
 
 -- what begins a node at a context

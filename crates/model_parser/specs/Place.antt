@@ -11,26 +11,23 @@ use Rattle.model_parser.specs.Rest.{goal_of}
 
 -- the collections that are open where this is read, with these under it
 abbrev pub open_in : Goal → List Collection → List Collection
-open_in at.entries cs = block_sequence ∷ cs
-open_in at.entry cs = block_sequence ∷ cs
-open_in at.pairs cs = block_mapping ∷ cs
-open_in at.key_pairs cs = block_mapping ∷ cs
-open_in at.after_key cs = block_mapping ∷ cs
-open_in at.items cs = flow_sequence ∷ cs
-open_in at.more_items cs = flow_sequence ∷ cs
-open_in at.item cs = flow_sequence ∷ cs
-open_in at.pair_key cs = flow_sequence ∷ cs
-open_in at.pair_value cs = flow_sequence ∷ cs
-open_in at.pair_valued cs = flow_sequence ∷ cs
-open_in at.pair_end cs = flow_sequence ∷ cs
-open_in at.flow_pairs cs = flow_mapping ∷ cs
-open_in at.more_flow_pairs cs = flow_mapping ∷ cs
-open_in at.comma_flow_pairs cs = flow_mapping ∷ cs
-open_in (at.flow_pair s) cs = flow_mapping ∷ cs
-open_in at.flow_key cs = flow_mapping ∷ cs
-open_in at.flow_after_key cs = flow_mapping ∷ cs
-open_in (at.flow_valued m) cs = flow_mapping ∷ cs
-open_in at.flow_empty cs = flow_mapping ∷ cs
+open_in at.block_sequence_entries cs = block_sequence ∷ cs
+open_in at.block_sequence_item cs = block_sequence ∷ cs
+open_in at.block_mapping_entries cs = block_mapping ∷ cs
+open_in at.block_mapping_next_entries cs = block_mapping ∷ cs
+open_in at.block_mapping_value cs = block_mapping ∷ cs
+open_in at.flow_sequence_entries cs = flow_sequence ∷ cs
+open_in at.flow_sequence_comma cs = flow_sequence ∷ cs
+open_in at.flow_pair_key cs = flow_sequence ∷ cs
+open_in at.flow_value cs = flow_sequence ∷ cs
+open_in at.flow_valued cs = flow_sequence ∷ cs
+open_in at.flow_pair_end cs = flow_sequence ∷ cs
+open_in at.flow_mapping_comma cs = flow_mapping ∷ cs
+open_in (at.flow_mapping_entries s) cs = flow_mapping ∷ cs
+open_in at.flow_mapping_keyed cs = flow_mapping ∷ cs
+open_in at.flow_mapping_value cs = flow_mapping ∷ cs
+open_in (at.flow_mapping_valued m) cs = flow_mapping ∷ cs
+open_in at.no_flow_mapping_value cs = flow_mapping ∷ cs
 open_in _ cs = cs
 
 abbrev pub open_under : List State → List Collection
@@ -43,22 +40,19 @@ open_at g ss = open_in g (open_under ss)
 -- what comes where this is read
 abbrev pub next_in : Goal → Next
 next_in at.documents = node_next
-next_in (at.directed ds) = directive_next
-next_in at.content = node_next
+next_in (at.directives ds) = directive_next
+next_in at.document_content = node_next
 next_in (at.node p) = node_next
-next_in (at.after_properties p None) = node_next
-next_in at.entry = node_next
-next_in at.indentless_entry = node_next
-next_in at.part = node_next
-next_in at.items = node_next
-next_in at.item = node_next
-next_in at.pair_key = node_next
-next_in at.pair_valued = node_next
-next_in at.flow_pairs = node_next
-next_in at.comma_flow_pairs = node_next
-next_in (at.flow_pair s) = node_next
-next_in at.flow_key = node_next
-next_in (at.flow_valued m) = node_next
+next_in (at.content p None) = node_next
+next_in at.block_sequence_item = node_next
+next_in at.indentless_sequence_item = node_next
+next_in at.pair_node = node_next
+next_in at.flow_sequence_entries = node_next
+next_in at.flow_pair_key = node_next
+next_in at.flow_valued = node_next
+next_in (at.flow_mapping_entries s) = node_next
+next_in at.flow_mapping_keyed = node_next
+next_in (at.flow_mapping_valued m) = node_next
 next_in _ = other_next
 
 -- what is read next: between two events, what the stack has on top
@@ -76,7 +70,7 @@ is_node _ = false
 
 -- whether a document's end comes
 abbrev pub is_after : Goal → Bool
-is_after at.after = true
+is_after at.document_end = true
 is_after _ = false
 
 -- whether the next token was looked at and is a directive
@@ -91,9 +85,9 @@ is_over_document _ = false
 
 -- whether no directive may be next where this is read: before the node of a document, or its `---`, once something else was looked at
 abbrev pub is_past_in : Goal → List State → Bool
-is_past_in at.explicit ss = true
+is_past_in at.explicit_document ss = true
 is_past_in (at.node p) ss = is_over_document ss
-is_past_in (at.after_properties p None) ss = is_over_document ss
+is_past_in (at.content p None) ss = is_over_document ss
 is_past_in _ ss = false
 
 abbrev pub is_past_directives : Goal → List State → Bool

@@ -1,5 +1,5 @@
 -- What a parser still has to read, as work of the grammar's table; and what may stand under what.
-use Rattle.std.specs.Prelude.{◌≡◌, List, [], ◌∷◌, Option, Some, None, Bool, true, false, not, ◌||◌}
+use Rattle.std.specs.Prelude.{◌≡◌, List, [], ◌∷◌, Option, Some, None, Bool, true, false}
 use Rattle.defs_text.specs.Position.{Position}
 use Rattle.defs_token.specs.Token.{Tok, Token}
 use Rattle.defs_token.specs.Toks.{toks}
@@ -20,41 +20,41 @@ use Rattle.model_parser.specs.Goal as at
 use Rattle.model_parser.specs.Goal.{Goal}
 
 abbrev pub goal_of : State → Goal
-goal_of state.StreamStart = at.start
-goal_of state.ImplicitDocumentStart = at.documents
-goal_of state.DocumentStart = at.explicit
-goal_of state.DocumentContent = at.content
-goal_of state.DocumentEnd = at.after
+goal_of state.Stream = at.stream
+goal_of state.Documents = at.documents
+goal_of state.ExplicitDocument = at.explicit_document
+goal_of state.DocumentContent = at.document_content
+goal_of state.DocumentEnd = at.document_end
 goal_of state.BlockNode = at.node context.Block
-goal_of state.BlockSequenceEntry = at.entries
-goal_of state.IndentlessSequenceEntry = at.indentless_entries
-goal_of state.IndentlessSequenceItem = at.indentless_entry
-goal_of state.BlockMappingKey = at.pairs
-goal_of state.BlockMappingNextKey = at.key_pairs
-goal_of state.BlockMappingValue = at.after_key
-goal_of state.BlockMappingPart = at.part
-goal_of state.FlowSequenceFirstEntry = at.items
-goal_of state.FlowSequenceEntry = at.more_items
-goal_of state.FlowSequenceEntryMappingKey = at.pair_key
-goal_of state.FlowSequenceEntryMappingValue = at.pair_value
-goal_of state.FlowSequenceEntryMappingEnd = at.pair_end
-goal_of state.FlowMappingFirstKey = at.flow_pairs
-goal_of state.FlowMappingKey = at.more_flow_pairs
-goal_of state.FlowMappingValue = at.flow_after_key
-goal_of (state.FlowMappingPart m) = at.flow_valued m
-goal_of state.FlowMappingEmptyValue = at.flow_empty
+goal_of state.BlockSequenceEntries = at.block_sequence_entries
+goal_of state.IndentlessSequenceEntries = at.indentless_sequence_entries
+goal_of state.IndentlessSequenceItem = at.indentless_sequence_item
+goal_of state.BlockMappingEntries = at.block_mapping_entries
+goal_of state.BlockMappingNextEntries = at.block_mapping_next_entries
+goal_of state.BlockMappingValue = at.block_mapping_value
+goal_of state.PairNode = at.pair_node
+goal_of state.FlowSequenceEntries = at.flow_sequence_entries
+goal_of state.FlowSequenceComma = at.flow_sequence_comma
+goal_of state.FlowPairKey = at.flow_pair_key
+goal_of state.FlowValue = at.flow_value
+goal_of state.FlowPairEnd = at.flow_pair_end
+goal_of state.FlowMappingEntries = at.flow_mapping_entries table.after_brace
+goal_of state.FlowMappingComma = at.flow_mapping_comma
+goal_of state.FlowMappingValue = at.flow_mapping_value
+goal_of (state.FlowMappingValued m) = at.flow_mapping_valued m
+goal_of state.NoFlowMappingValue = at.no_flow_mapping_value
 
 -- ---- where a node stands, by what goes on after it
 
 abbrev pub place_of : List State → Place
-place_of (state.BlockMappingKey ∷ ss) = in_pair table.value
+place_of (state.BlockMappingEntries ∷ ss) = in_pair table.value
 place_of (state.BlockMappingValue ∷ ss) = in_pair table.key
-place_of (state.FlowSequenceEntry ∷ ss) = in_flow
-place_of (state.FlowSequenceEntryMappingValue ∷ ss) = in_flow
-place_of (state.FlowSequenceEntryMappingEnd ∷ ss) = in_flow
-place_of (state.FlowMappingKey ∷ ss) = in_flow
+place_of (state.FlowSequenceComma ∷ ss) = in_flow
+place_of (state.FlowValue ∷ ss) = in_flow
+place_of (state.FlowPairEnd ∷ ss) = in_flow
+place_of (state.FlowMappingComma ∷ ss) = in_flow
 place_of (state.FlowMappingValue ∷ ss) = in_flow
-place_of (state.FlowMappingEmptyValue ∷ ss) = in_flow
+place_of (state.NoFlowMappingValue ∷ ss) = in_flow
 place_of ss = in_block
 
 abbrev pub side_of : List State → Side
@@ -64,7 +64,7 @@ side_of ss = table.value
 abbrev pub context_at : Place → NodeContext
 context_at in_flow = context.Flow
 context_at in_block = context.Block
-context_at (in_pair s) = context.Part
+context_at (in_pair s) = context.Pair
 
 -- ---- what is still to be read
 
@@ -87,7 +87,7 @@ without_first [] = []
 without_first (x ∷ w) = w
 
 abbrev pub past : List State → Works → Works
-past (state.BlockMappingKey ∷ ss) w = without_first w
+past (state.BlockMappingEntries ∷ ss) w = without_first w
 past (state.BlockMappingValue ∷ ss) w = without_first w
 past ss w = w
 
@@ -95,39 +95,36 @@ past ss w = w
 abbrev pub goal_work : Goal → List State → Works → Works
 goal_work at.done ss w = w
 goal_work at.ended ss w = w
-goal_work at.start ss w = goal_and table.stream w
+goal_work at.stream ss w = goal_and table.stream w
 goal_work at.documents ss w = goal_and table.documents w
-goal_work at.explicit ss w = goal_and table.explicit_document w
-goal_work (at.directed ds) ss w = reading table.directives (with_directives ds) ∷ w
-goal_work at.content ss w = goal_and (table.node in_block) (goal_and table.document_end w)
-goal_work at.after ss w = goal_and table.document_end w
+goal_work at.explicit_document ss w = goal_and table.explicit_document w
+goal_work (at.directives ds) ss w = reading table.directives (with_directives ds) ∷ w
+goal_work at.document_content ss w = goal_and (table.node in_block) (goal_and table.document_end w)
+goal_work at.document_end ss w = goal_and table.document_end w
 goal_work (at.node p) ss w = goal_and (table.node (place_of ss)) (past ss w)
 goal_work (at.after_anchor p a) ss w = reading (table.after_anchor (place_of ss)) (with_properties (Some (anchored a))) ∷ past ss w
 goal_work (at.after_tag p t) ss w = reading (table.after_tag (place_of ss)) (with_properties (Some (tagged t))) ∷ past ss w
-goal_work (at.after_properties p o) ss w = reading (table.content (place_of ss)) (with_properties o) ∷ past ss w
-goal_work at.entries ss w = goal_and table.block_sequence_entries w
-goal_work at.entry ss w = goal_and (table.node in_block) (goal_and table.block_sequence_entries w)
-goal_work at.indentless_entries ss w = goal_and (table.indentless_sequence_entries (side_of ss)) (past ss w)
-goal_work at.indentless_entry ss w = goal_and (table.node in_block) (goal_and (table.indentless_sequence_entries (side_of ss)) (past ss w))
-goal_work at.part ss w = goal_and (table.node (place_of ss)) (past ss w)
-goal_work at.pairs ss w = goal_and table.block_mapping_entries w
-goal_work at.key_pairs ss w = goal_and table.block_mapping_entries w
-goal_work at.after_key ss w = goal_and table.block_mapping_value w
-goal_work at.items ss w = goal_and table.flow_sequence_entries w
-goal_work at.more_items ss w = goal_and table.flow_sequence_comma w
-goal_work at.item ss w = goal_and table.flow_sequence_entries w
-goal_work at.pair_key ss w = goal_and (table.node in_flow) (goal_and table.flow_value (saying Raw.pair_end ∷ goal_and table.flow_sequence_comma w))
-goal_work at.pair_value ss w = goal_and table.flow_value (saying Raw.pair_end ∷ goal_and table.flow_sequence_comma w)
-goal_work at.pair_valued ss w = goal_and (table.node in_flow) (saying Raw.pair_end ∷ goal_and table.flow_sequence_comma w)
-goal_work at.pair_end ss w = saying Raw.pair_end ∷ goal_and table.flow_sequence_comma w
-goal_work at.flow_pairs ss w = goal_and (table.flow_mapping_entries table.after_brace) w
-goal_work at.more_flow_pairs ss w = goal_and table.flow_mapping_comma w
-goal_work at.comma_flow_pairs ss w = goal_and (table.flow_mapping_entries table.after_comma) w
-goal_work (at.flow_pair s) ss w = goal_and (table.flow_mapping_entries s) w
-goal_work at.flow_key ss w = goal_and (table.node in_flow) (goal_and table.flow_mapping_value (goal_and table.flow_mapping_comma w))
-goal_work at.flow_after_key ss w = goal_and table.flow_mapping_value (goal_and table.flow_mapping_comma w)
-goal_work (at.flow_valued m) ss w = goal_and table.flow_mapping_valued (goal_and table.flow_mapping_comma w)
-goal_work at.flow_empty ss w = goal_and table.no_flow_mapping_value w
+goal_work (at.content p o) ss w = reading (table.content (place_of ss)) (with_properties o) ∷ past ss w
+goal_work at.block_sequence_entries ss w = goal_and table.block_sequence_entries w
+goal_work at.block_sequence_item ss w = goal_and (table.node in_block) (goal_and table.block_sequence_entries w)
+goal_work at.indentless_sequence_entries ss w = goal_and (table.indentless_sequence_entries (side_of ss)) (past ss w)
+goal_work at.indentless_sequence_item ss w = goal_and (table.node in_block) (goal_and (table.indentless_sequence_entries (side_of ss)) (past ss w))
+goal_work at.pair_node ss w = goal_and (table.node (place_of ss)) (past ss w)
+goal_work at.block_mapping_entries ss w = goal_and table.block_mapping_entries w
+goal_work at.block_mapping_next_entries ss w = goal_and table.block_mapping_entries w
+goal_work at.block_mapping_value ss w = goal_and table.block_mapping_value w
+goal_work at.flow_sequence_entries ss w = goal_and table.flow_sequence_entries w
+goal_work at.flow_sequence_comma ss w = goal_and table.flow_sequence_comma w
+goal_work at.flow_pair_key ss w = goal_and (table.node in_flow) (goal_and table.flow_value (saying Raw.pair_end ∷ goal_and table.flow_sequence_comma w))
+goal_work at.flow_value ss w = goal_and table.flow_value (saying Raw.pair_end ∷ goal_and table.flow_sequence_comma w)
+goal_work at.flow_valued ss w = goal_and (table.node in_flow) (saying Raw.pair_end ∷ goal_and table.flow_sequence_comma w)
+goal_work at.flow_pair_end ss w = saying Raw.pair_end ∷ goal_and table.flow_sequence_comma w
+goal_work at.flow_mapping_comma ss w = goal_and table.flow_mapping_comma w
+goal_work (at.flow_mapping_entries s) ss w = goal_and (table.flow_mapping_entries s) w
+goal_work at.flow_mapping_keyed ss w = goal_and (table.node in_flow) (goal_and table.flow_mapping_value (goal_and table.flow_mapping_comma w))
+goal_work at.flow_mapping_value ss w = goal_and table.flow_mapping_value (goal_and table.flow_mapping_comma w)
+goal_work (at.flow_mapping_valued m) ss w = goal_and table.flow_mapping_valued (goal_and table.flow_mapping_comma w)
+goal_work at.no_flow_mapping_value ss w = goal_and table.no_flow_mapping_value w
 
 abbrev pub works : List State → Works
 works [] = []
@@ -138,20 +135,13 @@ work_of g ss = goal_work g ss (works ss)
 
 -- ---- with which tokens it may go on
 
--- Of a content, by what begins one of this context, and one where the node stands: properties go on without content at what begins none.
-abbrev pub may_begin_content : (p : NodeContext) → Option Properties → (where_it_stands : NodeContext) → Kind → Bool
-may_begin_content p None c k = begins_content p k
-may_begin_content p (Some o) c k = begins_content p k || not (begins_content c k)
-
 -- whether a token of this kind may come, by what was seen of it before the parser came there
 abbrev pub may_begin : Goal → List State → Kind → Bool
 may_begin (at.node p) ss k = begins_node p k
-may_begin (at.after_properties p o) ss k = may_begin_content p o (context_at (place_of ss)) k
-may_begin at.key_pairs ss kind.Value = false
-may_begin at.item ss kind.FlowSequenceEnd = false
-may_begin (at.flow_pair s) ss kind.FlowMappingEnd = false
+may_begin (at.content p None) ss k = begins_content p k
+may_begin at.block_mapping_next_entries ss kind.Value = false
 may_begin at.done (state.BlockNode ∷ ss) k = begins_node context.Block k
-may_begin at.done (state.BlockMappingNextKey ∷ ss) kind.Value = false
+may_begin at.done (state.BlockMappingNextEntries ∷ ss) kind.Value = false
 may_begin g ss k = true
 
 abbrev pub first_may : Goal → List State → List Tok → Bool
@@ -176,32 +166,24 @@ AwaitsAt x b g ss ts es = Places x b (placed (work_of g ss)) ts es × (first_may
 
 -- whether a block mapping goes on with these
 abbrev pub is_in_mapping : List State → Bool
-is_in_mapping (state.BlockMappingKey ∷ ss) = true
+is_in_mapping (state.BlockMappingEntries ∷ ss) = true
 is_in_mapping (state.BlockMappingValue ∷ ss) = true
 is_in_mapping _ = false
 
 -- whether these go on after a node
 abbrev pub is_under : List State → Bool
 is_under (state.DocumentEnd ∷ ss) = true
-is_under (state.BlockSequenceEntry ∷ ss) = true
-is_under (state.IndentlessSequenceEntry ∷ ss) = is_in_mapping ss
-is_under (state.BlockMappingKey ∷ ss) = true
+is_under (state.BlockSequenceEntries ∷ ss) = true
+is_under (state.IndentlessSequenceEntries ∷ ss) = is_in_mapping ss
+is_under (state.BlockMappingEntries ∷ ss) = true
 is_under (state.BlockMappingValue ∷ ss) = true
-is_under (state.FlowSequenceEntry ∷ ss) = true
-is_under (state.FlowSequenceEntryMappingValue ∷ ss) = true
-is_under (state.FlowSequenceEntryMappingEnd ∷ ss) = true
-is_under (state.FlowMappingKey ∷ ss) = true
+is_under (state.FlowSequenceComma ∷ ss) = true
+is_under (state.FlowValue ∷ ss) = true
+is_under (state.FlowPairEnd ∷ ss) = true
+is_under (state.FlowMappingComma ∷ ss) = true
 is_under (state.FlowMappingValue ∷ ss) = true
-is_under (state.FlowMappingEmptyValue ∷ ss) = true
+is_under (state.NoFlowMappingValue ∷ ss) = true
 is_under ss = false
-
--- whether what begins a content of the first context may begin one of the other, too
-abbrev pub narrows : NodeContext → NodeContext → Bool
-narrows context.Flow c = true
-narrows context.Block context.Flow = false
-narrows context.Block c = true
-narrows context.Part context.Part = true
-narrows context.Part c = false
 
 abbrev pub IsBottom : List State → Type 0
 IsBottom [] = Unit {0}
@@ -220,19 +202,19 @@ IsUnder p ss = (is_under ss ≡ true) × (context_at (place_of ss) ≡ p)
 abbrev pub IsFor : Goal → List State → Type 0
 IsFor at.done ss = IsGoing ss
 IsFor at.ended ss = IsBottom ss
-IsFor at.start ss = IsBottom ss
+IsFor at.stream ss = IsBottom ss
 IsFor at.documents ss = IsBottom ss
-IsFor at.explicit ss = IsBottom ss
-IsFor (at.directed ds) ss = IsBottom ss
-IsFor at.content ss = IsBottom ss
-IsFor at.after ss = IsBottom ss
+IsFor at.explicit_document ss = IsBottom ss
+IsFor (at.directives ds) ss = IsBottom ss
+IsFor at.document_content ss = IsBottom ss
+IsFor at.document_end ss = IsBottom ss
 IsFor (at.node p) ss = IsUnder p ss
 IsFor (at.after_anchor p a) ss = IsUnder p ss
 IsFor (at.after_tag p t) ss = IsUnder p ss
-IsFor (at.after_properties p o) ss = (is_under ss ≡ true) × (narrows p (context_at (place_of ss)) ≡ true)
-IsFor at.indentless_entries ss = is_in_mapping ss ≡ true
-IsFor at.indentless_entry ss = is_in_mapping ss ≡ true
-IsFor at.part ss = is_in_mapping ss ≡ true
+IsFor (at.content p o) ss = IsUnder p ss
+IsFor at.indentless_sequence_entries ss = is_in_mapping ss ≡ true
+IsFor at.indentless_sequence_item ss = is_in_mapping ss ≡ true
+IsFor at.pair_node ss = is_in_mapping ss ≡ true
 IsFor _ ss = is_under ss ≡ true
 
 abbrev pub IsNested : List State → Type 0

@@ -6,5 +6,5 @@ pub enum NodeContext {
     /// Outside: block collections too.
     Block,
     /// A key or a value of a block mapping: sequences without indentation too.
-    Part,
+    Pair,
 }

@@ -4,11 +4,11 @@ use yaml_chars::Marker;
 #[derive(Clone, Copy, Debug, PartialEq, Eq)]
 pub enum State {
     /// Before the stream's start.
-    StreamStart,
+    Stream,
     /// After the stream's start or `...`: a document may do without `---`.
-    ImplicitDocumentStart,
+    Documents,
     /// After a document without `...`.
-    DocumentStart,
+    ExplicitDocument,
     /// After `---`.
     DocumentContent,
     /// After a document's node.
@@ -16,37 +16,37 @@ pub enum State {
     /// The node of a document without `---`.
     BlockNode,
     /// In a block sequence, before a `-` or its end.
-    BlockSequenceEntry,
+    BlockSequenceEntries,
     /// In a sequence without indentation, before a `-`, or what ends it.
-    IndentlessSequenceEntry,
+    IndentlessSequenceEntries,
     /// After a `-` of a sequence without indentation.
     IndentlessSequenceItem,
     /// In a block mapping, before a key or its end.
-    BlockMappingKey,
+    BlockMappingEntries,
     /// After a key without value.
-    BlockMappingNextKey,
+    BlockMappingNextEntries,
     /// After a key.
     BlockMappingValue,
     /// After the `:` of a pair without key.
-    BlockMappingPart,
+    PairNode,
     /// After `[`.
-    FlowSequenceFirstEntry,
+    FlowSequenceEntries,
     /// After an entry of a flow sequence.
-    FlowSequenceEntry,
+    FlowSequenceComma,
     /// After the `?` of a single-pair mapping in a flow sequence.
-    FlowSequenceEntryMappingKey,
+    FlowPairKey,
     /// After the key of such a mapping.
-    FlowSequenceEntryMappingValue,
+    FlowValue,
     /// After the value of such a mapping.
-    FlowSequenceEntryMappingEnd,
+    FlowPairEnd,
     /// After `{`.
-    FlowMappingFirstKey,
+    FlowMappingEntries,
     /// After a pair of a flow mapping.
-    FlowMappingKey,
+    FlowMappingComma,
     /// After a key.
     FlowMappingValue,
     /// After the `:` of a pair without key, which stands here.
-    FlowMappingPart(Marker),
+    FlowMappingValued(Marker),
     /// After a node that is a key without value.
-    FlowMappingEmptyValue,
+    NoFlowMappingValue,
 }

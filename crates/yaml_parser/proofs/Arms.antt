@@ -1,8 +1,10 @@
 -- The arms of the productions.
-use Rattle.yaml_parser.proofs.Common.{IsRightAfter, arith, [], answered, Answers, ap, At, BeginAt, Err, Ev, Event, EventSlot, false, Faulted, Goal, goal_after_event, HasNoText, IfSome, is_end, is_over, is_under, IsAt, IsErrAnd, IsErr, is_err, Reads, IsNamed, IsOfKind, IsPastColon, IsPending, Kind, kind_of, last_position, Leaves, List, Names, names_after, names_at, None, Ok, OnErr, Option, option_map, peeked_tok, placed, Position, position_at, Raw, Reader, refl, resolved_event, Result, shown, Skips, Some, State, Stayed, Fault, subst, sym, Takes, Tok, tok_is, tok_of, tok_of_kind, Token, Took, top, true, ◌++◌, ◌∙◌, ◌∷◌, ◌≡◌, ◌≢◌}
+use Rattle.yaml_parser.proofs.Common.{IsRightAfter, arith, [], answered, Answers, ap, At, BeginAt, Err, Ev, Event, EventSlot, false, Faulted, Goal, goal_after_event, HasNoText, IfSome, is_end, is_over, is_under, IsAt, IsErrAnd, IsErr, is_err, Reads, IsNamed, IsOfKind, IsPastColon, IsPending, Kind, kind_of, last_position, Leaves, List, Names, names_after, names_at, None, Ok, OnErr, Option, option_map, peeked_tok, placed, Position, position_at, Raw, Reader, refl, resolved_event, Result, shown, Skips, Some, State, Stayed, Fault, subst, sym, Takes, Tok, tok_is, tok_of, tok_of_kind, Token, Took, top, true, ◌++◌, ◌∙◌, ◌∷◌, ◌≡◌, ◌≢◌, flow_turns, unwrap_or}
 use Rattle.yaml_parser.proofs.Positions.{behind_more}
+use Rattle.yaml_parser.specs.At.{start_after}
 use Rattle.yaml_parser.proofs.Steps.{looked, took, left, Named, breaks, if_some_at, gave, gave_none}
 use Rattle.defs_token.specs.Token as defs
+use Rattle.model_parser.specs.declared.kind.Kind.TheVariants as kind
 
 -- the token at hand is taken, and this is what there is after it
 abbrev pub Skipped : {T : Type 0} → Reader T → Reader T → List State → Type 0
@@ -162,3 +164,10 @@ pub comma_skipped : {T : Type 0} {m : Position} {p r : Reader T} (k : Kind) {ss 
 comma_skipped {T} {m} {p} {r} k o mark s =
     let l = looked k p.tokens.peeked o in
     behind_more p.tokens.taken.items l.0 r.tokens.taken.items (s l.0 l.1).tokens.taken ∙ ap Some (if_some_at (λ (u : Token). u.0 ≡ m) mark l.1)
+
+-- The end of a flow mapping stands at the comma before it, if there is one, else at its brace.
+pub mapping_ends : {T : Type 0} (m : Position) {p r : Reader T} {k : Kind} {names : Names} {given : List (Ev × Position)} (comma : Option Position) → IsOfKind k p.tokens.peeked → k ≡ kind.FlowMappingEnd → IfSome p.tokens.peeked (λ t. t.0 ≡ m)
+    → IfSome comma (λ q. IsRightAfter q p.tokens) → Skipped p r p.stack → At (Goal.flow_mapping_entries (start_after comma)) p names given → (names' : Names) × At Goal.done r names' (given ++ (Ev.mapping_end, unwrap_or comma m) ∷ [])
+mapping_ends m None o h mark after s a = gives _ o h refl mark s ((flow_turns _).flow_mapping_entries_end _) (names_nothing refl refl refl) (λ b k. refl) (λ t there. under_no_colon _ a.stands.fits (Some t.0)) refl refl a
+mapping_ends m (Some q) o h mark after s a =
+    gives_at _ o h refl s ((flow_turns _).flow_mapping_entries_end _) (names_nothing refl refl refl) refl refl (λ t is. (subst (λ b. IfSome b (λ x. q ≡ x)) (sym after) refl, under_no_colon _ a.stands.fits (Some t.0))) a

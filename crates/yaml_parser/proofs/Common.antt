@@ -10,14 +10,14 @@ pub use Rattle.defs_event.specs.Raw.{tag, version}
 pub use Rattle.defs_event.specs.Stream.{by_leaving, nothing_left, says}
 pub use Rattle.defs_text.specs.Text.{is_empty}
 unfoldable pub use Rattle.defs_text.specs.Text.{string_chars}
-pub use Rattle.model_parser.proofs.Block.{after_key_empty, indentless_entries_end, part_empty, part_has_node, plain_turns, block_turns}
+pub use Rattle.model_parser.proofs.Block.{block_mapping_value_empty, indentless_sequence_entries_end, pair_node_empty, pair_node_written, plain_turns, block_turns}
 pub use Rattle.model_parser.proofs.Common.{[], anchor_of, and_parts, ap, append-nil, append_assoc, arith, as_tokens, at_directive, Awaits, AwaitsAt, before, begins_content, begins_node, BeginsPlaced, Bool, both_ways, cases, codes, Collection, Derives, Directive, directive_token, empty, empty_event, ends_content, ends_document, ends_entry, ends_flow_key, ends_flow_pair, ends_indentless_entry, ends_item, ends_item_key, ends_part, Ev, event_at, event_then, events_of, Extent, false, first_may, Goal, goal_of, grammar, HasNoText, HasPlacedTo, Held, in_pair, inl, inr, is_after, is_directive, is_in_mapping, is_over_document, is_under, IsAt, IsAtFirst, IsFor, IsGoing, IsNested, IsNext, IsNoDirective, IsSettled, IsThere, kind_of, Leaves, List, map, may_begin, named, Names, names_after, nat_lt, Next, next_after, next_at, no_names, None, not, nothing_held, nothing_written, open_after, open_at, Option, other_next, past, perhaps_anchor_of, Place, placed_before, PlacedWork, Places, Position, position_at, positions_of, Raw, raws_of, reading, refl, Refuses, resolved_event, Row, row_of, saying, show, Some, StreamPlaces, StreamPlacesTo, StreamSays, Style, subst, suc, sym, Takes, takes, takes_last, then_event, to_end, to_last, to_next, Tok, tok_of_kind, toks, top, true, wants_token, work_of, Works, works, zero, ℕ, ◌&&◌, ◌++◌, ◌+◌, ◌<◌, ◌||◌, ◌∙◌, ◌∷◌, ◌≡◌, ◌≢◌, ◌⊎◌}
-pub use Rattle.model_parser.proofs.Document.{after_refuses, after_unmarked, content_empty, directed_more, directed_refuses, documents_bare, documents_directives, documents_explicit, document_turns}
+pub use Rattle.model_parser.proofs.Document.{document_end_refuses, document_end_unmarked, document_content_empty, directives_next, directives_refuses, documents_bare, documents_directives, documents_explicit, document_turns}
 pub use Rattle.model_parser.proofs.Endings.{end_events, end_tokens, ends_so, goes_so, past_tokens}
 pub use Rattle.model_parser.proofs.Falls.{after_text_events, grammar_completes, text, text_event}
 pub use Rattle.model_parser.proofs.First.{tok_is}
-pub use Rattle.model_parser.proofs.Flow.{flow_after_empty, flow_empties, flow_pair_node, flow_valued_empty, flow_valued_node, item_node, pair_value_empty, plain_flow_turns, flow_turns}
-pub use Rattle.model_parser.proofs.Nodes.{after_braces, after_brackets, after_dash, after_mapping, after_scalar, after_sequence, anchor_alone, anchor_tag, block_flow, node_anchor, node_tag, nothing_refuses, part_block, properties_only, tag_alone, tag_anchor}
+pub use Rattle.model_parser.proofs.Flow.{flow_mapping_value_empty, no_flow_mapping_value_empty, flow_mapping_entries_node, flow_mapping_valued_empty, flow_mapping_valued_node, flow_sequence_entries_node, flow_value_empty, plain_flow_turns, flow_turns}
+pub use Rattle.model_parser.proofs.Nodes.{after_braces, after_brackets, after_dash, after_mapping, after_scalar, after_sequence, anchor_alone, anchor_tag, node_anchor, node_tag, nothing_refuses, properties_only, tag_alone, tag_anchor}
 pub use Rattle.model_parser.proofs.Places.{nowhere, plain_before, plain_work, with_positions}
 pub use Rattle.model_parser.proofs.Quiet.{plain_placed}
 pub use Rattle.model_parser.proofs.Settling.{mapping_under}

@@ -103,18 +103,18 @@ text_named ss keep s h p =
     name_one keep s (text_event h) rest (ap (option_map (λ y. Ev.scalar [] Style.plain (number s h.anchor) y)) u.1) (free_named keep rest (after_free (where_it_stands ss) (end_events (past ss (works ss))) (plain_free (past ss (works ss)) (past_plain ss))))
 
 goal_named : (g : Goal) (ss : List State) (keep : Bool) (s : Names) → IsPending s g → Nameable keep s (end_events (work_of g ss))
-goal_named (Goal.directed ds) ss keep s p =
+goal_named (Goal.directives ds) ss keep s p =
     let rest = text_event nothing_held ∷ Raw.document_end ∷ Raw.stream_end ∷ end_events (works ss) in
     name_one keep s (Raw.document_start ds) rest (ap (λ b. if b then Some Ev.document_start else None) p) (free_named keep rest (works_free ss))
 goal_named (Goal.node q) ss keep s p = text_named ss keep s nothing_held refl
 goal_named (Goal.after_anchor q a) ss keep s p = text_named ss keep s (record { anchor = Some a; tag = None; directives = [] }) refl
 goal_named (Goal.after_tag q t) ss keep s p = text_named ss keep s (record { anchor = None; tag = Some t; directives = [] }) (some_map Some (resolved s.handles t) p)
-goal_named (Goal.after_properties q None) ss keep s p = text_named ss keep s nothing_held refl
-goal_named (Goal.after_properties q (Some o)) ss keep s p = text_named ss keep s (record { anchor = anchor_of o; tag = tag_of o; directives = [] }) p
-goal_named Goal.part ss keep s p = text_named ss keep s nothing_held refl
-goal_named Goal.indentless_entries ss keep s p = free_named keep (end_events (work_of Goal.indentless_entries ss)) (plain_free (work_of Goal.indentless_entries ss) (past_plain ss)) s
-goal_named Goal.indentless_entry ss keep s p = free_named keep (end_events (work_of Goal.indentless_entry ss)) (plain_free (work_of Goal.indentless_entry ss) (past_plain ss)) s
-goal_named (Goal.flow_pair table.after_brace) ss keep s p = free_named keep (end_events (work_of (Goal.flow_pair table.after_brace) ss)) (works_free ss) s
+goal_named (Goal.content q None) ss keep s p = text_named ss keep s nothing_held refl
+goal_named (Goal.content q (Some o)) ss keep s p = text_named ss keep s (record { anchor = anchor_of o; tag = tag_of o; directives = [] }) p
+goal_named Goal.pair_node ss keep s p = text_named ss keep s nothing_held refl
+goal_named Goal.indentless_sequence_entries ss keep s p = free_named keep (end_events (work_of Goal.indentless_sequence_entries ss)) (plain_free (work_of Goal.indentless_sequence_entries ss) (past_plain ss)) s
+goal_named Goal.indentless_sequence_item ss keep s p = free_named keep (end_events (work_of Goal.indentless_sequence_item ss)) (plain_free (work_of Goal.indentless_sequence_item ss) (past_plain ss)) s
+goal_named (Goal.flow_mapping_entries table.after_brace) ss keep s p = free_named keep (end_events (work_of (Goal.flow_mapping_entries table.after_brace) ss)) (works_free ss) s
 goal_named g ss keep s p = free_named keep (end_events (work_of g ss)) (works_free ss) s
 
 -- ---- all
@@ -125,39 +125,20 @@ pub record Completed (g : Goal) (ss : List State) : Type 0 where
   pub awaits : Awaits g ss tokens events
   pub nameable : (keep : Bool) (s : Names) → IsPending s g → Nameable keep s events
 
--- where the shortest way may not be gone, since the token with which it begins was seen not to come
-abbrev is_barred : Goal → Bool
-is_barred Goal.item = true
-is_barred (Goal.flow_pair s) = true
-is_barred _ = false
-
-may_end : (g : Goal) (ss : List State) → is_barred g ≡ false → first_may g ss (end_tokens (work_of g ss)) ≡ true
-may_end (Goal.node q) ss h = grind arith
-may_end (Goal.after_properties q o) ss h = grind arith
-may_end Goal.key_pairs ss h = refl
-may_end Goal.item ss h = cc
-may_end (Goal.flow_pair s) ss h = cc
-may_end Goal.done [] h = refl
-may_end Goal.done (state.BlockNode ∷ ss) h = refl
-may_end Goal.done (state.BlockMappingNextKey ∷ ss) h = refl
-may_end Goal.done (s ∷ ss) h = first_any Goal.done (s ∷ ss) (end_tokens (works (s ∷ ss))) (λ k. refl)
-may_end g ss h = first_any g ss (end_tokens (work_of g ss)) (λ k. refl)
-
--- by a scalar first
-by_text : (g : Goal) (ss : List State) (v : Works) → past_tokens (work_of g ss) (text ∷ []) ≡ Some ([], saying (text_event nothing_held) ∷ v) → may_begin g ss kind.Scalar ≡ true → is_plain v ≡ true → Completed g ss
-by_text g ss v h m p = record {
-  tokens = text ∷ end_tokens v;
-  events = text_event nothing_held ∷ end_events v;
-  awaits = goes_so g ss text [] h m;
-  nameable = λ keep s q. name_one keep s (text_event nothing_held) (end_events v) refl (free_named keep (end_events v) (plain_free v p));
-}
+may_end : (g : Goal) (ss : List State) → first_may g ss (end_tokens (work_of g ss)) ≡ true
+may_end (Goal.node q) ss = grind arith
+may_end (Goal.content q o) ss = grind arith
+may_end Goal.block_mapping_next_entries ss = refl
+may_end Goal.done [] = refl
+may_end Goal.done (state.BlockNode ∷ ss) = refl
+may_end Goal.done (state.BlockMappingNextEntries ∷ ss) = refl
+may_end Goal.done (s ∷ ss) = first_any Goal.done (s ∷ ss) (end_tokens (works (s ∷ ss))) (λ k. refl)
+may_end g ss = first_any g ss (end_tokens (work_of g ss)) (λ k. refl)
 
 pub completed : (g : Goal) (ss : List State) → Completed g ss
-completed Goal.item ss = by_text Goal.item ss _ refl refl (works_plain ss)
-completed (Goal.flow_pair s) ss = by_text (Goal.flow_pair s) ss _ refl refl (works_plain ss)
 completed g ss = record {
   tokens = end_tokens (work_of g ss);
   events = end_events (work_of g ss);
-  awaits = (ends_so (work_of g ss), may_end g ss refl);
+  awaits = (ends_so (work_of g ss), may_end g ss);
   nameable = λ keep s p. goal_named g ss keep s p;
 }

@@ -1,5 +1,5 @@
 -- The arms of the productions of documents.
-use Rattle.yaml_parser.proofs.Common.{nat_tests, [], all_shown, and_right, ap, append-nil, append_assoc, are_allowed, arith, At, at_document, BeginAt, Bool, Carries, declared, Declares, Derives, directed_more, Directing, Directive, directive_token, directives_tokens, DirectsTo, documents_directives, Err, Ev, events_of, false, Faulted, fits, Goal, grammar, HasRead, IfSome, if◌then◌else◌, inl, is_directive, is_each_once, is_end, is_of_names, is_over, IsAfter, IsCause, IsNamed, IsOfKind, IsOwn, Kind, kind_of, last_position, Leaves, List, named, nat_le, needs_tokens, None, Ok, Option, option_map, OutOfMemory, Position, Problem, Raw, Reader, reading, refl, RepeatedHandle, rest_by, Result, said_by, SecondVersion, shown, Skips, Some, SpoilsDirectives, Stayed, Fault, subst, sym, taken_toks, Takes, Tok, tok_is, tok_of, Token, Tokens, toks, true, UndeclaredHandle, versions, with_directives, Works, works, ℕ, ◌++◌, ◌+◌, ◌∙◌, ◌∷◌, ◌≡◌, resolved_event, document_turns}
+use Rattle.yaml_parser.proofs.Common.{nat_tests, [], all_shown, and_right, ap, append-nil, append_assoc, are_allowed, arith, At, at_document, BeginAt, Bool, Carries, declared, Declares, Derives, directives_next, Directing, Directive, directive_token, directives_tokens, DirectsTo, documents_directives, Err, Ev, events_of, false, Faulted, fits, Goal, grammar, HasRead, IfSome, if◌then◌else◌, inl, is_directive, is_each_once, is_end, is_of_names, is_over, IsAfter, IsCause, IsNamed, IsOfKind, IsOwn, Kind, kind_of, last_position, Leaves, List, named, nat_le, needs_tokens, None, Ok, Option, option_map, OutOfMemory, Position, Problem, Raw, Reader, reading, refl, RepeatedHandle, rest_by, Result, said_by, SecondVersion, shown, Skips, Some, SpoilsDirectives, Stayed, Fault, subst, sym, taken_toks, Takes, Tok, tok_is, tok_of, Token, Tokens, toks, true, UndeclaredHandle, versions, with_directives, Works, works, ℕ, ◌++◌, ◌+◌, ◌∙◌, ◌∷◌, ◌≡◌, resolved_event, document_turns}
 use Rattle.yaml_parser.specs.declared.names.Names.{Names}
 use Rattle.yaml_parser.proofs.Steps.{looked, taken_snoc, took, left, if_some_at, gave, gave_none}
 use Rattle.yaml_parser.proofs.Arms.{Skipped, here_at, faulted_as}
@@ -52,14 +52,14 @@ marked_begins {T} m {p} {q} {r} {k} g read {names} {given} here h mark tokens st
 
 -- The stream ends.
 pub stream_ends : {T : Type 0} (m : Position) {p r : Reader T} {k : Kind} {names : defs.Names} {given : List (Ev × Position)}
-    → IsOfKind k p.tokens.peeked → k ≡ kind.StreamEnd → IfSome p.tokens.peeked (λ t. t.0 ≡ m) → Skipped p r p.stack → At Goal.explicit p names given → (names' : defs.Names) × At Goal.ended r names' (given ++ (Ev.stream_end, m) ∷ [])
+    → IsOfKind k p.tokens.peeked → k ≡ kind.StreamEnd → IfSome p.tokens.peeked (λ t. t.0 ≡ m) → Skipped p r p.stack → At Goal.explicit_document p names given → (names' : defs.Names) × At Goal.ended r names' (given ++ (Ev.stream_end, m) ∷ [])
 stream_ends {T} m {p} {r} {k} {names} {given} here h mark skip a =
     let l = looked k p.tokens.peeked here in
     let t = l.0 in
     let x = skip t l.1 in
     let same : tok_of t.1 ≡ Tok.stream_end = tok_is (l.2 ∙ h) refl in (
       names,
-      took l.1 x.tokens x.stack (subst (λ u. Takes Goal.explicit p.stack u (Some Raw.stream_end) Goal.ended p.stack) (sym same) (document_turns p.stack).explicit_end) a
+      took l.1 x.tokens x.stack (subst (λ u. Takes Goal.explicit_document p.stack u (Some Raw.stream_end) Goal.ended p.stack) (sym same) (document_turns p.stack).explicit_document_end) a
           (gave m (record { resolves = refl; after_it = refl; keep = ap (λ n. n.keeping) x.names; code = subst (λ n. IsNamed n names) (sym x.names) a.code; pending = tt }) a)
           (λ b. let no : true ≡ false = b in cc) (here_at (last_position p.tokens) Raw.stream_end (shown t) m (λ b k. refl) (if_some_at (λ (u : Token). u.0 ≡ m) mark l.1)) tt,
     )
@@ -117,7 +117,7 @@ version_taken {T} {p} {r} {names} {given} here skip d =
     let same = version_ignored d.read v.0 v.1 in
     record {
       read = read;
-      here = took l.1 x.tokens x.stack (subst (λ u. Takes (Goal.directed d.read) p.stack u None (Goal.directed read) p.stack) (sym v.2) (directed_more p.stack d.read (raw.version v.0 v.1))) d.here
+      here = took l.1 x.tokens x.stack (subst (λ u. Takes (Goal.directives d.read) p.stack u None (Goal.directives read) p.stack) (sym v.2) (directives_next p.stack d.read (raw.version v.0 v.1))) d.here
           (gave_none (ap (λ n. n.keeping) x.names) (subst (λ n. IsNamed n (at_document n.keeping.tags names read)) (sym x.names) (named_alike p.names.keeping.tags names d.read read same d.here.code))
           (allowed_version d.read v.0 v.1 d.here.pending d.version) d.here) (λ b. (refl, ap is_end v.2)) tt tt;
       own = subst (λ n. IsOwn n read) (sym x.names) (own_alike d.read read same d.own);
@@ -143,10 +143,10 @@ directives_say ds w (t ∷ ts) es d = absurd (rest_by d _ refl)
 -- Directives that are not allowed are refused with the last one.
 refused_directive : {T : Type 0} {p r : Reader T} {t : Token} {m : Position} (q : Problem) (read : List Directive) (d : Directive) {names : defs.Names} {given : List (Ev × Position)}
     → fits q (kind_of (directive_token d)) ≡ true → is_of_names q ≡ true → (q ≡ UndeclaredHandle → ⊥) → t.0 ≡ m → p.tokens.peeked ≡ Some t → Skips p.tokens t r.tokens → r.names.keeping ≡ p.names.keeping → tok_of t.1 ≡ directive_token d → ((more : List Directive) → are_allowed ((read ++ d ∷ []) ++ more) ≡ false)
-    → IsAfter read (taken_toks p.tokens) → ((before : List Tok) (last : Tok) → SpoilsDirectives before last → IsCause q names (events_of given) before last) → ((b : At (Goal.directed read) p names given) → StandsBeside q b)
-    → At (Goal.directed read) p names given → Faulted r given (Some (fault.At q m))
+    → IsAfter read (taken_toks p.tokens) → ((before : List Tok) (last : Tok) → SpoilsDirectives before last → IsCause q names (events_of given) before last) → ((b : At (Goal.directives read) p names given) → StandsBeside q b)
+    → At (Goal.directives read) p names given → Faulted r given (Some (fault.At q m))
 refused_directive {T} {p} {r} {t} {m} q read d {names} {given} fit of_names other mark here skips keep tok bad taken cause apart a =
-    unnamed_at q (ap (λ u. fits q (kind_of u)) tok ∙ fit) of_names (inl (sym mark, λ e. absurd (other e))) here skips keep (subst (λ u. Takes (Goal.directed read) p.stack u None (Goal.directed (read ++ d ∷ [])) p.stack) (sym tok) (directed_more p.stack read d))
+    unnamed_at q (ap (λ u. fits q (kind_of u)) tok ∙ fit) of_names (inl (sym mark, λ e. absurd (other e))) here skips keep (subst (λ u. Takes (Goal.directives read) p.stack u None (Goal.directives (read ++ d ∷ [])) p.stack) (sym tok) (directives_next p.stack read d))
     (λ ts es x.
     let s = directives_say (read ++ d ∷ []) (works p.stack) ts es x.0 in
     ap (named p.names.keeping.tags names) s.2 ∙ unnameable_first p.names.keeping.tags names (Raw.document_start ((read ++ d ∷ []) ++ s.0)) s.1 (ap (λ b. if b then Some Ev.document_start else None) (bad s.0)))
@@ -160,7 +160,7 @@ version_refused {T} {p} {r} {m} {names} {given} here mark skip d =
     let l = looked kind.VersionDirective p.tokens.peeked here in
     let v = version_text (tok_of l.0.1) l.2 in
     let x = skip l.0 l.1 in
-    refused_directive SecondVersion d.read (raw.version v.0 v.1) refl refl (λ e. cc) (if_some_at (λ (t : Token). t.0 ≡ m) mark l.1) l.1 x.tokens (ap (λ n. n.keeping) x.names) v.2 (λ more. second_version d.read v.0 v.1 more d.version) d.taken (λ before last x. x) (apart_as (opens (Goal.directed d.read) _ refl) refl refl) d.here
+    refused_directive SecondVersion d.read (raw.version v.0 v.1) refl refl (λ e. cc) (if_some_at (λ (t : Token). t.0 ≡ m) mark l.1) l.1 x.tokens (ap (λ n. n.keeping) x.names) v.2 (λ more. second_version d.read v.0 v.1 more d.version) d.taken (λ before last x. x) (apart_as (opens (Goal.directives d.read) _ refl) refl refl) d.here
 
 abbrev pub own : {A : Type 0} → Result A Fault → Result A (Option Fault)
 own (Ok x) = Ok x
@@ -176,7 +176,7 @@ tag_directive_taken {T} {p} r {t} m {h} {x} {versioned} {names} {given} (Ok u) m
     let read = d.read ++ raw.tag h x ∷ [] in
     record {
       read = read;
-      here = took here skips stack (subst (λ u. Takes (Goal.directed d.read) p.stack u None (Goal.directed read) p.stack) (sym tok) (directed_more p.stack d.read (raw.tag h x))) d.here
+      here = took here skips stack (subst (λ u. Takes (Goal.directives d.read) p.stack u None (Goal.directives read) p.stack) (sym tok) (directives_next p.stack d.read (raw.tag h x))) d.here
           (gave_none keep (subst (λ b. IsNamed r.names (at_document b.tags names read)) (sym keep) k.0.named) (allowed_tag d.read h x d.here.pending k.1) d.here) (λ b. (refl, ap is_end tok)) tt tt;
       own = k.0.own;
       version = tag_snoc d.read h x ∙ d.version;
@@ -186,13 +186,13 @@ tag_directive_taken {T} {p} r {t} m {h} {x} {versioned} {names} {given} (Err Out
 tag_directive_taken {T} {p} r {t} m {h} {x} {versioned} {names} {given} (Err (fault.At q n)) mark here skips stack keep tok declares d =
     let k = declares p.names.keeping.tags names d.read (record { named = d.here.code; own = d.own }) in
     faulted_as r given (ap (λ y. Some (fault.At y n)) k.1 ∙ ap (λ y. Some (fault.At RepeatedHandle y)) k.2)
-    (refused_directive RepeatedHandle d.read (raw.tag h x) refl refl (λ e. cc) mark here skips keep tok (λ more. and_right (nat_le (versions ((d.read ++ raw.tag h x ∷ []) ++ more)) 1) (is_each_once (declared ((d.read ++ raw.tag h x ∷ []) ++ more))) (k.0 more)) d.taken (λ before last x. x) (apart_as (opens (Goal.directed d.read) _ refl) refl refl) d.here)
+    (refused_directive RepeatedHandle d.read (raw.tag h x) refl refl (λ e. cc) mark here skips keep tok (λ more. and_right (nat_le (versions ((d.read ++ raw.tag h x ∷ []) ++ more)) 1) (is_each_once (declared ((d.read ++ raw.tag h x ∷ []) ++ more))) (k.0 more)) d.taken (λ before last x. x) (apart_as (opens (Goal.directives d.read) _ refl) refl refl) d.here)
 
 -- a look at the next token
 pub directing_on : {T : Type 0} {p r : Reader T} {versioned : Bool} {names : defs.Names} {given : List (Ev × Position)} → ((g : Goal) → is_over g ≡ false → Carries g p r) → r.names ≡ p.names → r.tokens.taken ≡ p.tokens.taken → Directing p names given versioned → Directing r names given versioned
 directing_on {T} {p} {r} {versioned} {names} {given} carries same taken d = record {
   read = d.read;
-  here = carries (Goal.directed d.read) refl names given d.here;
+  here = carries (Goal.directives d.read) refl names given d.here;
   own = subst (λ n. IsOwn n d.read) (sym same) d.own;
   version = d.version;
   taken = subst (IsAfter d.read) (ap (λ y. toks (all_shown y.items)) (sym taken)) d.taken;

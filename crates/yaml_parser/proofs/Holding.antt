@@ -130,18 +130,18 @@ keeps {T} p es u {f} h k x = kept_at p.kept h k
 
 -- ---- at the beginning
 
-pub begun : {T : Type 0} (p : Reader T) → p.stack ≡ state.StreamStart ∷ [] → p.tokens.peeked ≡ None → p.tokens.taken.items ≡ [] → (scanned p.tokens.scanner).given ≡ [] → (scanned p.tokens.scanner).ended ≡ false → (scanned p.tokens.scanner).fault ≡ None → IsNamed p.names no_names
+pub begun : {T : Type 0} (p : Reader T) → p.stack ≡ state.Stream ∷ [] → p.tokens.peeked ≡ None → p.tokens.taken.items ≡ [] → (scanned p.tokens.scanner).given ≡ [] → (scanned p.tokens.scanner).ended ≡ false → (scanned p.tokens.scanner).fault ≡ None → IsNamed p.names no_names
     → p.names.keeping.settings.items ≡ [] → IsHeld p [] None
 begun {T} p stack peeked taken given ended clear code none = record {
   names = no_names;
   here = record {
     raw = [];
     place = rw stack (record {
-      stands = subst (λ ts. IsOnTrack Goal.done (state.StreamStart ∷ []) (toks (all_shown ts)) (peeked_tok p.tokens) []) (sym taken) (begins (peeked_tok p.tokens));
+      stands = subst (λ ts. IsOnTrack Goal.done (state.Stream ∷ []) (toks (all_shown ts)) (peeked_tok p.tokens) []) (sym taken) (begins (peeked_tok p.tokens));
       handed = given ∙ sym (ap (λ ts. all_shown ts ++ shown_list p.tokens.peeked) taken ∙ ap shown_list peeked);
       awake = λ o. (ended ∙ sym (ap ends peeked), clear);
       over = λ o. peeked;
-      places = λ x ts es begins y. subst (λ us. StreamPlacesTo x (all_shown us ++ ts) es) (sym taken) (subst (λ us. Places x (behind None (all_shown us)) (placed_work (work_of Goal.done (state.StreamStart ∷ []))) ts es) taken y.0);
+      places = λ x ts es begins y. subst (λ us. StreamPlacesTo x (all_shown us ++ ts) es) (sym taken) (subst (λ us. Places x (behind None (all_shown us)) (placed_work (work_of Goal.done (state.Stream ∷ []))) ts es) taken y.0);
       colon = tt;
     });
     told = record {

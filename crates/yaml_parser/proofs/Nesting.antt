@@ -111,14 +111,14 @@ nested_with {T} {g} {p} {names} {given} a e {ts} {es} x {v} r free =
     (m.0, (test_is_exact (events_of given ++ n.0)).1 (nested_by a x n))
 
 -- Where the stream's end or a document's start may come, no document is open.
-pub explicit_outside : {T : Type 0} {p : Reader T} {names : Names} {given : List (Ev × Position)} → At Goal.explicit p names given → is_open false (events_of given) ≡ false
+pub explicit_outside : {T : Type 0} {p : Reader T} {names : Names} {given : List (Ev × Position)} → At Goal.explicit_document p names given → is_open false (events_of given) ≡ false
 explicit_outside {T} {p} {names} {given} a =
-    let n = nested_with a Raw.stream_end (goes_so Goal.explicit p.stack Tok.stream_end [] refl refl) refl (works_free p.stack) in
+    let n = nested_with a Raw.stream_end (goes_so Goal.explicit_document p.stack Tok.stream_end [] refl refl) refl (works_free p.stack) in
     false_from_ne_true (is_open false (events_of given)) (λ o. never_nested Ev.stream_end end_is_outside (events_of given) n.0 o n.1)
 
-pub directed_outside : {T : Type 0} {p : Reader T} {ds : List Directive} {names : Names} {given : List (Ev × Position)} → At (Goal.directed ds) p names given → is_open false (events_of given) ≡ false
+pub directed_outside : {T : Type 0} {p : Reader T} {ds : List Directive} {names : Names} {given : List (Ev × Position)} → At (Goal.directives ds) p names given → is_open false (events_of given) ≡ false
 directed_outside {T} {p} {ds} {names} {given} a =
-    let n = nested_with a (Raw.document_start ds) (goes_so (Goal.directed ds) p.stack Tok.document_start [] refl refl) (ap (λ b. if b then Some Ev.document_start else None) a.pending) (works_free p.stack) in
+    let n = nested_with a (Raw.document_start ds) (goes_so (Goal.directives ds) p.stack Tok.document_start [] refl refl) (ap (λ b. if b then Some Ev.document_start else None) a.pending) (works_free p.stack) in
     false_from_ne_true (is_open false (events_of given)) (λ o. never_nested Ev.document_start (λ os h. grind arith) (events_of given) n.0 o n.1)
 
 never_starts : (es more : List Ev) (os : List Open) → closes (es ++ Ev.stream_start ∷ more) os ≡ true → ⊥
@@ -143,16 +143,16 @@ starts_once [] us es d = let r : true ≡ false = not_refused 9 Tok.stream_start
 starts_once (t ∷ ts) us es d = let i = starts_once ts us es in grind (arith, row_read, said_by, directed_first, nothing_left)
 
 -- Before the stream's start nothing was given.
-pub nothing_given : {T : Type 0} {p : Reader T} {names : Names} {given : List (Ev × Position)} → At Goal.start p names given → events_of given ≡ []
+pub nothing_given : {T : Type 0} {p : Reader T} {names : Names} {given : List (Ev × Position)} → At Goal.stream p names given → events_of given ≡ []
 nothing_given {T} {p} {names} {given} a =
-    let n = nested_with a Raw.stream_start (goes_so Goal.start p.stack Tok.stream_start [] refl refl) refl (works_free p.stack) in
+    let n = nested_with a Raw.stream_start (goes_so Goal.stream p.stack Tok.stream_start [] refl refl) refl (works_free p.stack) in
     by (events_of given) n.0 n.1
   where
     by : (es ws : List Ev) → is_nested (es ++ Ev.stream_start ∷ ws) ≡ true → es ≡ []
     by [] ws h = refl
     by (e ∷ es) ws h = absurd (never_starts es ws (in_stream ∷ []) (from_start e (es ++ Ev.stream_start ∷ ws) h).1)
 
-pub nothing_read : {T : Type 0} {p : Reader T} {names : Names} {given : List (Ev × Position)} → (a : At Goal.start p names given) → a.raw ≡ []
+pub nothing_read : {T : Type 0} {p : Reader T} {names : Names} {given : List (Ev × Position)} → (a : At Goal.stream p names given) → a.raw ≡ []
 nothing_read {T} {p} {names} {given} a = empty a.raw given a.count (nothing_given a)
   where
     empty : (rs : List Raw) (es : List (Ev × Position)) → length rs ≡ length es → events_of es ≡ [] → rs ≡ []
@@ -161,9 +161,9 @@ nothing_read {T} {p} {names} {given} a = empty a.raw given a.count (nothing_give
     empty (r ∷ rs) (e ∷ es) l h = cc
 
 -- and nothing was taken.
-pub nothing_taken : {T : Type 0} {p : Reader T} {names : Names} {given : List (Ev × Position)} → At Goal.start p names given → taken_toks p.tokens ≡ []
+pub nothing_taken : {T : Type 0} {p : Reader T} {names : Names} {given : List (Ev × Position)} → At Goal.stream p names given → taken_toks p.tokens ≡ []
 nothing_taken {T} {p} a =
-    let d = a.stands.sound _ _ (goes_so Goal.start p.stack Tok.stream_start (Tok.stream_end ∷ []) refl refl) in
+    let d = a.stands.sound _ _ (goes_so Goal.stream p.stack Tok.stream_start (Tok.stream_end ∷ []) refl refl) in
     by (taken_toks p.tokens) (end_tokens (works p.stack)) (end_events (works p.stack))
     (subst (λ rs. StreamSays (taken_toks p.tokens ++ Tok.stream_start ∷ Tok.stream_end ∷ end_tokens (works p.stack)) (rs ++ Raw.stream_start ∷ Raw.stream_end ∷ end_events (works p.stack))) (nothing_read a) d)
   where

@@ -16,7 +16,6 @@ use Rattle.yaml_tokens.specs.declared.problem.Fault.TheVariants as fault
 use Rattle.defs_event.specs.Event as event
 use Rattle.defs_event.specs.Properties as written
 use Rattle.model_parser.specs.declared.context.NodeContext as positions
-use Rattle.model_parser.specs.declared.context.NodeContext.TheVariants as context
 use Rattle.model_parser.proofs.Nodes as turn
 use Rattle.model_parser.specs.declared.kind.Kind.TheVariants as kind
 use Rattle.defs_event.specs.Grammar as table
@@ -49,10 +48,10 @@ made_named {T} {p} {r} {mk} {f} {s} {o} {x} {n} {u} k h value keep code =
 pub starts : {T E : Type 0} (m : Position) {p q : Reader T} (r : Reader T) {k k' : Kind} {w : positions.NodeContext} {o : Option written.Properties} {x : Option Properties} {ss : List State} (mk : Option (List ℕ) → Option event.Tag → Raw) (f : ℕ → Option event.Tag → Ev) {s : Names} {given : List (Ev × Position)} (res : Result (Unit {0}) E) (slot : EventSlot)
     → Makes mk f → IsOfKind k' p.tokens.peeked → k' ≡ k → HasNoText k → is_end (tok_of_kind k) ≡ false
     → ((a : Option (List ℕ)) (t : Option event.Tag) → StandsHere (mk a t)) → HasNoColon Goal.done ss → IfSome p.tokens.peeked (λ t. t.0 ≡ m) → Skipped p q ss
-    → Takes (Goal.after_properties w o) p.stack (tok_of_kind k) (Some (mk (perhaps_anchor_of o) (perhaps_tag_of o))) Goal.done ss
+    → Takes (Goal.content w o) p.stack (tok_of_kind k) (Some (mk (perhaps_anchor_of o) (perhaps_tag_of o))) Goal.done ss
     → ((names : Names) → IsNamed q.names names → OnOk res (Registers q x names (λ a t. placed slot.next ≡ (f a t, m)) r)) → OnErr res (slot.fault ≡ Some OutOfMemory)
     → ((a : ℕ) (t : Option event.Tag) → goal_after_event (f a t) ≡ Goal.done)
-    → Has s o x → At (Goal.after_properties w o) p s given → Answers r given (answered res slot)
+    → Has s o x → At (Goal.content w o) p s given → Answers r given (answered res slot)
 starts {T} {E} m {p} {q} r {k} {k'} {w} {o} {x} {ss} mk f {s} {given} (Err u) slot makes here h plain end alike colon mark skip turn registers err no_end has a = subst (Faulted r given) (sym err) tt
 starts {T} {E} m {p} {q} r {k} {k'} {w} {o} {x} {ss} mk f {s} {given} (Ok e) slot makes here h plain end alike colon mark skip turn registers err no_end has a =
     let l = looked k' p.tokens.peeked here in
@@ -62,7 +61,7 @@ starts {T} {E} m {p} {q} r {k} {k'} {w} {o} {x} {ss} mk f {s} {given} (Ok e) slo
     let same : tok_of t.1 ≡ tok_of_kind k = tok_is (l.2 ∙ h) plain in
     let v : Ev × Position = (f (number s (name_of x)) (kept_tag x), m) in
     let one : At Goal.done r (with_anchor s (name_of x)) (given ++ v ∷ []) =
-    took l.1 (subst (λ u. Skips p.tokens t u) (sym g.tokens) y.tokens) (g.stack ∙ y.stack) (subst (λ u. Takes (Goal.after_properties w o) p.stack u (Some (mk (perhaps_anchor_of o) (perhaps_tag_of o))) Goal.done ss) (sym same) turn) a
+    took l.1 (subst (λ u. Skips p.tokens t u) (sym g.tokens) y.tokens) (g.stack ∙ y.stack) (subst (λ u. Takes (Goal.content w o) p.stack u (Some (mk (perhaps_anchor_of o) (perhaps_tag_of o))) Goal.done ss) (sym same) turn) a
     (gave m (made_named makes has (refl, refl) (g.keep ∙ ap (λ n. n.keeping) y.names) g.code) a) (λ b. (refl, ap is_end same ∙ end))
     (here_at (last_position p.tokens) (mk (perhaps_anchor_of o) (perhaps_tag_of o)) (shown t) m (alike (perhaps_anchor_of o) (perhaps_tag_of o)) (if_some_at (λ (z : Token). z.0 ≡ m) mark l.1)) (colon (Some t.0)) in
     let two : (names : Names) × At (goal_after_event v.0) r names (given ++ v ∷ []) = (with_anchor s (name_of x), subst (λ g. At g r (with_anchor s (name_of x)) (given ++ v ∷ [])) (sym (no_end _ _)) one) in
@@ -71,25 +70,25 @@ starts {T} {E} m {p} {q} r {k} {k'} {w} {o} {x} {ss} mk f {s} {given} (Ok e) slo
 -- A scalar is taken, and its properties are registered.
 pub scalar_taken : {T : Type 0} (m : Position) {p q r : Reader T} {y : Style} {v : List ℕ} {n : ℕ} {u : Option event.Tag} {w : positions.NodeContext} {o : Option written.Properties} {x : Option Properties} {ss : List State} {s : Names} {given : List (Ev × Position)}
     → {t : Token} → p.tokens.peeked ≡ Some t → t.0 ≡ m → Skips p.tokens t q.tokens → q.stack ≡ ss → q.names ≡ p.names → tok_of t.1 ≡ Tok.scalar y v
-    → Takes (Goal.after_properties w o) p.stack (Tok.scalar y v) (Some (Raw.scalar v y (perhaps_anchor_of o) (perhaps_tag_of o))) Goal.done ss
+    → Takes (Goal.content w o) p.stack (Tok.scalar y v) (Some (Raw.scalar v y (perhaps_anchor_of o) (perhaps_tag_of o))) Goal.done ss
     → ((names : Names) → IsNamed q.names names → Registers q x names (λ a b. (n ≡ a) × (u ≡ b)) r) → HasNoColon Goal.done ss
-    → Has s o x → At (Goal.after_properties w o) p s given → (names : Names) × At Goal.done r names (given ++ (Ev.scalar v y n u, m) ∷ [])
+    → Has s o x → At (Goal.content w o) p s given → (names : Names) × At Goal.done r names (given ++ (Ev.scalar v y n u, m) ∷ [])
 scalar_taken {T} m {p} {q} {r} {y} {v} {n} {u} {w} {o} {x} {ss} {s} {given} {t} here mark skips stack names_same tok turn registers colon has a =
     let g = registers s (subst (λ z. IsNamed z s) (sym names_same) a.code) in
     let makes : Makes (λ a b. Raw.scalar v y a b) (λ a b. Ev.scalar v y a b) = record { resolves = λ s a b. refl; after_it = λ k s a b. refl } in (
       with_anchor s (name_of x),
-      took here (subst (λ z. Skips p.tokens t z) (sym g.tokens) skips) (g.stack ∙ stack) (subst (λ z. Takes (Goal.after_properties w o) p.stack z (Some (Raw.scalar v y (perhaps_anchor_of o) (perhaps_tag_of o))) Goal.done ss) (sym tok) turn) a
+      took here (subst (λ z. Skips p.tokens t z) (sym g.tokens) skips) (g.stack ∙ stack) (subst (λ z. Takes (Goal.content w o) p.stack z (Some (Raw.scalar v y (perhaps_anchor_of o) (perhaps_tag_of o))) Goal.done ss) (sym tok) turn) a
           (gave m (made_named makes has g.value (g.keep ∙ ap (λ z. z.keeping) names_same) g.code) a) (λ b. (refl, ap is_end tok))
           (here_at (last_position p.tokens) (Raw.scalar v y (perhaps_anchor_of o) (perhaps_tag_of o)) (shown t) m (λ b k. refl) mark) (colon (Some t.0)),
     )
 
 -- Properties alone are registered, and the token stays.
-pub properties_left : {T : Type 0} (m : Position) {p r : Reader T} {k : Kind} {n : ℕ} {u : Option event.Tag} (o : Option written.Properties) {x : Properties} {s : Names} {given : List (Ev × Position)}
-    → IsOfKind k p.tokens.peeked → IfSome p.tokens.peeked (λ t. t.0 ≡ m) → ((o' : written.Properties) (t : Tok) → kind_of t ≡ k → Leaves (Goal.after_properties context.Flow (Some o')) p.stack (Some t) (Some (Raw.empty_scalar (written.anchor_of o') (written.tag_of o'))) Goal.done p.stack)
+pub properties_left : {T : Type 0} (m : Position) {p r : Reader T} {k : Kind} {w : positions.NodeContext} {n : ℕ} {u : Option event.Tag} (o : Option written.Properties) {x : Properties} {s : Names} {given : List (Ev × Position)}
+    → IsOfKind k p.tokens.peeked → IfSome p.tokens.peeked (λ t. t.0 ≡ m) → ((o' : written.Properties) (t : Tok) → kind_of t ≡ k → Leaves (Goal.content w (Some o')) p.stack (Some t) (Some (Raw.empty_scalar (written.anchor_of o') (written.tag_of o'))) Goal.done p.stack)
     → ((names : Names) → IsNamed p.names names → Registers p (Some x) names (λ a b. (n ≡ a) × (u ≡ b)) r)
-    → Has s o (Some x) → At (Goal.after_properties context.Flow o) p s given → (names : Names) × At Goal.done r names (given ++ (Ev.scalar [] Style.plain n u, m) ∷ [])
-properties_left {T} m {p} {r} {k} {n} {u} None {x} {s} {given} here mark turn registers has a = let b : false ≡ true = has.both in cc
-properties_left {T} m {p} {r} {k} {n} {u} (Some o) {x} {s} {given} here mark turn registers has a =
+    → Has s o (Some x) → At (Goal.content w o) p s given → (names : Names) × At Goal.done r names (given ++ (Ev.scalar [] Style.plain n u, m) ∷ [])
+properties_left {T} m {p} {r} {k} {w} {n} {u} None {x} {s} {given} here mark turn registers has a = let b : false ≡ true = has.both in cc
+properties_left {T} m {p} {r} {k} {w} {n} {u} (Some o) {x} {s} {given} here mark turn registers has a =
     let l = looked k p.tokens.peeked here in
     let g = registers s a.code in
     let makes : Makes (λ a b. Raw.empty_scalar a b) (λ a b. Ev.scalar [] Style.plain a b) = record { resolves = λ s a b. refl; after_it = λ k s a b. refl } in (
@@ -156,36 +155,14 @@ unnamed_at {T} {g} {g'} {p} {r} {t} {m} {ss} {e} {names} {given} q fit of_names 
 
 -- ---- small steps
 
--- what is pending does not depend on the position
-pub pending_same : (w u : positions.NodeContext) (names : Names) (o : Option written.Properties) → IsPending names (Goal.after_properties w o) → IsPending names (Goal.after_properties u o)
-pending_same w u names o h = grind arith
-
 -- no token of properties, and no alias
 abbrev pub HasNoProperties : Kind → Type 0
 HasNoProperties k = (k ≢ kind.Alias) × (k ≢ kind.Anchor) × (k ≢ kind.Tag)
 
-pub block_alone : {k : Kind} → (k ≡ kind.BlockEntry) ⊎ ((k ≡ kind.BlockSequenceStart) ⊎ (k ≡ kind.BlockMappingStart)) → HasNoProperties k
-block_alone h = ((λ e. grind arith), (λ e. grind arith), (λ e. grind arith))
-
 -- a node without properties
 pub bare : {T : Type 0} {p : Reader T} {k : Kind} (w : positions.NodeContext) {names : Names} {given : List (Ev × Position)} → IsOfKind k p.tokens.peeked → HasNoProperties k
-    → At (Goal.node w) p names given → At (Goal.after_properties w None) p names given
+    → At (Goal.node w) p names given → At (Goal.content w None) p names given
 bare w here plain a = stays here stay (λ t h. turn.node_content _ _ t (not_as plain.0 h) (not_as plain.1 h) (not_as plain.2 h)) refl tt (λ o. tt) refl a
-
--- what begins no block collection
-abbrev pub BeginsNoBlock : Kind → Type 0
-BeginsNoBlock k = (k ≢ kind.BlockEntry) × (k ≢ kind.BlockSequenceStart) × (k ≢ kind.BlockMappingStart)
-
-block_in_flow : {T : Type 0} {p : Reader T} {k : Kind} (o : Option written.Properties) {names : Names} {given : List (Ev × Position)} → IsOfKind k p.tokens.peeked → BeginsNoBlock k
-    → At (Goal.after_properties context.Block o) p names given → At (Goal.after_properties context.Flow o) p names given
-block_in_flow o {names} here none a = stays here stay (λ t e. turn.block_flow _ o t (not_as none.1 e) (not_as none.2 e)) refl (pending_same context.Block context.Flow names o a.pending) (λ z. tt) refl a
-
--- What begins no block collection is flow content, wherever it stands.
-pub in_flow : {T : Type 0} {p : Reader T} {k : Kind} (w : positions.NodeContext) (o : Option written.Properties) {names : Names} {given : List (Ev × Position)} → IsOfKind k p.tokens.peeked → BeginsNoBlock k
-    → At (Goal.after_properties w o) p names given → At (Goal.after_properties context.Flow o) p names given
-in_flow context.Flow o here none a = a
-in_flow context.Block o here none a = block_in_flow o here none a
-in_flow context.Part o {names} here none a = block_in_flow o here none (stays here stay (λ t e. turn.part_block _ o t (not_as none.0 e)) refl (pending_same context.Part context.Block names o a.pending) (λ o. tt) refl a)
 
 pub taken_with : {T : Type 0} {p q : Tokens T} {t : Token} → SkipsOne p q → p.peeked ≡ Some t → Skips p t q
 taken_with {T} {p} {q} {t} h e = if_some_at (λ u. Skips p u q) h.token e
@@ -253,7 +230,7 @@ tag_unknown {T} {p} {r} {t} {m} {w} {x} {names} {given} here mark skips same tok
 pub tag_unknown_after : {T : Type 0} {p r : Reader T} {t : Token} {m : Position} {w : positions.NodeContext} {v : List ℕ} {x : event.Tag} {names : Names} {given : List (Ev × Position)}
     → p.tokens.peeked ≡ Some t → EndsInAnchor (all_shown p.tokens.taken.items) m → Skips p.tokens t r.tokens → r.names ≡ p.names → tok_of t.1 ≡ written.tag_token x → resolved names.handles x ≡ None → At (Goal.after_anchor w v) p names given → Faulted r given (Some (fault.At UndeclaredHandle m))
 tag_unknown_after {T} {p} {r} {t} {m} {w} {v} {x} {names} {given} here anchored skips same tok missing a =
-    unnamed_at UndeclaredHandle (ap (λ u. fits UndeclaredHandle (kind_of u)) tok) refl (inr (refl, anchored)) here skips (ap (λ z. z.keeping) same) (subst (λ z. Takes (Goal.after_anchor w v) p.stack z None (Goal.after_properties w (Some (written.anchored_tagged v x))) p.stack) (sym tok) (turn.anchor_tag w p.stack v x))
+    unnamed_at UndeclaredHandle (ap (λ u. fits UndeclaredHandle (kind_of u)) tok) refl (inr (refl, anchored)) here skips (ap (λ z. z.keeping) same) (subst (λ z. Takes (Goal.after_anchor w v) p.stack z None (Goal.content w (Some (written.anchored_tagged v x))) p.stack) (sym tok) (turn.anchor_tag w p.stack v x))
     (λ ts es y. content_unnameable p.names.keeping.tags names _ _ _ ts es (ap (option_map Some) missing) y.0)
     (subst (HasUndeclaredHandle names) (sym tok) (no_prefix x (prefix_of names.handles x.handle) missing)) (apart_as (opens (Goal.after_anchor w v) _ refl) refl refl) a
 

@@ -81,13 +81,13 @@ at_once one other apart soon = opened None tt (λ ts es x. (es, refl)) one other
 abbrev pub after_one : {g : Goal} {ss : List State} {t u : Tok} (l : Raw) {e f : Raw} → may_wait l ≡ true → ((ts : List Tok) (es : List Raw) → Awaits g ss ts es → (fs : List Raw) × (es ≡ l ∷ fs)) → Way g ss t (l ∷ e ∷ []) → Way g ss u (l ∷ f ∷ []) → e ≢ f → Opens g ss
 after_one l waits all one other apart = opened (Some l) waits all one other apart (λ h. cc h)
 
-pub start_says : (ss : List State) (ts : List Tok) (es : List Raw) → Awaits Goal.start ss ts es → (fs : List Raw) × (es ≡ Raw.stream_start ∷ fs)
+pub start_says : (ss : List State) (ts : List Tok) (es : List Raw) → Awaits Goal.stream ss ts es → (fs : List Raw) × (es ≡ Raw.stream_start ∷ fs)
 start_says ss ts es a = grind arith
 
-pub end_says : (ss : List State) (ts : List Tok) (es : List Raw) → Awaits Goal.after ss ts es → (fs : List Raw) × (es ≡ Raw.document_end ∷ fs)
+pub end_says : (ss : List State) (ts : List Tok) (es : List Raw) → Awaits Goal.document_end ss ts es → (fs : List Raw) × (es ≡ Raw.document_end ∷ fs)
 end_says ss ts es a = grind arith
 
-pub empty_says : (ss : List State) (ts : List Tok) (es : List Raw) → Awaits Goal.flow_empty ss ts es → (fs : List Raw) × (es ≡ nothing_written ∷ fs)
+pub empty_says : (ss : List State) (ts : List Tok) (es : List Raw) → Awaits Goal.no_flow_mapping_value ss ts es → (fs : List Raw) × (es ≡ nothing_written ∷ fs)
 empty_says ss ts es a = grind arith
 
 pub longer : (ds : List Directive) (d : Directive) → Raw.document_start ds ≢ Raw.document_start (ds ++ d ∷ [])
@@ -100,23 +100,23 @@ longer ds d e = by ds (let same : ds ≡ ds ++ d ∷ [] = cc in same)
 abbrev pub opens : (g : Goal) (ss : List State) → is_idle g ≡ false → Opens g ss
 opens Goal.done ss h = cc
 opens Goal.ended ss h = cc
-opens Goal.start ss h = after_one Raw.stream_start refl (start_says ss) (way Goal.start ss Tok.stream_start (Tok.stream_end ∷ []) _ _ refl refl refl) (way Goal.start ss Tok.stream_start (Tok.document_start ∷ []) _ _ refl refl refl) (λ e. cc)
+opens Goal.stream ss h = after_one Raw.stream_start refl (start_says ss) (way Goal.stream ss Tok.stream_start (Tok.stream_end ∷ []) _ _ refl refl refl) (way Goal.stream ss Tok.stream_start (Tok.document_start ∷ []) _ _ refl refl refl) (λ e. cc)
 opens Goal.documents ss h = at_once (way Goal.documents ss Tok.stream_end [] _ _ refl refl refl) (way Goal.documents ss Tok.document_start [] _ _ refl refl refl) (λ e. cc) refl
-opens Goal.explicit ss h = at_once (way Goal.explicit ss Tok.stream_end [] _ _ refl refl refl) (way Goal.explicit ss Tok.document_start [] _ _ refl refl refl) (λ e. cc) refl
-opens (Goal.directed ds) ss h = at_once (way (Goal.directed ds) ss Tok.document_start [] _ _ refl refl refl) (way (Goal.directed ds) ss (Tok.version_directive 1 2) (Tok.document_start ∷ []) _ _ refl refl refl) (longer ds (Directive.version 1 2)) refl
-opens Goal.after ss h = after_one Raw.document_end refl (end_says ss) (way Goal.after ss Tok.stream_end [] _ _ refl refl refl) (way Goal.after ss Tok.document_start [] _ _ refl refl refl) (λ e. cc)
-opens (Goal.after_properties c None) ss h = at_once (way (Goal.after_properties c None) ss text [] _ _ refl refl refl) (way (Goal.after_properties c None) ss Tok.flow_sequence_start [] _ _ refl refl refl) (λ e. cc) refl
-opens Goal.entries ss h = at_once (way Goal.entries ss Tok.block_end [] _ _ refl refl refl) (way Goal.entries ss Tok.block_entry [] _ _ refl refl refl) (λ e. cc) refl
-opens Goal.indentless_entries ss h = at_once (way Goal.indentless_entries ss Tok.block_entry [] _ _ refl refl refl) (way Goal.indentless_entries ss Tok.block_entry (Tok.flow_sequence_start ∷ []) _ _ refl refl refl) (λ e. cc) refl
-opens Goal.pairs ss h = at_once (way Goal.pairs ss Tok.block_end [] _ _ refl refl refl) (way Goal.pairs ss Tok.key [] _ _ refl refl refl) (λ e. cc) refl
-opens Goal.key_pairs ss h = at_once (way Goal.key_pairs ss Tok.block_end [] _ _ refl refl refl) (way Goal.key_pairs ss Tok.key [] _ _ refl refl refl) (λ e. cc) refl
-opens Goal.after_key ss h = at_once (way Goal.after_key ss (Tok.value) [] _ _ refl refl refl) (way Goal.after_key ss Tok.block_end [] _ _ refl refl refl) (λ e. cc) refl
-opens Goal.more_items ss h = at_once (way Goal.more_items ss Tok.flow_sequence_end [] _ _ refl refl refl) (way Goal.more_items ss Tok.flow_entry (text ∷ []) _ _ refl refl refl) (λ e. cc) refl
-opens Goal.pair_value ss h = at_once (way Goal.pair_value ss Tok.value [] _ _ refl refl refl) (way Goal.pair_value ss Tok.flow_sequence_end [] _ _ refl refl refl) (λ e. cc) refl
-opens Goal.pair_end ss h = cc
-opens Goal.more_flow_pairs ss h = at_once (way Goal.more_flow_pairs ss Tok.flow_mapping_end [] _ _ refl refl refl) (way Goal.more_flow_pairs ss Tok.flow_entry (text ∷ []) _ _ refl refl refl) (λ e. cc) refl
-opens Goal.flow_after_key ss h = at_once (way Goal.flow_after_key ss Tok.value [] _ _ refl refl refl) (way Goal.flow_after_key ss Tok.flow_mapping_end [] _ _ refl refl refl) (λ e. cc) refl
-opens Goal.flow_empty ss h = after_one nothing_written refl (empty_says ss) (way Goal.flow_empty ss Tok.flow_mapping_end [] _ _ refl refl refl) (way Goal.flow_empty ss Tok.flow_entry (text ∷ []) _ _ refl refl refl) (λ e. cc)
+opens Goal.explicit_document ss h = at_once (way Goal.explicit_document ss Tok.stream_end [] _ _ refl refl refl) (way Goal.explicit_document ss Tok.document_start [] _ _ refl refl refl) (λ e. cc) refl
+opens (Goal.directives ds) ss h = at_once (way (Goal.directives ds) ss Tok.document_start [] _ _ refl refl refl) (way (Goal.directives ds) ss (Tok.version_directive 1 2) (Tok.document_start ∷ []) _ _ refl refl refl) (longer ds (Directive.version 1 2)) refl
+opens Goal.document_end ss h = after_one Raw.document_end refl (end_says ss) (way Goal.document_end ss Tok.stream_end [] _ _ refl refl refl) (way Goal.document_end ss Tok.document_start [] _ _ refl refl refl) (λ e. cc)
+opens (Goal.content c None) ss h = at_once (way (Goal.content c None) ss text [] _ _ refl refl refl) (way (Goal.content c None) ss Tok.flow_sequence_start [] _ _ refl refl refl) (λ e. cc) refl
+opens Goal.block_sequence_entries ss h = at_once (way Goal.block_sequence_entries ss Tok.block_end [] _ _ refl refl refl) (way Goal.block_sequence_entries ss Tok.block_entry [] _ _ refl refl refl) (λ e. cc) refl
+opens Goal.indentless_sequence_entries ss h = at_once (way Goal.indentless_sequence_entries ss Tok.block_entry [] _ _ refl refl refl) (way Goal.indentless_sequence_entries ss Tok.block_entry (Tok.flow_sequence_start ∷ []) _ _ refl refl refl) (λ e. cc) refl
+opens Goal.block_mapping_entries ss h = at_once (way Goal.block_mapping_entries ss Tok.block_end [] _ _ refl refl refl) (way Goal.block_mapping_entries ss Tok.key [] _ _ refl refl refl) (λ e. cc) refl
+opens Goal.block_mapping_next_entries ss h = at_once (way Goal.block_mapping_next_entries ss Tok.block_end [] _ _ refl refl refl) (way Goal.block_mapping_next_entries ss Tok.key [] _ _ refl refl refl) (λ e. cc) refl
+opens Goal.block_mapping_value ss h = at_once (way Goal.block_mapping_value ss (Tok.value) [] _ _ refl refl refl) (way Goal.block_mapping_value ss Tok.block_end [] _ _ refl refl refl) (λ e. cc) refl
+opens Goal.flow_sequence_comma ss h = at_once (way Goal.flow_sequence_comma ss Tok.flow_sequence_end [] _ _ refl refl refl) (way Goal.flow_sequence_comma ss Tok.flow_entry (text ∷ []) _ _ refl refl refl) (λ e. cc) refl
+opens Goal.flow_value ss h = at_once (way Goal.flow_value ss Tok.value [] _ _ refl refl refl) (way Goal.flow_value ss Tok.flow_sequence_end [] _ _ refl refl refl) (λ e. cc) refl
+opens Goal.flow_pair_end ss h = cc
+opens Goal.flow_mapping_comma ss h = at_once (way Goal.flow_mapping_comma ss Tok.flow_mapping_end [] _ _ refl refl refl) (way Goal.flow_mapping_comma ss Tok.flow_entry (text ∷ []) _ _ refl refl refl) (λ e. cc) refl
+opens Goal.flow_mapping_value ss h = at_once (way Goal.flow_mapping_value ss Tok.value [] _ _ refl refl refl) (way Goal.flow_mapping_value ss Tok.flow_mapping_end [] _ _ refl refl refl) (λ e. cc) refl
+opens Goal.no_flow_mapping_value ss h = after_one nothing_written refl (empty_says ss) (way Goal.no_flow_mapping_value ss Tok.flow_mapping_end [] _ _ refl refl refl) (way Goal.no_flow_mapping_value ss Tok.flow_entry (text ∷ []) _ _ refl refl refl) (λ e. cc)
 opens g ss h = at_once (way g ss text [] _ _ refl refl refl) (way g ss Tok.flow_sequence_start [] _ _ refl refl refl) (λ e. cc) refl
 
 -- ---- where a parser stands
@@ -174,12 +174,12 @@ node_comes a = let s = a.stands.settled in grind arith
 pub node_apart : {T : Type 0} {w : NodeContext} {p : Reader T} {names : Names} {given : List (Ev × Position)} → (a : At (Goal.node w) p names given) → GoesBeside (two_after (taken_toks p.tokens)) a
 node_apart {T} {w} {p} a = apart_as (opens (Goal.node w) p.stack refl) refl (ap (λ n. two_that_come n (open_after [] (taken_toks p.tokens))) (node_comes a)) a
 
-pub explicit_right : AreRight Goal.explicit refl
+pub explicit_right : AreRight Goal.explicit_document refl
 explicit_right ss f = grind arith
 
 -- Where a document's end is certain, and a directive may not stand.
-pub after_goes_apart : {T : Type 0} {p : Reader T} {names : Names} {given : List (Ev × Position)} → (a : At Goal.after p names given) → IsKnown Goal.after p → StandsBeside DirectiveWithoutDocumentEnd a
+pub after_goes_apart : {T : Type 0} {p : Reader T} {names : Names} {given : List (Ev × Position)} → (a : At Goal.document_end p names given) → IsKnown Goal.document_end p → StandsBeside DirectiveWithoutDocumentEnd a
 after_goes_apart {T} {p} a known = (
-  apart (opens Goal.after p.stack refl) a,
+  apart (opens Goal.document_end p.stack refl) a,
   λ m begins. a.places to_last (token_at m Tok.stream_end ∷ []) ((Raw.document_end, m) ∷ []) (begins Tok.stream_end) (by_leaving _ refl (says refl (takes_last _ refl)), refl),
 )

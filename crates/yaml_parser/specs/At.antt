@@ -13,6 +13,7 @@ use Rattle.yaml_scanner.specs.declared.fetcher.Failed.{Failed}
 use Rattle.defs_event.specs.Event.{Ev}
 use Rattle.defs_event.specs.Raw.{Raw}
 use Rattle.defs_event.specs.Properties.{tag_of}
+use Rattle.defs_event.specs.Grammar.{Start, after_brace, after_comma}
 use Rattle.defs_event.specs.Names.{Names, no_names, at_document, are_allowed, resolved, perhaps_resolved}
 use Rattle.defs_event.specs.Stream.{Extent, StreamPlacesTo, events_of}
 use Rattle.model_parser.specs.Goal as at
@@ -46,7 +47,7 @@ is_done at.done = true
 is_done _ = false
 
 abbrev pub is_pair_end : Goal → Bool
-is_pair_end at.pair_end = true
+is_pair_end at.flow_pair_end = true
 is_pair_end _ = false
 
 -- whether it looks at no token here
@@ -55,8 +56,13 @@ is_idle g = is_over g || (is_done g || is_pair_end g)
 
 -- Where a value is read, or is next, whose `:` stands there, this was the last token.
 abbrev pub IsPastColon : Goal → Option Position → Type 0
-IsPastColon (at.flow_valued m) last = last ≡ Some m
+IsPastColon (at.flow_mapping_valued m) last = last ≡ Some m
 IsPastColon g last = Unit {0}
+
+-- after the brace of a flow mapping, or after the comma that stands there
+abbrev pub start_after : Option Position → Start
+start_after None = after_brace
+start_after (Some m) = after_comma
 
 -- ---- names
 
@@ -70,14 +76,14 @@ names_by k raw = names_since k.settings.items k.tags no_names raw
 
 -- the names that are kept where this is read: directives count as soon as they are read
 abbrev pub names_at : Bool → Goal → Names → Names
-names_at keep (at.directed ds) names = at_document keep names ds
+names_at keep (at.directives ds) names = at_document keep names ds
 names_at keep g names = names
 
 -- What was read and is not yet given can be resolved.
 abbrev pub IsPending : Names → Goal → Type 0
-IsPending names (at.directed ds) = are_allowed ds ≡ true
+IsPending names (at.directives ds) = are_allowed ds ≡ true
 IsPending names (at.after_tag p t) = IsSome (resolved names.handles t)
-IsPending names (at.after_properties p (Some o)) = IsSome (perhaps_resolved names.handles (tag_of o))
+IsPending names (at.content p (Some o)) = IsSome (perhaps_resolved names.handles (tag_of o))
 IsPending names g = Unit {0}
 
 -- ---- productions

@@ -21,7 +21,7 @@ IsAfter read tokens = (earlier : List Tok) × (tokens ≡ earlier ++ directives_
 -- Some directives were read, a version among them or none.
 pub record Directing {T : Type 0} (p : Reader T) (names : Names) (given : List (Ev × Position)) (versioned : Bool) : Type 0 where
   pub read : List Directive
-  pub here : At (at.directed read) p names given
+  pub here : At (at.directives read) p names given
   pub own : IsOwn p.names read
   pub version : versions read ≡ (if versioned then 1 else 0)
   pub taken : IsAfter read (taken_toks p.tokens)
@@ -36,7 +36,7 @@ Directs before after old new result slot = (names : Names) (given : List (Ev × 
 
 -- All directives of a document are read.
 abbrev pub AreRead : {T : Type 0} → Reader T → Reader T → Type 0
-AreRead old new = (names : Names) (given : List (Ev × Position)) → Directing old names given false → (read : List Directive) × At (at.directed read) new names given
+AreRead old new = (names : Names) (given : List (Ev × Position)) → Directing old names given false → (read : List Directive) × At (at.directives read) new names given
 
 abbrev pub DirectivesFail : {T : Type 0} → Reader T → Reader T → Option Fault → Type 0
 DirectivesFail old new s = (names : Names) (given : List (Ev × Position)) → Directing old names given false → Faulted new given s

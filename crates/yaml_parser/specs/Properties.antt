@@ -32,7 +32,7 @@ pub record Has (names : Names) (o : Option written.Properties) (p : Option Prope
 
 -- what a content comes to, after these properties
 pub record ReadsAfter {T E : Type 0} (p : NodeContext) (properties : Option Properties) (old new : Reader T) (result : Result (Unit {0}) E) (slot : EventSlot) : Type 0 where
-  pub so : (o : Option written.Properties) (names : Names) (given : List (Ev × chars.Position)) → Has names o properties → At (at.after_properties p o) old names given → Answers new given (answered result slot)
+  pub so : (o : Option written.Properties) (names : Names) (given : List (Ev × chars.Position)) → Has names o properties → At (at.content p o) old names given → Answers new given (answered result slot)
 
 -- The anchor of these properties is numbered, and nothing else changes.
 pub record Registers {T : Type 0} (old : Reader T) (properties : Option Properties) (names : Names) (gives : ℕ → Option defs.Tag → Type 0) (new : Reader T) : Type 0 where

@@ -9,15 +9,15 @@ use Rattle.yaml_parser.specs.Ahead.{left}
 abbrev pub weight : State → ℕ
 weight state.DocumentEnd = 2
 weight state.DocumentContent = 3
-weight state.ImplicitDocumentStart = 4
+weight state.Documents = 4
 weight state.IndentlessSequenceItem = 2
 weight state.BlockMappingValue = 2
-weight state.FlowSequenceEntryMappingEnd = 2
-weight state.FlowSequenceEntryMappingValue = 3
-weight state.FlowSequenceEntryMappingKey = 4
+weight state.FlowPairEnd = 2
+weight state.FlowValue = 3
+weight state.FlowPairKey = 4
 weight state.FlowMappingValue = 2
-weight (state.FlowMappingPart m) = 2
-weight state.FlowMappingEmptyValue = 2
+weight (state.FlowMappingValued m) = 2
+weight state.NoFlowMappingValue = 2
 weight _ = 1
 
 abbrev pub weights : List State → ℕ

@@ -13,8 +13,8 @@ use yaml_tokens::{Fault, Problem};
 
 impl<T: Characters> Reader<T> {
     #[inline(always)]
-    pub(crate) fn block_sequence_entry(&mut self, slot: &mut EventSlot) -> Answer
-        ensures answers { Reads at.entries self.old self.new result slot.new }
+    pub(crate) fn block_sequence_entries(&mut self, slot: &mut EventSlot) -> Answer
+        ensures answers { Reads at.block_sequence_entries self.old self.new result slot.new }
         ensures bounds { Moves 1 1 self.old self.new result }
     {
         let next = self.peek(slot)?;
@@ -34,11 +34,11 @@ impl<T: Characters> Reader<T> {
     /// After a `-`.
     #[inline(always)]
     fn block_sequence_item(&mut self, slot: &mut EventSlot) -> Answer
-        ensures answers { Reads at.entry self.old self.new result slot.new }
+        ensures answers { Reads at.block_sequence_item self.old self.new result slot.new }
         ensures bounds { Moves 3 1 self.old self.new result }
     {
         let next = self.peek(slot)?;
-        self.push(slot, State::BlockSequenceEntry)?;
+        self.push(slot, State::BlockSequenceEntries)?;
         match next {
             Kind::BlockEntry | Kind::BlockEnd => {
                 self.nothing_written(slot, self.mark());
@@ -48,8 +48,8 @@ impl<T: Characters> Reader<T> {
         }
     }
 
-    pub(crate) fn indentless_sequence_entry(&mut self, slot: &mut EventSlot) -> Answer
-        ensures answers { Reads at.indentless_entries self.old self.new result slot.new }
+    pub(crate) fn indentless_sequence_entries(&mut self, slot: &mut EventSlot) -> Answer
+        ensures answers { Reads at.indentless_sequence_entries self.old self.new result slot.new }
         ensures bounds { Moves 1 1 self.old self.new result }
     {
         let next = self.peek(slot)?;
@@ -68,11 +68,11 @@ impl<T: Characters> Reader<T> {
     /// After a `-`.
     #[inline(always)]
     pub(crate) fn indentless_sequence_item(&mut self, slot: &mut EventSlot) -> Answer
-        ensures answers { Reads at.indentless_entry self.old self.new result slot.new }
+        ensures answers { Reads at.indentless_sequence_item self.old self.new result slot.new }
         ensures bounds { Moves 2 1 self.old self.new result }
     {
         let next = self.peek(slot)?;
-        self.push(slot, State::IndentlessSequenceEntry)?;
+        self.push(slot, State::IndentlessSequenceEntries)?;
         match next {
             Kind::BlockEntry | Kind::Key | Kind::Value | Kind::BlockEnd => {
                 self.nothing_written(slot, self.mark());
@@ -83,8 +83,8 @@ impl<T: Characters> Reader<T> {
     }
 
     #[inline(always)]
-    pub(crate) fn block_mapping_key(&mut self, slot: &mut EventSlot) -> Answer
-        ensures answers { Reads at.pairs self.old self.new result slot.new }
+    pub(crate) fn block_mapping_entries(&mut self, slot: &mut EventSlot) -> Answer
+        ensures answers { Reads at.block_mapping_entries self.old self.new result slot.new }
         ensures bounds { Moves 1 1 self.old self.new result }
     {
         if let Some(key) = self.next_key(slot)? {
@@ -94,8 +94,8 @@ impl<T: Characters> Reader<T> {
         match next {
             Kind::Value => {
                 let mark = self.skip();
-                self.push(slot, State::BlockMappingKey)?;
-                self.push(slot, State::BlockMappingPart)?;
+                self.push(slot, State::BlockMappingEntries)?;
+                self.push(slot, State::PairNode)?;
                 self.nothing_written(slot, mark);
                 Ok(())
             }
@@ -104,8 +104,8 @@ impl<T: Characters> Reader<T> {
     }
 
     /// Where a `:` would be a value of the key before.
-    pub(crate) fn block_mapping_next_key(&mut self, slot: &mut EventSlot) -> Answer
-        ensures answers { Reads at.key_pairs self.old self.new result slot.new }
+    pub(crate) fn block_mapping_next_entries(&mut self, slot: &mut EventSlot) -> Answer
+        ensures answers { Reads at.block_mapping_next_entries self.old self.new result slot.new }
         ensures bounds { Moves 1 1 self.old self.new result }
     {
         let next = self.peek(slot)?;
@@ -116,7 +116,7 @@ impl<T: Characters> Reader<T> {
     #[inline(always)]
     fn block_mapping_pair(&mut self, slot: &mut EventSlot, next: Kind) -> Answer
         requires { IsOfKind next self.old.tokens.peeked }
-        ensures answers { Reads at.key_pairs self.old self.new result slot.new }
+        ensures answers { Reads at.block_mapping_next_entries self.old self.new result slot.new }
         ensures bounds { Moves 1 1 self.old self.new result }
     {
         match next {
@@ -127,7 +127,7 @@ impl<T: Characters> Reader<T> {
             Kind::Key => {
                 self.skip();
                 self.push(slot, State::BlockMappingValue)?;
-                self.block_mapping_part(slot)
+                self.pair_node(slot)
             }
             _ => Err(slot.halt(Some(Fault::At(Problem::BlockMappingKey, self.mark())))),
         }
@@ -136,21 +136,21 @@ impl<T: Characters> Reader<T> {
     /// After a key.
     #[inline(always)]
     pub(crate) fn block_mapping_value(&mut self, slot: &mut EventSlot) -> Answer
-        ensures answers { Reads at.after_key self.old self.new result slot.new }
+        ensures answers { Reads at.block_mapping_value self.old self.new result slot.new }
         ensures bounds { Moves 2 1 self.old self.new result }
     {
         if let Some(value) = self.next_value(slot)? {
-            return self.plain(slot, value, State::BlockMappingKey);
+            return self.plain(slot, value, State::BlockMappingEntries);
         }
         let next = self.peek(slot)?;
         match next {
             Kind::Value => {
                 self.skip();
-                self.push(slot, State::BlockMappingKey)?;
-                self.block_mapping_part(slot)
+                self.push(slot, State::BlockMappingEntries)?;
+                self.pair_node(slot)
             }
             _ => {
-                self.push(slot, State::BlockMappingNextKey)?;
+                self.push(slot, State::BlockMappingNextEntries)?;
                 self.nothing_written(slot, self.mark());
                 Ok(())
             }
@@ -159,8 +159,8 @@ impl<T: Characters> Reader<T> {
 
     /// A key or a value, which may be missing.
     #[inline(always)]
-    pub(crate) fn block_mapping_part(&mut self, slot: &mut EventSlot) -> Answer
-        ensures answers { Reads at.part self.old self.new result slot.new }
+    pub(crate) fn pair_node(&mut self, slot: &mut EventSlot) -> Answer
+        ensures answers { Reads at.pair_node self.old self.new result slot.new }
         ensures bounds { Moves 1 1 self.old self.new result }
     {
         let next = self.peek(slot)?;
@@ -169,7 +169,7 @@ impl<T: Characters> Reader<T> {
                 self.nothing_written(slot, self.mark());
                 Ok(())
             }
-            _ => self.node(slot, NodeContext::Part, next),
+            _ => self.node(slot, NodeContext::Pair, next),
         }
     }
 }

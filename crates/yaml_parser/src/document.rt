@@ -17,15 +17,15 @@ use yaml_scanner::Failed;
 use yaml_tokens::{Fault, Problem};
 
 impl<T: Characters> Reader<T> {
-    pub(crate) fn stream_start(&mut self, slot: &mut EventSlot) -> Answer
-        ensures answers { Reads at.start self.old self.new result slot.new }
+    pub(crate) fn stream(&mut self, slot: &mut EventSlot) -> Answer
+        ensures answers { Reads at.stream self.old self.new result slot.new }
         ensures bounds { Moves 1 1 self.old self.new result }
     {
         let next = self.peek(slot)?;
         match next {
             Kind::StreamStart => {
                 let mark = self.skip();
-                self.push(slot, State::ImplicitDocumentStart)?;
+                self.push(slot, State::Documents)?;
                 slot.write(Event::StreamStart, mark);
                 Ok(())
             }
@@ -49,7 +49,7 @@ impl<T: Characters> Reader<T> {
     }
 
     /// After the stream's start or `...`.
-    pub(crate) fn document(&mut self, slot: &mut EventSlot) -> Answer
+    pub(crate) fn documents(&mut self, slot: &mut EventSlot) -> Answer
         ensures answers { Reads at.documents self.old self.new result slot.new }
         ensures bounds { Moves 4 1 self.old self.new result }
     {
@@ -69,7 +69,7 @@ impl<T: Characters> Reader<T> {
 
     /// After a document without `...`.
     pub(crate) fn explicit_document(&mut self, slot: &mut EventSlot) -> Answer
-        ensures answers { Reads at.explicit self.old self.new result slot.new }
+        ensures answers { Reads at.explicit_document self.old self.new result slot.new }
         ensures bounds { Moves 1 1 self.old self.new result }
     {
         let next = self.peek(slot)?;
@@ -79,7 +79,7 @@ impl<T: Characters> Reader<T> {
     /// The stream's end, or a document that begins with `---`. `next` was looked at.
     fn end_or_document(&mut self, slot: &mut EventSlot, next: Kind) -> Answer
         requires { IsOfKind next self.old.tokens.peeked }
-        ensures answers { Reads at.explicit self.old self.new result slot.new }
+        ensures answers { Reads at.explicit_document self.old self.new result slot.new }
         ensures bounds { Moves 1 1 self.old self.new result }
     {
         match next {
@@ -168,7 +168,7 @@ impl<T: Characters> Reader<T> {
 
     /// After `---`.
     pub(crate) fn document_content(&mut self, slot: &mut EventSlot) -> Answer
-        ensures answers { Reads at.content self.old self.new result slot.new }
+        ensures answers { Reads at.document_content self.old self.new result slot.new }
         ensures bounds { Moves 3 1 self.old self.new result }
     {
         let next = self.peek(slot)?;
@@ -188,14 +188,14 @@ impl<T: Characters> Reader<T> {
 
     /// After a document's node.
     pub(crate) fn document_end(&mut self, slot: &mut EventSlot) -> Answer
-        ensures answers { Reads at.after self.old self.new result slot.new }
+        ensures answers { Reads at.document_end self.old self.new result slot.new }
         ensures bounds { Moves 2 1 self.old self.new result }
     {
         let next = self.peek(slot)?;
         match next {
             Kind::DocumentEnd => {
                 let mark = self.skip();
-                self.push(slot, State::ImplicitDocumentStart)?;
+                self.push(slot, State::Documents)?;
                 slot.write(Event::DocumentEnd, mark);
                 Ok(())
             }
@@ -203,7 +203,7 @@ impl<T: Characters> Reader<T> {
                 Err(slot.halt(Some(Fault::At(Problem::DirectiveWithoutDocumentEnd, self.mark()))))
             }
             _ => {
-                self.push(slot, State::DocumentStart)?;
+                self.push(slot, State::ExplicitDocument)?;
                 slot.write(Event::DocumentEnd, self.mark());
                 Ok(())
             }

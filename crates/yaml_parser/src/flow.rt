@@ -1,11 +1,9 @@
 //! Flow collections (YAML 1.2, section 7.4).
-ghost use Rattle.defs_event.specs.Grammar.{Start};
+ghost use Rattle.std.specs.Prelude.{IfSome};
 ghost use Rattle.model_parser.specs.Goal as at;
-ghost use Rattle.model_parser.specs.declared.kind.Kind.TheVariants as kind;
-ghost use Rattle.yaml_parser.specs.At.{Reads};
+ghost use Rattle.yaml_parser.specs.At.{Reads, start_after};
 ghost use Rattle.yaml_parser.specs.Handed.{IsRightAfter};
 ghost use Rattle.yaml_parser.specs.Work.{Moves};
-ghost use Rattle.yaml_parser.specs.Kinds.{IsOfKind};
 
 use crate::event::Event;
 use crate::reader::Reader;
@@ -15,10 +13,10 @@ use yaml_chars::{Characters, Marker};
 use yaml_tokens::{Fault, Problem};
 
 impl<T: Characters> Reader<T> {
-    /// After `[` or a comma.
+    /// After `[` or a comma. An item is a node, or a pair that begins with `?`.
     #[inline(always)]
-    pub(crate) fn flow_sequence_first_entry(&mut self, slot: &mut EventSlot) -> Answer
-        ensures answers { Reads at.items self.old self.new result slot.new }
+    pub(crate) fn flow_sequence_entries(&mut self, slot: &mut EventSlot) -> Answer
+        ensures answers { Reads at.flow_sequence_entries self.old self.new result slot.new }
         ensures bounds { Moves 1 1 self.old self.new result }
     {
         let next = self.peek(slot)?;
@@ -27,14 +25,23 @@ impl<T: Characters> Reader<T> {
                 self.end_sequence(slot);
                 Ok(())
             }
-            _ => self.flow_sequence_item(slot, next),
+            Kind::Key => {
+                let mark = self.skip();
+                self.push(slot, State::FlowPairKey)?;
+                slot.write(Event::MappingStart(0, None), mark);
+                Ok(())
+            }
+            _ => {
+                self.push(slot, State::FlowSequenceComma)?;
+                self.node(slot, NodeContext::Flow, next)
+            }
         }
     }
 
     /// After an item.
     #[inline(always)]
-    pub(crate) fn flow_sequence_entry(&mut self, slot: &mut EventSlot) -> Answer
-        ensures answers { Reads at.more_items self.old self.new result slot.new }
+    pub(crate) fn flow_sequence_comma(&mut self, slot: &mut EventSlot) -> Answer
+        ensures answers { Reads at.flow_sequence_comma self.old self.new result slot.new }
         ensures bounds { Moves 1 1 self.old self.new result }
     {
         let next = self.peek(slot)?;
@@ -45,48 +52,19 @@ impl<T: Characters> Reader<T> {
             }
             Kind::FlowEntry => {
                 self.skip();
-                self.flow_sequence_first_entry(slot)
+                self.flow_sequence_entries(slot)
             }
             _ => Err(slot.halt(Some(Fault::At(Problem::FlowSequenceEntry, self.mark())))),
         }
     }
 
-    /// An item: a node, or a pair that begins with `?`. `next` was looked at.
-    #[inline(always)]
-    fn flow_sequence_item(&mut self, slot: &mut EventSlot, next: Kind) -> Answer
-        requires { IsOfKind next self.old.tokens.peeked }
-        ensures answers { Reads at.item self.old self.new result slot.new }
-        ensures bounds { Moves 1 1 self.old self.new result }
-    {
-        match next {
-            Kind::Key => self.flow_pair(slot),
-            _ => {
-                self.push(slot, State::FlowSequenceEntry)?;
-                self.node(slot, NodeContext::Flow, next)
-            }
-        }
-    }
-
-    /// A pair that is an item. Its `?` was looked at.
-    #[inline(always)]
-    fn flow_pair(&mut self, slot: &mut EventSlot) -> Answer
-        requires { IsOfKind kind.Key self.old.tokens.peeked }
-        ensures answers { Reads at.item self.old self.new result slot.new }
-        ensures bounds { Moves 1 1 self.old self.new result }
-    {
-        let mark = self.skip();
-        self.push(slot, State::FlowSequenceEntryMappingKey)?;
-        slot.write(Event::MappingStart(0, None), mark);
-        Ok(())
-    }
-
     /// The key of a pair that is an item.
     pub(crate) fn flow_pair_key(&mut self, slot: &mut EventSlot) -> Answer
-        ensures answers { Reads at.pair_key self.old self.new result slot.new }
+        ensures answers { Reads at.flow_pair_key self.old self.new result slot.new }
         ensures bounds { Moves 4 1 self.old self.new result }
     {
         let next = self.peek(slot)?;
-        self.push(slot, State::FlowSequenceEntryMappingValue)?;
+        self.push(slot, State::FlowValue)?;
         match next {
             Kind::Value | Kind::FlowEntry | Kind::FlowSequenceEnd => {
                 self.nothing_written(slot, self.mark());
@@ -97,18 +75,18 @@ impl<T: Characters> Reader<T> {
     }
 
     /// After the key of a pair that is an item.
-    pub(crate) fn flow_pair_value(&mut self, slot: &mut EventSlot) -> Answer
-        ensures answers { Reads at.pair_value self.old self.new result slot.new }
+    pub(crate) fn flow_value(&mut self, slot: &mut EventSlot) -> Answer
+        ensures answers { Reads at.flow_value self.old self.new result slot.new }
         ensures bounds { Moves 3 1 self.old self.new result }
     {
         let next = self.peek(slot)?;
         match next {
             Kind::Value => {
                 self.skip();
-                self.flow_pair_valued(slot)
+                self.flow_valued(slot)
             }
             _ => {
-                self.push(slot, State::FlowSequenceEntryMappingEnd)?;
+                self.push(slot, State::FlowPairEnd)?;
                 self.nothing_written(slot, self.mark());
                 Ok(())
             }
@@ -117,12 +95,12 @@ impl<T: Characters> Reader<T> {
 
     /// After its `:`.
     #[inline(always)]
-    fn flow_pair_valued(&mut self, slot: &mut EventSlot) -> Answer
-        ensures answers { Reads at.pair_valued self.old self.new result slot.new }
+    fn flow_valued(&mut self, slot: &mut EventSlot) -> Answer
+        ensures answers { Reads at.flow_valued self.old self.new result slot.new }
         ensures bounds { Moves 3 1 self.old self.new result }
     {
         let next = self.peek(slot)?;
-        self.push(slot, State::FlowSequenceEntryMappingEnd)?;
+        self.push(slot, State::FlowPairEnd)?;
         match next {
             Kind::FlowEntry | Kind::FlowSequenceEnd => {
                 self.nothing_written(slot, self.mark());
@@ -134,33 +112,52 @@ impl<T: Characters> Reader<T> {
 
     /// The end of a pair that is an item.
     pub(crate) fn flow_pair_end(&mut self, slot: &mut EventSlot) -> Answer
-        ensures answers { Reads at.pair_end self.old self.new result slot.new }
+        ensures answers { Reads at.flow_pair_end self.old self.new result slot.new }
         ensures bounds { Moves 2 1 self.old self.new result }
     {
-        self.push(slot, State::FlowSequenceEntry)?;
+        self.push(slot, State::FlowSequenceComma)?;
         slot.write(Event::MappingEnd, self.tokens.scanner.mark());
         Ok(())
     }
 
+    /// After `{`, or after a comma, which stands there. A pair has a key, or a value alone, or is a node that is a key without value.
     #[inline(always)]
-    pub(crate) fn flow_mapping_first_key(&mut self, slot: &mut EventSlot) -> Answer
-        ensures answers { Reads at.flow_pairs self.old self.new result slot.new }
+    pub(crate) fn flow_mapping_entries(
+        &mut self,
+        slot: &mut EventSlot,
+        comma: Option<Marker>,
+    ) -> Answer
+        ensures answers { IfSome comma (λ m. IsRightAfter m self.old.tokens) → Reads (at.flow_mapping_entries (start_after comma)) self.old self.new result slot.new }
         ensures bounds { Moves 1 1 self.old self.new result }
     {
         let next = self.peek(slot)?;
         match next {
             Kind::FlowMappingEnd => {
-                self.end_mapping(slot);
+                let end = self.skip();
+                slot.write(Event::MappingEnd, comma.unwrap_or(end));
                 Ok(())
             }
-            _ => self.flow_mapping_pair(slot, next),
+            Kind::Key => {
+                self.skip();
+                self.flow_mapping_keyed(slot)
+            }
+            Kind::Value => {
+                let colon = self.skip();
+                self.push(slot, State::FlowMappingValued(colon))?;
+                self.nothing_written(slot, colon);
+                Ok(())
+            }
+            _ => {
+                self.push(slot, State::NoFlowMappingValue)?;
+                self.node(slot, NodeContext::Flow, next)
+            }
         }
     }
 
     /// After a pair.
     #[inline(always)]
-    pub(crate) fn flow_mapping_key(&mut self, slot: &mut EventSlot) -> Answer
-        ensures answers { Reads at.more_flow_pairs self.old self.new result slot.new }
+    pub(crate) fn flow_mapping_comma(&mut self, slot: &mut EventSlot) -> Answer
+        ensures answers { Reads at.flow_mapping_comma self.old self.new result slot.new }
         ensures bounds { Moves 1 1 self.old self.new result }
     {
         let next = self.peek(slot)?;
@@ -171,58 +168,16 @@ impl<T: Characters> Reader<T> {
             }
             Kind::FlowEntry => {
                 let comma = self.skip();
-                self.flow_mapping_next(slot, comma)
+                self.flow_mapping_entries(slot, Some(comma))
             }
             _ => Err(slot.halt(Some(Fault::At(Problem::FlowMappingEntry, self.mark())))),
-        }
-    }
-
-    /// After a comma, which stands here.
-    #[inline(always)]
-    fn flow_mapping_next(&mut self, slot: &mut EventSlot, comma: Marker) -> Answer
-        ensures answers { IsRightAfter comma self.old.tokens → Reads at.comma_flow_pairs self.old self.new result slot.new }
-        ensures bounds { Moves 2 1 self.old self.new result }
-    {
-        let next = self.peek(slot)?;
-        match next {
-            Kind::FlowMappingEnd => {
-                self.skip();
-                slot.write(Event::MappingEnd, comma);
-                Ok(())
-            }
-            _ => self.flow_mapping_pair(slot, next),
-        }
-    }
-
-    /// A pair: with a key, with a value alone, or a node that is a key without value. `next` was looked at.
-    #[inline(always)]
-    fn flow_mapping_pair(&mut self, slot: &mut EventSlot, next: Kind) -> Answer
-        requires { IsOfKind next self.old.tokens.peeked }
-        ensures answers { (s : Start) → Reads (at.flow_pair s) self.old self.new result slot.new }
-        ensures bounds { Moves 1 1 self.old self.new result }
-    {
-        match next {
-            Kind::Key => {
-                self.skip();
-                self.flow_mapping_keyed(slot)
-            }
-            Kind::Value => {
-                let colon = self.skip();
-                self.push(slot, State::FlowMappingPart(colon))?;
-                self.nothing_written(slot, colon);
-                Ok(())
-            }
-            _ => {
-                self.push(slot, State::FlowMappingEmptyValue)?;
-                self.node(slot, NodeContext::Flow, next)
-            }
         }
     }
 
     /// A key after its `?`, or after what stands for it.
     #[inline(always)]
     fn flow_mapping_keyed(&mut self, slot: &mut EventSlot) -> Answer
-        ensures answers { Reads at.flow_key self.old self.new result slot.new }
+        ensures answers { Reads at.flow_mapping_keyed self.old self.new result slot.new }
         ensures bounds { Moves 4 1 self.old self.new result }
     {
         let next = self.peek(slot)?;
@@ -239,7 +194,7 @@ impl<T: Characters> Reader<T> {
     /// After a key.
     #[inline(always)]
     pub(crate) fn flow_mapping_value(&mut self, slot: &mut EventSlot) -> Answer
-        ensures answers { Reads at.flow_after_key self.old self.new result slot.new }
+        ensures answers { Reads at.flow_mapping_value self.old self.new result slot.new }
         ensures bounds { Moves 2 1 self.old self.new result }
     {
         let next = self.peek(slot)?;
@@ -249,7 +204,7 @@ impl<T: Characters> Reader<T> {
                 self.flow_mapping_valued(slot, colon)
             }
             _ => {
-                self.push(slot, State::FlowMappingKey)?;
+                self.push(slot, State::FlowMappingComma)?;
                 self.nothing_written(slot, self.mark());
                 Ok(())
             }
@@ -259,11 +214,11 @@ impl<T: Characters> Reader<T> {
     /// After a `:`, which stands here.
     #[inline(always)]
     pub(crate) fn flow_mapping_valued(&mut self, slot: &mut EventSlot, colon: Marker) -> Answer
-        ensures answers { Reads (at.flow_valued colon) self.old self.new result slot.new }
+        ensures answers { Reads (at.flow_mapping_valued colon) self.old self.new result slot.new }
         ensures bounds { Moves 2 1 self.old self.new result }
     {
         let next = self.peek(slot)?;
-        self.push(slot, State::FlowMappingKey)?;
+        self.push(slot, State::FlowMappingComma)?;
         match next {
             Kind::FlowEntry | Kind::FlowMappingEnd => {
                 self.nothing_written(slot, colon);
@@ -274,12 +229,12 @@ impl<T: Characters> Reader<T> {
     }
 
     /// After a node that is a key without value.
-    pub(crate) fn flow_mapping_empty_value(&mut self, slot: &mut EventSlot) -> Answer
-        ensures answers { Reads at.flow_empty self.old self.new result slot.new }
+    pub(crate) fn no_flow_mapping_value(&mut self, slot: &mut EventSlot) -> Answer
+        ensures answers { Reads at.no_flow_mapping_value self.old self.new result slot.new }
         ensures bounds { Moves 2 1 self.old self.new result }
     {
         self.peek(slot)?;
-        self.push(slot, State::FlowMappingKey)?;
+        self.push(slot, State::FlowMappingComma)?;
         self.nothing_written(slot, self.mark());
         Ok(())
     }

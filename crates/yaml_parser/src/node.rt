@@ -1,8 +1,10 @@
 //! Nodes: their properties, and what may stand after them (YAML 1.2, section 6.9).
-ghost use Rattle.std.specs.Prelude.{◌≡◌, false, Some, None, OnOk, OnErr, IfOk};
+ghost use Rattle.std.specs.Prelude.{◌≡◌, true, false, Some, None, OnOk, OnErr, IfOk};
 ghost use Rattle.model_parser.specs.Goal as at;
 ghost use Rattle.defs_event.specs.Names.{Names};
+ghost use Rattle.model_parser.specs.declared.context.NodeContext.{NodeContext};
 ghost use Rattle.model_parser.specs.declared.context.NodeContext.TheVariants as context;
+ghost use Rattle.model_parser.specs.declared.context.NodeContext.TheVariants.{Flow};
 ghost use Rattle.model_parser.specs.Kinds.{begins_content};
 ghost use Rattle.yaml_tokens.specs.declared.problem.Fault.TheVariants.{OutOfMemory};
 ghost use Rattle.yaml_parser.specs.Shown.{placed, perhaps_tag_of, start_of};
@@ -52,10 +54,7 @@ impl<T: Characters> Reader<T> {
             Kind::Alias => self.alias(slot),
             Kind::Anchor => self.anchored(slot, context),
             Kind::Tag => self.tagged(slot, context),
-            Kind::BlockEntry | Kind::BlockSequenceStart | Kind::BlockMappingStart => {
-                self.content(slot, context, None, next)
-            }
-            _ => self.flow_content(slot, None, next),
+            _ => self.content(slot, context, None, next),
         }
     }
 
@@ -167,63 +166,36 @@ impl<T: Characters> Reader<T> {
         ensures answers { ReadsAfter context properties self.old self.new result slot.new }
         ensures bounds { Moves 0 (owed properties) self.old self.new result }
     {
-        match context {
-            NodeContext::Flow => self.flow_content(slot, properties, next),
-            NodeContext::Block => self.block_content(slot, properties, next),
-            NodeContext::Part => self.part_content(slot, properties, next),
-        }
-    }
-
-    #[inline(always)]
-    fn part_content(
-        &mut self,
-        slot: &mut EventSlot,
-        properties: Option<Properties>,
-        next: Kind,
-    ) -> Answer
-        requires { IsOfKind next self.old.tokens.peeked }
-        ensures answers { ReadsAfter context.Part properties self.old self.new result slot.new }
-        ensures bounds { Moves 0 (owed properties) self.old self.new result }
-    {
-        match next {
-            Kind::BlockEntry => self.indentless_sequence(slot, properties),
-            _ => self.block_content(slot, properties, next),
-        }
-    }
-
-    #[inline(always)]
-    fn block_content(
-        &mut self,
-        slot: &mut EventSlot,
-        properties: Option<Properties>,
-        next: Kind,
-    ) -> Answer
-        requires { IsOfKind next self.old.tokens.peeked }
-        ensures answers { ReadsAfter context.Block properties self.old self.new result slot.new }
-        ensures bounds { Moves 0 (owed properties) self.old self.new result }
-    {
-        match next {
-            Kind::BlockSequenceStart => self.block_sequence(slot, properties),
-            Kind::BlockMappingStart => self.block_mapping(slot, properties),
-            _ => self.flow_content(slot, properties, next),
-        }
-    }
-
-    #[inline(always)]
-    fn flow_content(
-        &mut self,
-        slot: &mut EventSlot,
-        properties: Option<Properties>,
-        next: Kind,
-    ) -> Answer
-        requires { IsOfKind next self.old.tokens.peeked }
-        ensures answers { ReadsAfter context.Flow properties self.old self.new result slot.new }
-        ensures bounds { Moves 0 (owed properties) self.old self.new result }
-    {
         match next {
             Kind::Scalar => self.scalar(slot, properties),
             Kind::FlowSequenceStart => self.flow_sequence(slot, properties),
             Kind::FlowMappingStart => self.flow_mapping(slot, properties),
+            _ => self.block_contents(slot, context, properties, next),
+        }
+    }
+
+    /// A content that stands outside flow alone, or none. `next` was looked at.
+    #[inline(always)]
+    fn block_contents(
+        &mut self,
+        slot: &mut EventSlot,
+        context: NodeContext,
+        properties: Option<Properties>,
+        next: Kind,
+    ) -> Answer
+        requires looks { IsOfKind next self.old.tokens.peeked }
+        requires none { begins_content Flow next ≡ false }
+        ensures answers { ReadsAfter context properties self.old self.new result slot.new }
+        ensures bounds { Moves 0 (owed properties) self.old self.new result }
+    {
+        match (context, next) {
+            (NodeContext::Block | NodeContext::Pair, Kind::BlockSequenceStart) => {
+                self.block_sequence(slot, properties)
+            }
+            (NodeContext::Block | NodeContext::Pair, Kind::BlockMappingStart) => {
+                self.block_mapping(slot, properties)
+            }
+            (NodeContext::Pair, Kind::BlockEntry) => self.indentless_sequence(slot, properties),
             _ => self.no_content(slot, properties, next),
         }
     }
@@ -232,7 +204,7 @@ impl<T: Characters> Reader<T> {
     #[inline(always)]
     fn scalar(&mut self, slot: &mut EventSlot, properties: Option<Properties>) -> Answer
         requires { IsOfKind kind.Scalar self.old.tokens.peeked }
-        ensures answers { ReadsAfter context.Flow properties self.old self.new result slot.new }
+        ensures answers { (context : NodeContext) → ReadsAfter context properties self.old self.new result slot.new }
         ensures bounds { Moves 0 (owed properties) self.old self.new result }
     {
         let mark = self.mark();
@@ -246,11 +218,11 @@ impl<T: Characters> Reader<T> {
     #[inline(always)]
     fn flow_sequence(&mut self, slot: &mut EventSlot, properties: Option<Properties>) -> Answer
         requires { IsOfKind kind.FlowSequenceStart self.old.tokens.peeked }
-        ensures answers { ReadsAfter context.Flow properties self.old self.new result slot.new }
+        ensures answers { (context : NodeContext) → ReadsAfter context properties self.old self.new result slot.new }
         ensures bounds { Moves 0 (owed properties) self.old self.new result }
     {
         let mark = self.skip();
-        self.push(slot, State::FlowSequenceFirstEntry)?;
+        self.push(slot, State::FlowSequenceEntries)?;
         self.start(slot, Collection::Sequence, properties, mark)
     }
 
@@ -258,11 +230,11 @@ impl<T: Characters> Reader<T> {
     #[inline(always)]
     fn flow_mapping(&mut self, slot: &mut EventSlot, properties: Option<Properties>) -> Answer
         requires { IsOfKind kind.FlowMappingStart self.old.tokens.peeked }
-        ensures answers { ReadsAfter context.Flow properties self.old self.new result slot.new }
+        ensures answers { (context : NodeContext) → ReadsAfter context properties self.old self.new result slot.new }
         ensures bounds { Moves 0 (owed properties) self.old self.new result }
     {
         let mark = self.skip();
-        self.push(slot, State::FlowMappingFirstKey)?;
+        self.push(slot, State::FlowMappingEntries)?;
         self.start(slot, Collection::Mapping, properties, mark)
     }
 
@@ -270,11 +242,11 @@ impl<T: Characters> Reader<T> {
     #[inline(always)]
     fn block_sequence(&mut self, slot: &mut EventSlot, properties: Option<Properties>) -> Answer
         requires { IsOfKind kind.BlockSequenceStart self.old.tokens.peeked }
-        ensures answers { ReadsAfter context.Block properties self.old self.new result slot.new }
+        ensures answers { (context : NodeContext) → begins_content context kind.BlockSequenceStart ≡ true → ReadsAfter context properties self.old self.new result slot.new }
         ensures bounds { Moves 0 (owed properties) self.old self.new result }
     {
         let mark = self.skip();
-        self.push(slot, State::BlockSequenceEntry)?;
+        self.push(slot, State::BlockSequenceEntries)?;
         self.start(slot, Collection::Sequence, properties, mark)
     }
 
@@ -282,11 +254,11 @@ impl<T: Characters> Reader<T> {
     #[inline(always)]
     fn block_mapping(&mut self, slot: &mut EventSlot, properties: Option<Properties>) -> Answer
         requires { IsOfKind kind.BlockMappingStart self.old.tokens.peeked }
-        ensures answers { ReadsAfter context.Block properties self.old self.new result slot.new }
+        ensures answers { (context : NodeContext) → begins_content context kind.BlockMappingStart ≡ true → ReadsAfter context properties self.old self.new result slot.new }
         ensures bounds { Moves 0 (owed properties) self.old self.new result }
     {
         let mark = self.skip();
-        self.push(slot, State::BlockMappingKey)?;
+        self.push(slot, State::BlockMappingEntries)?;
         self.start(slot, Collection::Mapping, properties, mark)
     }
 
@@ -298,7 +270,7 @@ impl<T: Characters> Reader<T> {
         properties: Option<Properties>,
     ) -> Answer
         requires { IsOfKind kind.BlockEntry self.old.tokens.peeked }
-        ensures answers { ReadsAfter context.Part properties self.old self.new result slot.new }
+        ensures answers { ReadsAfter context.Pair properties self.old self.new result slot.new }
         ensures bounds { Moves 0 (owed properties) self.old self.new result }
     {
         let mark = self.skip();
@@ -314,9 +286,8 @@ impl<T: Characters> Reader<T> {
         properties: Option<Properties>,
         next: Kind,
     ) -> Answer
-        requires looks { IsOfKind next self.old.tokens.peeked }
-        requires none { begins_content context.Flow next ≡ false }
-        ensures answers { ReadsAfter context.Flow properties self.old self.new result slot.new }
+        requires { IsOfKind next self.old.tokens.peeked }
+        ensures answers { (context : NodeContext) → begins_content context next ≡ false → ReadsAfter context properties self.old self.new result slot.new }
         ensures bounds { Moves 0 (owed properties) self.old self.new result }
     {
         let mark = self.mark();

@@ -1,7 +1,7 @@
 ghost use Rattle.std.specs.Prelude.{◌≡◌, ◌≢◌, ◌⊎◌, ◌^◌, ◌<◌, ◌≤◌, List, [], ◌∷◌, true, false, Some, None, Ok, Err, IfOk, IfErr, IfSome, OnOk};
 ghost use Rattle.std.specs.Iterator.{IsFinite, size};
 ghost use Rattle.yaml_scanner.specs.Scanned.{scanned};
-ghost use Rattle.model_parser.specs.declared.state.State.TheVariants.{StreamStart};
+ghost use Rattle.model_parser.specs.declared.state.State.TheVariants.{Stream};
 ghost use Rattle.yaml_parser.specs.Shown.{placed, ev_of};
 ghost use Rattle.defs_text.specs.Position.{Position};
 ghost use Rattle.defs_event.specs.Event.{Ev};
@@ -42,7 +42,7 @@ impl<T: Characters> EventReader<T> {
         ensures steady { result.reader.names.keeping.steady ≡ true }
         ensures keep_tags { result.reader.names.keeping.tags ≡ false }
         ensures settings { result.reader.names.keeping.settings.items ≡ [] }
-        ensures stack { result.reader.stack ≡ StreamStart ∷ [] }
+        ensures stack { result.reader.stack ≡ Stream ∷ [] }
         ensures start { result.reader.tokens.scanner.start ≡ src }
     {
         EventReader {

@@ -1,6 +1,6 @@
 ghost use Rattle.std.specs.Prelude.{◌≡◌, ◌≢◌, List, [], ◌∷◌, true, false, OnOk, OnErr, IfSome, IfNone};
 ghost use Rattle.model_parser.specs.declared.state.State.{State};
-ghost use Rattle.model_parser.specs.declared.state.State.TheVariants.{StreamStart};
+ghost use Rattle.model_parser.specs.declared.state.State.TheVariants.{Stream};
 
 use model_parser::State;
 use std::alloc::{AllocError, Global};
@@ -27,7 +27,7 @@ impl Model for Stack {
 impl Stack {
     /// The stack before a stream's start. It takes no memory.
     pub fn new(alloc: Global) -> Self
-        ensures { result ≡ StreamStart ∷ [] }
+        ensures { result ≡ Stream ∷ [] }
     {
         Stack {
             fresh: true,
@@ -65,7 +65,7 @@ impl Stack {
         }
         if self.fresh {
             self.fresh = false;
-            return Some(State::StreamStart);
+            return Some(State::Stream);
         }
         None
     }

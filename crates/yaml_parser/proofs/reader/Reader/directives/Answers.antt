@@ -3,7 +3,7 @@ use Rattle.yaml_parser.proofs.reader.Reader.directives.Goals as goal
 
 pub returns-in_err-next-clause-err : goal.returns-in_err-next-clause-err
 returns-in_err-next-clause-err g c = on_err _ c.from_residual.result
-    (λ names given h. let d = c.directives.invariant.at names given h in (c.in_err-next.ensures.stops (Goal.directed d.read) refl (Err c.in_err-next.field-0.0) refl).so names given d.here)
+    (λ names given h. let d = c.directives.invariant.at names given h in (c.in_err-next.ensures.stops (Goal.directives d.read) refl (Err c.in_err-next.field-0.0) refl).so names given d.here)
 
 pub returns-in_err-version-in-VersionDirective-clause-err : goal.returns-in_err-version-in-VersionDirective-clause-err
 returns-in_err-version-in-VersionDirective-clause-err g c = on_err _ c.from_residual-in_err-version-in-VersionDirective.result
@@ -28,4 +28,4 @@ returns-in_err-tag_directive-in-TagDirective-clause-err g c = on_err _ c.from_re
     (λ names given h. c.in_err-tag_directive-in-TagDirective.ensures.directs c.directives.versioned names given (directing_on c.in_ok-next.ensures.at c.in_ok-next.ensures.names c.in_ok-next.ensures.taken (c.directives.invariant.at names given h)))
 
 pub returns-in_default-clause-at : goal.returns-in_default-clause-at
-returns-in_default-clause-at g c = λ names given h. let d = c.directives.invariant.at names given h in (d.read, c.in_ok-next.ensures.at (Goal.directed d.read) refl names given d.here)
+returns-in_default-clause-at g c = λ names given h. let d = c.directives.invariant.at names given h in (d.read, c.in_ok-next.ensures.at (Goal.directives d.read) refl names given d.here)

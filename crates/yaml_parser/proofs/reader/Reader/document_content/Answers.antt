@@ -1,8 +1,8 @@
-use Rattle.yaml_parser.proofs.Answering.{reads, answers_written, content_empty, Goal, leaves, names_nothing, refl, stay, stay_push, stays, document_turns, arith}
+use Rattle.yaml_parser.proofs.Answering.{reads, answers_written, document_content_empty, Goal, leaves, names_nothing, refl, stay, stay_push, stays, document_turns, arith}
 use Rattle.yaml_parser.proofs.reader.Reader.document_content.Goals as goal
 
 pub returns-in-VersionDirective-clause-answers : goal.returns-in-VersionDirective-clause-answers
-returns-in-VersionDirective-clause-answers g c = c.in_ok-next.ensures.on Goal.content refl _ _ _ (reads (λ names given h. answers_written c.push.new.self given c.nothing_written.new.slot.next c.nothing_written.ensures (leaves _ c.in_ok-next.ensures.peeked (stay_push stay c.in_ok-push.ensures.stayed) (λ t e. content_empty _ t (grind arith)) (names_nothing refl refl refl) (λ b k. refl) c.mark.ensures (λ o. tt) refl h)))
+returns-in-VersionDirective-clause-answers g c = c.in_ok-next.ensures.on Goal.document_content refl _ _ _ (reads (λ names given h. answers_written c.push.new.self given c.nothing_written.new.slot.next c.nothing_written.ensures (leaves _ c.in_ok-next.ensures.peeked (stay_push stay c.in_ok-push.ensures.stayed) (λ t e. document_content_empty _ t (grind arith)) (names_nothing refl refl refl) (λ b k. refl) c.mark.ensures (λ o. tt) refl h)))
 
 pub returns-in_default-clause-answers : goal.returns-in_default-clause-answers
-returns-in_default-clause-answers g c = c.in_ok-next.ensures.on Goal.content refl _ _ _ (reads (λ names given h. c.node.ensures.answers.so names given (stays c.in_ok-next.ensures.peeked (stay_push stay c.in_ok-push.ensures.stayed) (λ t e. (document_turns _).content_node t (grind arith) (grind arith)) refl tt (λ o. tt) refl h)))
+returns-in_default-clause-answers g c = c.in_ok-next.ensures.on Goal.document_content refl _ _ _ (reads (λ names given h. c.node.ensures.answers.so names given (stays c.in_ok-next.ensures.peeked (stay_push stay c.in_ok-push.ensures.stayed) (λ t e. (document_turns _).document_content_node t (grind arith) (grind arith)) refl tt (λ o. tt) refl h)))

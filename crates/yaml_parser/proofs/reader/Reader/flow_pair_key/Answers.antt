@@ -2,7 +2,7 @@ use Rattle.yaml_parser.proofs.Answering.{reads, answers_written, Goal, leaves, n
 use Rattle.yaml_parser.proofs.reader.Reader.flow_pair_key.Goals as goal
 
 pub returns-in-Value-clause-answers : goal.returns-in-Value-clause-answers
-returns-in-Value-clause-answers g c = c.in_ok-next.ensures.on Goal.pair_key refl _ _ _ (reads (λ names given h. answers_written c.push.new.self given c.nothing_written.new.slot.next c.nothing_written.ensures (leaves _ c.in_ok-next.ensures.peeked (stay_push stay c.in_ok-push.ensures.stayed) (λ t e. (flow_turns _).pair_key_empty t (grind arith)) (names_nothing refl refl refl) (λ b k. refl) c.mark.ensures (λ o. tt) refl h)))
+returns-in-Value-clause-answers g c = c.in_ok-next.ensures.on Goal.flow_pair_key refl _ _ _ (reads (λ names given h. answers_written c.push.new.self given c.nothing_written.new.slot.next c.nothing_written.ensures (leaves _ c.in_ok-next.ensures.peeked (stay_push stay c.in_ok-push.ensures.stayed) (λ t e. (flow_turns _).flow_pair_key_empty t (grind arith)) (names_nothing refl refl refl) (λ b k. refl) c.mark.ensures (λ o. tt) refl h)))
 
 pub returns-in_default-clause-answers : goal.returns-in_default-clause-answers
-returns-in_default-clause-answers g c = c.in_ok-next.ensures.on Goal.pair_key refl _ _ _ (reads (λ names given h. c.node.ensures.answers.so names given (stays c.in_ok-next.ensures.peeked (stay_push stay c.in_ok-push.ensures.stayed) (λ t e. (flow_turns _).pair_key_node t (grind arith)) refl tt (λ o. tt) refl h)))
+returns-in_default-clause-answers g c = c.in_ok-next.ensures.on Goal.flow_pair_key refl _ _ _ (reads (λ names given h. c.node.ensures.answers.so names given (stays c.in_ok-next.ensures.peeked (stay_push stay c.in_ok-push.ensures.stayed) (λ t e. (flow_turns _).flow_pair_key_node t (grind arith)) refl tt (λ o. tt) refl h)))

@@ -1,6 +1,6 @@
 use Rattle.yaml_parser.proofs.Answering.{reads, bare_begins, documents_bare, documents_explicit, not_as, refl, stay, stay_push, stays, wrote, arith}
 use Rattle.model_parser.specs.declared.context.NodeContext.TheVariants as context
-use Rattle.yaml_parser.proofs.reader.Reader.document.Goals as goal
+use Rattle.yaml_parser.proofs.reader.Reader.documents.Goals as goal
 
 pub returns-in-StreamEnd-clause-answers : goal.returns-in-StreamEnd-clause-answers
 returns-in-StreamEnd-clause-answers g c = reads (λ names given h.
