@@ -9,7 +9,7 @@ pub use Rattle.yaml_parser.proofs.Nesting.{directed_outside, explicit_outside, n
 pub use Rattle.yaml_parser.proofs.NodeArms.{alias_taken, alias_text, alias_unknown, anchor_before, anchor_text, bare, nothing_there, properties_left, resolve_fails, scalar_taken, starts, tag_unknown, tag_unknown_after, taken_with, with_number}
 pub use Rattle.yaml_parser.proofs.Openings.{look_fails}
 pub use Rattle.yaml_parser.proofs.Pairs.{answers_plain, at_same, if_none, pair_taken}
-pub use Rattle.yaml_parser.proofs.Parsing.{advanced, event_given, fault_met, fault_misplaced, fresh_holds, given_at_once, misplaced_holds, next_read, none_waits, not_closed, seen, settings_hold, stopped, waits_still}
+pub use Rattle.yaml_parser.proofs.Parsing.{advanced, event_given, fault_met, fresh_holds, given_at_once, misplaced_holds, next_read, none_waits, not_closed, seen, settings_hold, stopped, waits_still}
 pub use Rattle.yaml_parser.proofs.Says.{says_after, says_directed, says_explicit, says_inside, says_node}
 pub use Rattle.yaml_parser.proofs.Steps.{if_some_at, looked, looks_on}
 pub use Rattle.yaml_parser.proofs.Ways.{after_goes_apart, explicit_right, goes_apart}

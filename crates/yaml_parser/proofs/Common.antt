@@ -55,14 +55,14 @@ pub use Rattle.yaml_parser.specs.Kinds.{IsOfKind}
 pub use Rattle.yaml_parser.specs.Loads.{after_document, EndsSo, Going, Loads, no_call, no_event, one_call, one_event, PullsAll, PushesNext, pushing, Receives, RunsOn}
 pub use Rattle.yaml_parser.specs.Named.{is_own, IsNamed, IsOwn, prefix_of}
 pub use Rattle.yaml_parser.specs.Nests.{BeginsNested, is_open, IsInside, opened}
-pub use Rattle.yaml_parser.specs.Parsed.{has_end, is_document_end, is_document_start, is_fresh, is_stream_end, Parsed, parsed, read, read_so, stays_steady}
+pub use Rattle.yaml_parser.specs.Parsed.{has_end, is_document_end, is_document_start, is_fresh, is_stream_end, Parsed, parsed, read, read_so, stays_steady, up_to_end}
 pub use Rattle.yaml_parser.specs.Properties.{Has, kept_tag, name_of, Registers}
 pub use Rattle.yaml_parser.specs.Pulls.{answer_of, GivesEvent, GivesFault, IsSound, Looks, MeetsFault, Peeks, Pulls, ShowsLooked, ShowsNext, Waits}
 pub use Rattle.yaml_parser.specs.Resolves.{IsUndeclared, Resolves}
 pub use Rattle.yaml_parser.specs.Seen.{fault_seen}
 pub use Rattle.yaml_parser.specs.Settings.{AreAll, named_since, names_since}
 pub use Rattle.yaml_parser.specs.Shown.{all_placed, ev_of, perhaps_tag_of, placed, start_of, tag_of}
-pub use Rattle.yaml_parser.specs.View.{events_left, fault_kept, fault_of_all, no_document}
+pub use Rattle.yaml_parser.specs.View.{events_left, fault_kept, no_document}
 pub use Rattle.yaml_parser.specs.Work.{KeepsInput, Moves, weight, weights, work}
 pub use Rattle.yaml_parser.specs.declared.event.Event.{Event}
 pub use Rattle.yaml_parser.specs.declared.names.Keeping.{Keeping}

@@ -56,11 +56,10 @@ Advances old read (Ok e) new = (has_end read ≡ false) × (work new.reader < wo
 Advances old read (Err s) new = (new.reader.names.keeping ≡ old.reader.names.keeping) × (has_end read ≡ false) × Faulted new.reader read s
 
 -- What is known of a parser.
-pub record Holds {T : Type 0} (pull : EventReader T) (given : List (Ev × Position)) (ahead : Option (Ev × Position)) (started ended : Bool) (misplaced : Option Position) : Type 0 where
-  pub held : IsHeld pull.reader (read_so given ended ahead) pull.kept
+pub record Holds {T : Type 0} (pull : EventReader T) (given : List (Ev × Position)) (ahead : Option (Ev × Position)) (started : Bool) : Type 0 where
+  pub held : IsHeld pull.reader (read_so given (has_end given) ahead) pull.kept
   -- whether the settings were all this one
   pub steady : pull.reader.names.keeping.steady ≡ true → AreAll pull.reader.names.keeping.tags pull.reader.names.keeping.settings.items
   pub first : started ≡ false → given ≡ []
-  pub end : ended ≡ has_end given
-  pub clear : IsSome ahead → (pull.kept ≡ None) × (misplaced ≡ None)
-  pub over : ended ≡ true → (pull.kept ≡ None) × (misplaced ≡ None) × IfSome ahead (λ e. e.0 ≡ Ev.stream_end)
+  pub clear : IsSome ahead → pull.kept ≡ None
+  pub over : has_end given ≡ true → (pull.kept ≡ None) × IfSome ahead (λ e. e.0 ≡ Ev.stream_end)

@@ -53,6 +53,11 @@ abbrev pub has_end : List (Ev × Position) → Bool
 has_end [] = false
 has_end (e ∷ es) = is_stream_end e.0 || has_end es
 
+-- These events as far as the stream's end, which each call after it gives again.
+abbrev pub up_to_end : List (Ev × Position) → List (Ev × Position)
+up_to_end [] = []
+up_to_end (e ∷ es) = e ∷ (if is_stream_end e.0 then [] else up_to_end es)
+
 -- The events that were read: those given, and the one that waits. After the stream's end nothing more is noted.
 abbrev pub read_so : (given : List (Ev × Position)) → (ended : Bool) → (ahead : Option (Ev × Position)) → List (Ev × Position)
 read_so given true ahead = given

@@ -24,8 +24,3 @@ events_left r current = work r + one_if_some current
 -- the fault where no document starts
 abbrev pub no_document : Position → ErrorReport
 no_document p = fault_of (fault.At DocumentStartEvent p) p
-
--- the fault that is kept: that of `load` where no document started, or that of the pulls
-abbrev pub fault_of_all : {T : Type 0} → Option Position → EventReader T → Option ErrorReport
-fault_of_all (Some p) pull = Some (no_document p)
-fault_of_all None pull = fault_kept pull

@@ -1,4 +1,4 @@
-ghost use Rattle.std.specs.Prelude.{◌≡◌, ◌^◌, ◌<◌, ◌&&◌, ◌||◌, ◌++◌, if◌then◌else◌, [], ◌∷◌, true, false, Some, None, IfSome, IsSome, IfOk, IfErr, option_map, is_some};
+ghost use Rattle.std.specs.Prelude.{◌≡◌, ◌^◌, ◌<◌, ◌&&◌, [], ◌∷◌, true, false, Some, None, IfSome, IsSome, IfOk, IfErr, option_map, is_some};
 ghost use Rattle.std.specs.Borrow.{sem};
 ghost use Rattle.std.specs.Io.BufRead.{Rests};
 ghost use Rattle.std.specs.Iterator.{IsFinite, size};
@@ -8,7 +8,7 @@ ghost use Rattle.yaml_chars.specs.Source.{CameFrom};
 ghost use Rattle.yaml_scanner.specs.Scanned.{Scans};
 ghost use Rattle.yaml_parser.specs.Loads.{PushesNext};
 ghost use Rattle.yaml_parser.specs.Nests.{IsInside};
-ghost use Rattle.yaml_parser.specs.Parsed.{parsed, is_fresh, stays_steady, is_stream_end, is_document_end};
+ghost use Rattle.yaml_parser.specs.Parsed.{parsed, is_fresh, stays_steady, is_document_end};
 ghost use Rattle.yaml_parser.specs.Pulls.{GivesEvent, Pulls, Looks, ShowsNext, MeetsFault, PeekLeaves, ShowsLooked, answer_of};
 ghost use Rattle.yaml_parser.specs.Shown.{placed, ev_of};
 ghost use Rattle.yaml_parser.specs.View.{no_document};
@@ -25,28 +25,6 @@ use yaml_chars::ghost_list::GhostList;
 use yaml_chars::{Characters, Marker};
 use yaml_scanner::Backlog;
 use yaml_tokens::{Fault, Problem, ScanError};
-
-/// Notes an event, unless the stream's end was given before.
-fn note(given: &mut GhostList<(Event, Marker)>, next: &(Event, Marker), ended: bool)
-    ensures { given.new.items ≡ given.old.items ++ (if ended then [] else next.now ∷ []) }
-{
-    if !ended {
-        given.push(next);
-    }
-}
-
-/// Whether the stream's end was given, by this event or before.
-fn ends(ended: bool, event: &Event) -> bool
-    ensures { result ≡ ended || is_stream_end (ev_of event.now) }
-{
-    if ended {
-        return true;
-    }
-    match event {
-        Event::StreamEnd => true,
-        _ => false,
-    }
-}
 
 fn is_document_end(event: &Event) -> bool
     ensures { result ≡ is_document_end (ev_of event.now) }
@@ -78,26 +56,25 @@ fn is_document_end(event: &Event) -> bool
 pub struct Parser<T: Characters> {
     pull: EventReader<T>,
     current: Option<(Event, Marker)>,
+    // All events that were given, for clauses alone.
     given: GhostList<(Event, Marker)>,
     started: bool,
-    ended: bool,
-    // The position where `load` met an event other than a document's start: a fault that is kept.
-    misplaced: Option<Marker>,
 }
 
 impl<T: Characters> Model for Parser<T> {
     ghost use Rattle.std.specs.Prelude.{option_map};
     ghost use Rattle.yaml_scanner.specs.Scanned.{scanned};
     ghost use Rattle.yaml_parser.specs.Parsed.{Parse};
+    ghost use Rattle.yaml_parser.specs.Parsed.{has_end, up_to_end};
     ghost use Rattle.yaml_parser.specs.Shown.{placed, all_placed};
-    ghost use Rattle.yaml_parser.specs.View.{fault_of_all, events_left};
+    ghost use Rattle.yaml_parser.specs.View.{fault_kept, events_left};
     ghost use Rattle.yaml_parser.specs.Held.{Holds};
 
     ghost Value = { Parse T };
 
-    ghost view = { λ p. record { start = p.pull.reader.tokens.scanner.start; so_far = record { scanner = scanned p.pull.reader.tokens.scanner; given = all_placed p.given.items; ahead = option_map placed p.current; fault = fault_of_all p.misplaced p.pull; started = p.started; ended = p.ended; keep_tags = p.pull.reader.names.keeping.tags; steady = p.pull.reader.names.keeping.steady; settings = p.pull.reader.names.keeping.settings.items; left = events_left p.pull.reader p.current } } };
+    ghost view = { λ p. record { start = p.pull.reader.tokens.scanner.start; so_far = record { scanner = scanned p.pull.reader.tokens.scanner; given = up_to_end (all_placed p.given.items); ahead = option_map placed p.current; fault = fault_kept p.pull; started = p.started; ended = has_end (up_to_end (all_placed p.given.items)); keep_tags = p.pull.reader.names.keeping.tags; steady = p.pull.reader.names.keeping.steady; settings = p.pull.reader.names.keeping.settings.items; left = events_left p.pull.reader p.current } } };
 
-    ghost invariant = { λ p. Holds p.pull (all_placed p.given.items) (option_map placed p.current) p.started p.ended p.misplaced };
+    ghost invariant = { λ p. Holds p.pull (up_to_end (all_placed p.given.items)) (option_map placed p.current) p.started };
 }
 
 impl<'a> Parser<Chars<'a>> {
@@ -144,8 +121,6 @@ impl<T: Characters> Parser<T> {
             current: None,
             given: GhostList::new(),
             started: false,
-            ended: false,
-            misplaced: None,
         }
     }
 
@@ -173,10 +148,7 @@ impl<T: Characters> Parser<T> {
     fn is_fresh(&self) -> bool
         ensures { result ≡ is_fresh (parsed self.now) }
     {
-        !self.started
-            && self.current.is_none()
-            && self.misplaced.is_none()
-            && self.pull.kept.is_none()
+        !self.started && self.current.is_none() && self.pull.kept.is_none()
     }
 
     /// Shows the next event and its position. The event stays: the next call of `next_token` gives it.
@@ -230,9 +202,6 @@ impl<T: Characters> Parser<T> {
         if self.current.is_some() {
             return Ok(());
         }
-        if let Some(mark) = self.misplaced {
-            return Err(Fault::At(Problem::DocumentStartEvent, mark).error(mark));
-        }
         let next = self.pull.next()?;
         self.current = Some(next);
         Ok(())
@@ -274,14 +243,10 @@ impl<T: Characters> Parser<T> {
         ensures pulls { Pulls (parsed self.old) (answer_of result) (parsed self.new) }
         ensures start { self.new.start ≡ self.old.start }
     {
-        if let Some(mark) = self.misplaced {
-            return Err(Fault::At(Problem::DocumentStartEvent, mark).error(mark));
-        }
         let next = self.pull.next();
         if let Ok(event) = &next {
-            note(&mut self.given, event, self.ended);
+            self.given.push(event);
             self.started = true;
-            self.ended = ends(self.ended, &event.0);
         }
         next
     }
@@ -302,9 +267,8 @@ impl<T: Characters> Parser<T> {
     {
         match self.pull.advance(slot) {
             Ok(()) => {
-                note(&mut self.given, &slot.next, self.ended);
+                self.given.push(&slot.next);
                 self.started = true;
-                self.ended = ends(self.ended, &slot.next.0);
                 let last = is_document_end(&slot.next.0);
                 let mark = slot.next.1;
                 let event = mem::replace(&mut slot.next.0, Event::Nothing);
@@ -334,9 +298,8 @@ impl<T: Characters> Parser<T> {
         let Some(next) = self.current.take() else {
             unreachable!()
         };
-        note(&mut self.given, &next, self.ended);
+        self.given.push(&next);
         self.started = true;
-        self.ended = ends(self.ended, &next.0);
         next
     }
 
@@ -384,7 +347,7 @@ impl<T: Characters> Parser<T> {
         ensures fault { result ≡ no_document mark }
         ensures kept { self.new ≡ record self.old { so_far = record (parsed self.old) { fault = Some (no_document mark) } } }
     {
-        self.misplaced = Some(mark);
-        Fault::At(Problem::DocumentStartEvent, mark).error(mark)
+        self.pull
+            .keep(Some(Fault::At(Problem::DocumentStartEvent, mark)))
     }
 }

@@ -71,11 +71,8 @@ impl<T: Characters> EventReader<T> {
             return Ok((Event::StreamEnd, self.reader.tokens.scanner.mark()));
         }
         let mut slot = EventSlot::new(self.reader.tokens.scanner.mark());
-        match self.reader.next(&mut slot) {
-            Ok(()) => {
-                self.reader.names.keeping.note();
-                Ok(slot.next)
-            }
+        match self.advance(&mut slot) {
+            Ok(()) => Ok(slot.next),
             Err(_) => Err(self.keep(slot.fault)),
         }
     }
