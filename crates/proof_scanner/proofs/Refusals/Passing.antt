@@ -1,7 +1,6 @@
 -- Faults on the way to the next token, from a state between two fetches.
 use Rattle.proof_scanner.proofs.Common.{take, [], and_parts, ap, append-nil, append_assoc, arith, begins_white, Bool, chained, drop_stale, either, eqb-true, Err, fails, false, Fault, fetch, fetch_here, fetch_next, follows_plain, Held, Holds, in_flow, is_empty, is_far, is_indented_by_spaces, is_one_of, is_renewed, is_separation, IsReadOn, Key, List, map, may_not_stand, not, Ok, on_held, or_right, outside_key, Position, position_after, position_append, Previous, refl, refused, Result, ScannerState, skip_to_next_token, Some, stale, Stands, still, sym, top_key, tried, true, unroll_indent, went, ℕ, ◌++◌, ◌+◌, ◌<◌, ◌==◌, ◌∙◌, ◌∷◌, ◌≡◌, nat_tests, cases_Bool, inl, inr, TabInBlockIndentation, At, begins_line, begins_separation, between, fills_blank, Gap, has_tab_within, is_before_indent, is_blanks, IsTabRefusal, last_line, least_column, length, not-true, same_blank, same_break, separations_are_passed, skip, suc, ◌&&◌, ◌||◌, ◌≤◌, EndsAs, reads, refuses, tab_left}
-use Rattle.proof_scanner.proofs.Refusals.Common.{Exact, index_after, is_in, last_more, least_is, no_entries, not_before_after, separation_append, skip_stays, is_break}
-use Rattle.proof_scanner.proofs.Refusals.Places.{stuck_at, Faults, mapped, Told, fault, goes}
+use Rattle.proof_scanner.proofs.Refusals.Common.{always, tab_among, Exact, index_after, is_in, last_more, least_is, no_entries, not_before_after, separation_append, skip_stays, is_break, stuck_at, Faults, mapped, Told, fault, goes}
 use Rattle.proof_scanner.proofs.Sound.Skips.{line_more, IsLeast, IsAt, IsIn, IsPassed, skip_tells}
 use Rattle.proof_scanner.specs.Failing as defs
 use Rattle.defs_text.specs.Classes as classes
@@ -13,11 +12,6 @@ use Rattle.std.proofs.Math.Seq.{take-append_seam}
 within_more : (n m : ℕ) (l r : List ℕ) → n ≤ m → has_tab_within n l ≡ true → has_tab_within m (l ++ r) ≡ true
 within_more (suc n) (suc m) (c ∷ l) r less h = grind (arith, within_more n m l r)
 within_more a m l r less h = grind arith
-
--- at the end of a line that is shorter
-within_end : (n : ℕ) (l : List ℕ) → length l < n → has_tab_within n (l ++ 9 ∷ []) ≡ true
-within_end (suc n) (c ∷ l) less = grind (arith, within_end n l)
-within_end a l less = grind arith
 
 -- ---- the way to the next token
 
@@ -51,7 +45,7 @@ module _ (before : Previous) (least : ℕ) where
   -- a TAB left of the innermost level
   tab_here : (g : List ℕ) (c : ℕ) (s : Held) → is_break c ≡ false → ((c == 9) && is_before_indent s) ≡ true → IsLeast before least s → IsAt before least g s → IsTabbed (g ++ c ∷ [])
   unfolding is_before_indent
-  tab_here g c s e f l h = grind (arith, nat_tests, line_more, last_more, within_end, same_break)
+  tab_here g c s e f l h = grind (arith, nat_tests, line_more, last_more, tab_among, same_break)
 
   -- a blank more in its line
   blank_after : (g : List ℕ) (c : ℕ) → is_break c ≡ false → IsTabbed g → IsTabbed (g ++ c ∷ [])
@@ -146,13 +140,9 @@ skip_refused before bs awaits begin separation t filled here l known = elim (cas
 abbrev pub HasNear : Held → Type 0
 HasNear s = is_empty s.flow ≡ true → (k : Key) → top_key s.keys ≡ Some k → is_far k.position s.position ≡ false
 
-pub anything : {A : Type 0} (r : Result A Fault) → Holds (λ x. Unit {0}) r
-anything (Ok x) = went tt
-anything (Err f) = refused
-
 next_near : (t : ScannerState) → Holds (λ u. HasNear u.held) (fetch_next t)
 unfolding fetch_next stale drop_stale
-next_near t = chained (anything (skip_to_next_token t)) (λ u a. chained (anything _) (λ v b. chained (anything (fetch_here (on_held (λ s. unroll_indent (s.position.col + 1) s) v))) (λ w c. tried w (stale w.held) (grind (arith, nat_tests, eqb-true, either, in_flow, went, not, refused, top_key, map, still, is_far)) (λ h n. n))))
+next_near t = chained (always {P = λ x. Unit {0}} (skip_to_next_token t) (λ x. tt)) (λ u a. chained (always {P = λ x. Unit {0}} _ (λ x. tt)) (λ v b. chained (always {P = λ x. Unit {0}} (fetch_here (on_held (λ s. unroll_indent (s.position.col + 1) s) v)) (λ x. tt)) (λ w c. tried w (stale w.held) (grind (arith, nat_tests, eqb-true, either, in_flow, went, not, refused, top_key, map, still, is_far)) (λ h n. n))))
 
 -- after a fetch
 pub fetch_near : (t : ScannerState) → t.held.started ≡ true → Holds (λ u. HasNear u.held) (fetch t)

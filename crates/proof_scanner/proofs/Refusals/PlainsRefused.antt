@@ -5,7 +5,7 @@ use Rattle.proof_row.proofs.Plains.{plains}
 use Rattle.proof_scanner.proofs.Refusals.OtherRows.{StepAt, IsClearGapAfter}
 use Rattle.proof_scanner.proofs.Refusals.PiecesRefused.{Here, acct, whole_at, node_site_past, flow_is, node_site, node_stands, here_stood}
 use Rattle.proof_row.proofs.Runs.{joined, neither}
-use Rattle.proof_scanner.proofs.Refusals.Common.{break_append, last_first, last_whole, plain_scalar, At, same_innermost, no_comment}
+use Rattle.proof_scanner.proofs.Refusals.Common.{tab_among, break_append, last_first, last_whole, plain_scalar, At, same_innermost, no_comment}
 use Rattle.proof_scanner.proofs.Sound.PlainLines.{first_line, line_is, all_lines, feed_first, first_is, others_are}
 use Rattle.defs_text.specs.Classes as classes
 use Rattle.defs_token.specs.Account as pieces
@@ -130,10 +130,6 @@ breaks_in s (c ∷ q) h k = grind (arith, breaks_in (past s c) q)
 column_is : (j k : ℕ) (q : List ℕ) → is_gap q ≡ true → has_break q ≡ false → stand_after (on_line j) q ≡ on_line k → j + length q ≡ k
 column_is j k [] g n e = grind arith
 column_is j k (c ∷ q) g n e = grind (arith, column_is (suc j) k q)
-
-tab_among : (n : ℕ) (q blanks : List ℕ) → length q < n → has_tab_within n (q ++ 9 ∷ blanks) ≡ true
-tab_among (suc n) (c ∷ q) blanks h = grind (arith, tab_among n q blanks)
-tab_among a q blanks h = grind arith
 
 tab_in_last : (n k : ℕ) (s : Stand) (q blanks : List ℕ) → is_gap q ≡ true → is_blanks blanks ≡ true → k < n → has_break q ≡ true → stand_after s q ≡ on_line k → has_tab_within n (last_line (q ++ 9 ∷ blanks)) ≡ true
 tab_in_last n k s [] blanks g b low br e = absurd (cc br)

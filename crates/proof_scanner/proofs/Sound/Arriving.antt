@@ -1,7 +1,6 @@
 -- The block collections that end where a piece begins: the levels that go on are those of the row, and each end has its token.
 use Rattle.proof_scanner.proofs.Common.{end_level, [], if◌then◌else◌, ap, append-nil, append_assoc, AreLevels, arith, Arrives, before_by, before_past, begins_free_line, begins_separation, begins_token, block_end, blocks, Bool, chained, columns, ends_at, ends_here, false, Fault, free, has_open_level, Holds, Indent, is_adjacent, is_at_comment_or_end, is_deeper, is_empty, is_indented_by_spaces, IsLine, IsLineHere, IsNear, Key, length, Levels, Line, line_past_separation, List, not, not-false, not_ended, on_held, Option, outside_key, Position, put, refl, replicate, Result, ScannerState, site_here, skip_to_next_token, Some, stale, Stands, sym, taken, Token, tried, true, try_held, unroll_indent, unrolled, with_levels, ℕ, ◌&&◌, ◌++◌, ◌+◌, ◌-◌, ◌==◌, ◌>>=◌, ◌∙◌, ◌∷◌, ◌≡◌, ◌≤◌, both_hold, length-append, ArrivesAmong}
-use Rattle.proof_scanner.proofs.Sound.Steps.{exact, shorter, stale_stands, unrolled_in_flow, unrolled_outside}
-use Rattle.proof_scanner.proofs.Sound.Rolled.{all_close, deeper_is}
+use Rattle.proof_scanner.proofs.Sound.Steps.{exact, shorter, stale_stands, unrolled_in_flow, unrolled_outside, all_close, deeper_is}
 use Rattle.proof_scanner.proofs.Sound.ToToken.{passed_stands}
 use Rattle.proof_row.proofs.Inserted.{before_again}
 

@@ -4,8 +4,7 @@ use Rattle.defs_token.specs.Account.{Account as PieceAccount}
 use Rattle.model_scanner.specs.Machine as machine
 use Rattle.model_scanner.specs.Plain.{plain}
 use Rattle.proof_lexers.specs.PlainEnds as plains
-use Rattle.proof_scanner.proofs.Sound.Steps.{AreClosed, ArrivesBy, IsDeep, IsRead, Onward, adjacent_kept, begins_as_read, ends_in_line, gap_is_separation, less_or, node_read, not_before_after, on_one_line, same_has_break, saved_is, saved_keys, site_of, site_then, white_is_no_hash, with_entries, without_is}
-use Rattle.proof_scanner.proofs.Cut.Positions.{no_break_on_line}
+use Rattle.proof_scanner.proofs.Sound.Steps.{AreClosed, ArrivesBy, IsDeep, IsRead, Onward, adjacent_kept, begins_as_read, ends_in_line, gap_is_separation, less_or, node_read, not_before_after, on_one_line, same_has_break, saved_is, saved_keys, site_of, site_then, white_is_no_hash, with_entries, without_is, no_break_on_line}
 use Rattle.proof_scanner.proofs.Sound.PlainLines.{PlainFits, plain_fits}
 
 -- ---- what was read

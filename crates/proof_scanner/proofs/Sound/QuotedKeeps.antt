@@ -3,8 +3,7 @@ use Rattle.proof_scanner.proofs.Common.{Arrives, Bool, Entry, FlowLevel, HasNoTa
 use Rattle.model_scanner.specs.Machine as machine
 use Rattle.proof_lexers.specs.PlainEnds as plains
 pub use Rattle.proof_scanner.proofs.Cut.Pieces.Quoted.{QuotedAs, piece_of, quoted_as}
-use Rattle.proof_scanner.proofs.Sound.Steps.{ArrivesBy, Checked, Cleared, Exact, IsAt, IsDeep, IsRead, IsToken, Onward, break_append, deep_for, ends_in_line, exact, least_is, node_read, not_before_after, on_one_line, quoted_checked, same_has_break, saved_is, saved_keys, separation_append, site_of, site_then, skip_clears, some_levels, unbroken}
-use Rattle.proof_scanner.proofs.Cut.Stoods.{adjacent_quoted}
+use Rattle.proof_scanner.proofs.Sound.Steps.{ArrivesBy, Checked, Cleared, Exact, IsAt, IsDeep, IsRead, IsToken, Onward, break_append, deep_for, ends_in_line, exact, least_is, node_read, not_before_after, on_one_line, quoted_checked, same_has_break, saved_is, saved_keys, separation_append, site_of, site_then, skip_clears, some_levels, unbroken, adjacent_quoted}
 use Rattle.proof_lexers.proofs.Bridges.{or_false}
 
 -- a quote is no break

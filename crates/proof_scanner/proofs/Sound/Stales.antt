@@ -1,11 +1,9 @@
 -- Keys that are too far back are dropped: what holds between two fetches still holds, without them.
 use Rattle.proof_scanner.proofs.Common.{[], Account, ap, append_assoc, AreEntries, arith, Arrives, Bool, drop_stale, either, Entry, false, first_position, FlowLevel, Held, Holds, in_flow, is_empty, is_far, is_renewed, IsCarriedOn, IsCutUpTo, IsNear, IsPositionIn, Key, length, List, MayChoose, None, not-false, Option, Position, position_after, position_append, refl, refused, ScannerState, SoFar, Some, stale, Stands, StandsWith, subst, suc, sym, Token, true, up_to_nul, went, ℕ, ◌++◌, ◌∙◌, ◌∷◌, ◌≡◌}
 use Rattle.proof_scanner.proofs.Known.Steps.{known_far}
-use Rattle.proof_scanner.proofs.Sound.Common.{may_be_no_key, stands_by, with_entries}
+use Rattle.proof_scanner.proofs.Sound.Common.{may_be_no_key, stands_by, with_entries, row_position, spelled_before, entries_no_key, none_completes}
 use Rattle.defs_token.specs.Account.{first_account}
 use Rattle.defs_token.specs.Cut.{spelled}
-use Rattle.proof_scanner.proofs.Cut.Positions.{row_position, spelled_before}
-use Rattle.proof_scanner.proofs.Sound.StreamEnds.{entries_no_key, none_completes}
 
 -- outside flow there is one open key or none, and no entry
 pub no_entries : (allowed again : Bool) (fs : List FlowLevel) (ks : List (Option Key)) (es : List Entry) → is_empty fs ≡ true → AreEntries allowed again fs ks es → es ≡ []
