@@ -179,7 +179,7 @@ module _ (text : List ℕ) {why1 why2 : Problem} {at1 at2 : Position} (f : Claim
 
   -- A colon for which no key waits is the only one of its text, and nothing else fails.
   keyless_once : Keyless text g.account g.separation g.rest g.here → (why1 ≡ ValueNotAllowed) × (at1 ≡ g.here)
-  keyless_once z = elim (meet GivesUp Same (BeginsOrApart text) (keeps_apart text) f.way.steps way.steps after1 after2 first_account first_account f.account g.account (refl, tt, tt) (begins, inl (first_together, begins)) f.way.leads way.leads (f.way.spells ∙ sym way.spells) (clean_way text f.way.steps after1 f.way.spells)) [
+  keyless_once z = let way : Way Same text after2 g.account = strict_way text after2 g.account z.place.begins in let begins : Begins text (spelled f.way.steps after1) first_account = rw f.way.spells (begins_at_start text) in elim (meet GivesUp Same (BeginsOrApart text) (keeps_apart text) f.way.steps way.steps after1 after2 first_account first_account f.account g.account (refl, tt, tt) (begins, inl (first_together, begins)) f.way.leads way.leads (f.way.spells ∙ sym way.spells) (clean_way text f.way.steps after1 f.way.spells)) [
     | same_place like r e ↦
         let cut = one_cut f.stands g.stands like (clean_place f.way) e in
         elim f.says [
@@ -200,12 +200,6 @@ module _ (text : List ℕ) {why1 why2 : Problem} {at1 at2 : Position} (f : Claim
           | inr r ↦ absurd (no_colon_here s z.more z.is_rest z.is_value z.is_outside z.is_line_taken (λ q waiting unbroken near. cc (waiting, r.1.none)))
         ]
   ]
-    where
-      way : Way Same text after2 g.account
-      way = strict_way text after2 g.account z.place.begins
-
-      begins : Begins text (spelled f.way.steps after1) first_account
-      begins = rw f.way.spells (begins_at_start text)
 
 -- All claims of a text are one.
 pub stuck_once : (text : List ℕ) (why1 why2 : Problem) (at1 at2 : Position) → IsStuck text why1 at1 → IsStuck text why2 at2 → (why1 ≡ why2) × (at1 ≡ at2)

@@ -179,10 +179,7 @@ module _ {text : List ℕ} {t : ScannerState} (a : Arrives text t) (some : is_em
 
 -- over blanks and a comment in a line; what is to be said of a comment that no blank parts from what stands before it
 pub space_told : (text : List ℕ) (tabs : SkipTabs) (more : List ℕ) (p : Position) → (begins_with 35 more ≡ true → Told text (At CommentNotSeparated p)) → (f : Fault) → space tabs more p ≡ Err f → Told text f
-space_told text tabs more p why f k = by f (refused_as k (spaces_are_passed tabs more p))
-  where
-    by : (g : Fault) → IsGlued p more g → Told text g
-    by g (glued begins) = why begins
+space_told text tabs more p why f k = elim (refused_as k (spaces_are_passed tabs more p)) as (λ g w. Told text g) [ glued begins ↦ why begins ]
 
 pub spaces_told : (text : List ℕ) (tabs : SkipTabs) (t : ScannerState) → (begins_with 35 t.rest ≡ true → Told text (At CommentNotSeparated t.held.position)) → Faults (Told text) (skip_spaces tabs t)
 unfolding skip_spaces

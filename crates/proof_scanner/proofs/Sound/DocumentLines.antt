@@ -62,25 +62,21 @@ line_begun s u e = rw e (grind (arith, refused, went))
 
 line_stands : (text : List ℕ) (t : ScannerState) (d : Read) (a : ArrivesBy text t [] (None ∷ []) []) → IsRead t d → t.held.flow ≡ [] → with_top None t.held.keys ≡ None ∷ [] → Onward text t.rest (line_past t (begun_from (all_ended t.held)) d)
 line_stands text t d a r flow keys =
+    let x : Site = site_in false gives_marker t.held.position a.site in
     read_outside text t (line_past t (begun_from (all_ended t.held)) d) a d.piece (next_of d) d.gap d.tok (record { line = taken; blocks = [] }) x (ap (λ k. site_in false k t.held.position a.site) r.act)
     (line_reads t d (begun_from (all_ended t.held)) _ r refl refl refl (r.awaits false x.blocks x.awaits (next_of d)) refl a.was_adjacent (refl, refl, refl)) (grind (arith, r))
     (grind (arith, append_assoc, append-nil, r, r.is_piece (seen (with_entries a.site a.line []) x a.separation) r.at_margin refl, a.is_indented (some_rest t.rest d.piece (next_of d) r.cut r.is_solid), eqb-true, shorter, replicate-append-replicate))
-  where
-    x : Site
-    x = site_in false gives_marker t.held.position a.site
 
 -- ---- in flow
 
 line_goes : (text : List ℕ) (t : ScannerState) (d : Read) (f : FlowLevel) (fs : List FlowLevel) (k : Option Key) (ks : List (Option Key)) (e : Entry) (es : List Entry) (a : ArrivesBy text t (f ∷ fs) (k ∷ ks) (e ∷ es)) → IsRead t d → t.held.flow ≡ f ∷ fs → with_top None t.held.keys ≡ None ∷ ks →
     Onward text t.rest (line_past t (begun_from t.held) d)
 line_goes text t d f fs k ks e es a r flow keys =
+    let x : Site = site_in true gives_marker t.held.position a.site in
     goes_inside text t (line_past t (begun_from t.held) d) f f fs k ks e (record { kind = e.kind; pair = e.pair; had = settled }) es a d.piece (next_of d) d.tok d.gap
     (line_reads t d (begun_from t.held) _ r refl refl a.blocks_are (r.awaits true a.site.blocks a.site.awaits (next_of d) ∙ a.awaits_is) a.are_levels a.was_adjacent (refl, refl, refl))
     (let piece = r.is_piece (seen (with_entries a.site a.line (e ∷ es)) x a.separation) r.at_margin refl in
     let indented = a.is_indented (some_rest t.rest d.piece (next_of d) r.cut r.is_solid) in grind (arith, append-nil, r, tokens_before, piece, indented))
-  where
-    x : Site
-    x = site_in true gives_marker t.held.position a.site
 
 -- ---- both
 

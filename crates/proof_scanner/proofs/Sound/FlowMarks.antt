@@ -82,14 +82,12 @@ stray_past closes t tok more = record {
 pub stray_at : (text more : List ℕ) (closes : Bool) (tok : Tok) (c : ℕ) → IsCloser closes tok c → (t : ScannerState) (a : ArrivesBy text t [] (None ∷ []) []) → with_top None t.held.keys ≡ None ∷ [] → t.rest ≡ c ∷ more → begins_with 35 more ≡ false →
     Onward text t.rest (stray_past closes t tok more)
 stray_at text more closes tok c k t a keys e hash =
+    let at : Site = site_here false t.held.position a.site in
     read_outside text t (stray_past closes t tok more) a (c ∷ []) more (blanks_and_comment more) tok (record { line = line_then closes; blocks = at.blocks }) at (ap (λ x. site_in false x t.held.position a.site) k.act ∙ (grind arith))
     (reads_in_line t (stray_past closes t tok more) _ (c ∷ []) more (blanks_and_comment more) refl e (line_rest_cut more) (line_rest_fills more) (line_rest_in_line more) (indicator_end t.held.position c more k.in_line) refl (is_previous closes k.previous)
     a.blocks_are (k.awaits false at.blocks at.awaits more ∙ a.awaits_is) a.are_levels (λ some. absurd (cc some)) (adjacent_kept t (stray_past closes t tok more) other (c ∷ []) more (blanks_and_comment more) refl (indicator_end t.held.position c more k.in_line) a.was_adjacent refl refl).1 (refl, refl))
     (grind (arith, quiet_before (previous_by tok) t.held.position (blanks_and_comment more) [] (is_previous closes k.previous) (line_rest_in_line more)))
     (grind (arith, append_assoc, append-nil, k, a.is_indented (ap is_empty e), k.piece (seen (with_entries a.site a.line []) at a.separation) more None refl))
-  where
-    at : Site
-    at = site_here false t.held.position a.site
 
 -- ---- a comma in flow: the entry ends, and with it a single pair
 

@@ -43,29 +43,20 @@ pub keyless_outside : (text more : List ℕ) (t : ScannerState) (a : ArrivesBy t
     Holds (Onward text t.rest) (value_by more t [] (None ∷ []))
 unfolding begin_keyless_value begin_keyless_mapping
 keyless_outside text more t a e apart ind deep =
+    let p : Position = t.held.position in
+    let h : Held = at_value more t [] (None ∷ []) in
+    -- the level of a mapping, if one begins
+    let m : RollsTo p.col None (token p Tok.block_mapping_start) h (roll_indent p.col None Tok.block_mapping_start p h) =
+    rolls_to p.col None Tok.block_mapping_start p h refl a.are_levels (first_not_right p.col t.held.indent t.held.indents a.are_levels deep) in
+    let rolled : Held = record h { indents = m.indents; indent = m.indent; tokens = with_start Tok.block_mapping_start t } in
+    -- and one that no collection opens
+    let l : OpensLevel rolled (roll_one_col_indent rolled) = opens_level rolled m.are_levels in
     exactly _ (held_exactly (record { rest = past_gap more; held = h })
     (exactly _ (checked (not t.held.key_allowed) (At ValueNotAllowed p) (λ f. went (m.is_held, not-false t.held.key_allowed f))) (λ allowed. went (ap (λ v. allow_key (not (in_flow v)) v) l.is_held, allowed)))) (λ allowed. went
     (read_outside text t _ a (58 ∷ []) more (colon_gap more) Tok.value (begun_after p a.site.blocks) _ refl
     (colon_reads t more l.indents l.indent (with_start Tok.block_mapping_start t) true [] (None ∷ []) _ e refl refl
     (ap (opened p.col) a.blocks_are ∙ sym (l.columns_are ∙ m.columns_are)) (sym (l.awaits ∙ ap (λ bs. not (is_empty bs)) m.columns_are ∙ (grind arith))) l.are_levels a.was_adjacent)
     (grind arith) (grind (arith, append_assoc, append-nil, line_free, a.is_indented (ap is_empty e)))))
-  where
-    p : Position
-    p = t.held.position
-
-    h : Held
-    h = at_value more t [] (None ∷ [])
-
-    -- the level of a mapping, if one begins
-    m : RollsTo p.col None (token p Tok.block_mapping_start) h (roll_indent p.col None Tok.block_mapping_start p h)
-    m = rolls_to p.col None Tok.block_mapping_start p h refl a.are_levels (first_not_right p.col t.held.indent t.held.indents a.are_levels deep)
-
-    rolled : Held
-    rolled = record h { indents = m.indents; indent = m.indent; tokens = with_start Tok.block_mapping_start t }
-
-    -- and one that no collection opens
-    l : OpensLevel rolled (roll_one_col_indent rolled)
-    l = opens_level rolled m.are_levels
 
 -- ---- in flow
 
@@ -81,16 +72,14 @@ pub keyless_inside : (text more : List ℕ) (t : ScannerState) (f : FlowLevel) (
     is_value_indicator true (is_adjacent (before_past (before_by a.site.before) a.separation)) more ≡ true → IsDeep t.held → Holds (Onward text t.rest) (value_by more t (f ∷ fs) (None ∷ ks))
 unfolding begin_keyless_value begin_keyless_mapping is_break roll_one_col_indent in_block
 keyless_inside text more t f fs ks e es a cut apart ind deep =
+    -- the tokens with the start of a single pair, if one begins
+    let ts : List Token = (if opens_pair (f ∷ fs) then t.held.tokens ++ token (pair_position (past t.held.position) more) Tok.flow_mapping_start ∷ [] else t.held.tokens) in
     chained {P = λ w. w ≡ record { rest = past_gap more; held = (record t.held { flow = pair_level InPair f ∷ fs; keys = None ∷ ks; position = pair_position (past t.held.position) more; leading = false; key_allowed = false; tokens = ts }) }}
     (tried (record { rest = past_gap more; held = at_value more t (f ∷ fs) (None ∷ ks) }) _ (grind (arith, went)) (λ s d. ap (λ y. record { rest = past_gap more; held = y }) d)) (λ w d.
     went (subst (λ z. Onward text t.rest (on_held (push t.held.position Tok.value) z)) (sym d)
     (goes_inside text t _ f (pair_level InPair f) fs None ks e (valued_entry e) es a (58 ∷ []) more Tok.value (colon_gap more)
     (colon_reads t more t.held.indents t.held.indent ts false (pair_level InPair f ∷ fs) (None ∷ ks) _ cut refl refl a.blocks_are a.awaits_is a.are_levels a.was_adjacent)
     (grind (arith, append_assoc, past_indicator, single_is, tokens_before, a.is_indented (ap is_empty cut), low_enough text t f fs (None ∷ ks) (e ∷ es) a deep)))))
-  where
-    -- the tokens with the start of a single pair, if one begins
-    ts : List Token
-    ts = (if opens_pair (f ∷ fs) then t.held.tokens ++ token (pair_position (past t.held.position) more) Tok.flow_mapping_start ∷ [] else t.held.tokens)
 
 -- ---- a colon that ends the key that is open, outside flow: what holds where it begins holds between two fetches after it
 
