@@ -316,17 +316,16 @@ module _ {text : List ℕ} {t : ScannerState} (a : Arrives text t) (some : is_em
 
   -- If the innermost open key must be one, it waits where the row goes on; so no row does where no such step stands.
   rowless : ((b : Account) (s : StepAt b a.separation t.rest t.held.position) (q : Position) → is_in_flow b.entries ≡ false → s.account.line ≡ waits q → Waiting s.account.line s.account.site → ⊥) → is_required (top_key t.held.keys) ≡ true → IsRowless text
-  rowless refuted must r h = elim (cases_Bool (is_empty t.held.flow)) [
-    | inl out ↦
-        let k = found _ (top_key t.held.keys) (key_outside out) must in
-        let at : RowAt text (account_by a some true []) a.separation t.rest t.held.position = row_at text a.separation t.rest (account_by a some true []) t.held.position r (place a some true [] (may _ (a.is_near out))) a.is_solid some h in
-        refuted (account_by a some true []) at.step_at k.0.position (in_flow_is a some true [] ∙ ap not out) (a.knows.required at.step_at.account k.0 at.begins k.1 k.2) (begins_waiting text (a.separation ++ t.rest) at.step_at.account at.begins)
-    | inr i ↦ cc (free_inside t.held.key_allowed _ t.held.flow t.held.keys a.base.entries i a.are_entries, must)
-  ]
-    where
+  rowless refuted must r h =
       -- it is near
-      may : (k : Option Key) → IsNear k t.held.position → MayChoose true true k t.held.position t.rest
-      may a near = grind (arith, some)
+      let may : (k : Option Key) → IsNear k t.held.position → MayChoose true true k t.held.position t.rest = λ k near. grind (arith, some) in
+      elim (cases_Bool (is_empty t.held.flow)) [
+        | inl out ↦
+            let k = found _ (top_key t.held.keys) (key_outside out) must in
+            let at : RowAt text (account_by a some true []) a.separation t.rest t.held.position = row_at text a.separation t.rest (account_by a some true []) t.held.position r (place a some true [] (may _ (a.is_near out))) a.is_solid some h in
+            refuted (account_by a some true []) at.step_at k.0.position (in_flow_is a some true [] ∙ ap not out) (a.knows.required at.step_at.account k.0 at.begins k.1 k.2) (begins_waiting text (a.separation ++ t.rest) at.step_at.account at.begins)
+        | inr i ↦ cc (free_inside t.held.key_allowed _ t.held.flow t.held.keys a.base.entries i a.are_entries, must)
+      ]
 
   pub line_rowless : t.held.position.col ≡ 0 → is_required (top_key t.held.keys) ≡ true → IsRowless text
   line_rowless col = rowless (λ b s q out waiting on. not_first s q waiting on col)
