@@ -78,7 +78,7 @@ module _ {text : List ℕ} {t : ScannerState} (a : Arrives text t) (some : is_em
       knowing (line_stays t) (tried t (line_told text t.held (line_rowless a some col))) (λ u s.
       read u.held (directive u.rest u.held.position) _
       (λ f j. elim (refused_as (ap (λ r. directive r t.held.position) (sym (s.0 ∙ e)) ∙ (ap (λ q. directive u.rest q) (sym s.1) ∙ j)) (directives_end more t.held.position)) [
-        directives.no_directive line next cut one ends lacks why ↦ line_refused line next col (e ∙ ap (λ r. 37 ∷ r) cut) one ends lacks f why
+        | directives.no_directive line next cut one ends lacks why ↦ line_refused line next col (e ∙ ap (λ r. 37 ∷ r) cut) one ends lacks f why
       ]) (λ x j. goes))
 
   pub marker_told : (tok : Tok) → t.held.position.col ≡ 0 → Faults (Told text) (fetch_document_marker tok t)

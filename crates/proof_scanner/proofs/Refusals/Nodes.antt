@@ -85,7 +85,7 @@ module _ {text : List ℕ} {t : ScannerState} (a : Arrives text t) (some : is_em
   tag_told more e =
       read (node_start t.held) (tags.tag (in_flow t.held) t.rest t.held.position) _
       (λ f k. elim (refused_as (ap (λ r. tags.tag (in_flow t.held) r t.held.position) (sym e) ∙ k) (tags_end (in_flow t.held) more t.held.position)) as (λ g w. Told text g) [
-        tag_ends.at_start why reason ↦ λ _. none_begins a some lies why _ (none.tagless more why e reason) tt
+        | tag_ends.at_start why reason ↦ λ _. none_begins a some lies why _ (none.tagless more why e reason) tt
       ]) (λ x k. goes)
 
   -- `'` or `"`

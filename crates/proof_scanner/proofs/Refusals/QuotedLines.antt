@@ -8,7 +8,7 @@ use Rattle.proof_lexers.proofs.Quoted.Shapes.{NoElement, closing, slash, no_elem
 use Rattle.proof_lexers.proofs.Quoted.Turns.{spelled, begins, Step, is_shallow}
 use Rattle.proof_scanner.proofs.Sound.QuotedBreaks.{Kind, has_content, has_blank, has_line, has_escaped, is_white, quote_white, slash_white, body_between}
 use Rattle.proof_scanner.specs.NoPiece.{quote_of}
-use Rattle.proof_scanner.proofs.Refusals.QuotedReasons.{quote_no_break, after_quote_at, no_quote, solid_here, past_line, past_two, after_it, kind_of, content_after, stands, by_end, by_escape, by_column, by_tab, by_marker, placed, arrived, stepped, Reason, Wrong, Closed, parted, all_stand, before_quote, lines_close}
+use Rattle.proof_scanner.proofs.Refusals.QuotedReasons.{quote_no_break, after_quote_at, no_quote, solid_here, past_line, past_two, after_it, kind_of, content_after, stands, by_escape, arrived, stepped, Reason, Wrong, Closed, parted, all_stand, before_quote, lines_close}
 
 -- the faults of further lines
 abbrev pub is_of_lines : Fault → Bool
@@ -69,12 +69,12 @@ module _ (single : Bool) (ctx : Context) (start : Position) (least : ℕ) (limit
   started R c b s m p t solid stood unlike bad on = by ((p.col == 0) && is_document_marker (c ∷ b)) refl (begins single ctx start c b p t solid)
     where
       by : (marker : Bool) → ((p.col == 0) && is_document_marker (c ∷ b)) ≡ marker → Begun single ctx start (c ∷ b) p t → R
-      by true h z = bad QuotedDocumentMarker start (by_marker h) (begins_marked single ctx start c b p t solid h)
+      by true h z = bad QuotedDocumentMarker start (inl (h, refl, refl)) (begins_marked single ctx start c b p t solid h)
       by false h (begun none deep i) = on none (sym (limit p.col) ∙ deep) i
       by false h (marked g i) = absurd (cc (g, h))
       by false h (shallow g i) =
           let low : nat_lt p.col least ≡ true = sym (limit p.col) ∙ g in
-          bad QuotedIndentation start (placed _ _ h (by_column (solid_here c b solid) (opens s m p t (c == quote_of single) stood unlike low) low)) i
+          bad QuotedIndentation start (inr (h, inr (inr (inl (solid_here c b solid, opens s m p t (c == quote_of single) stood unlike low, low, refl, refl))))) i
 
   -- What the scan does with an element: it refuses it for what is wrong there; or the element may stand, and the scan goes on after it.
   data Turns (c : ℕ) (b : List ℕ) (s : LineStand) (p : Position) (e : Spelled) (x : Result (Read (List ℕ)) Fault) : Type 0 where
@@ -115,7 +115,7 @@ module _ (single : Bool) (ctx : Context) (start : Position) (least : ℕ) (limit
     | inl h ↦
         let parts = and_parts (t.leading && (c == 9)) (nat_lt (p.col + 1) ctx.indent) h in
         let low : nat_lt p.col least ≡ true = sym (limit p.col) ∙ parts.1 in
-        fails TabAsIndentation p (placed _ _ none (by_tab b (ap (λ x. x ∷ b) (eqb-true c 9 (and_parts t.leading (c == 9) parts.0).1)) (opens s m p t false stood (λ e. refl) low) low)) (rw (f, g, h) refl)
+        fails TabAsIndentation p (inr (none, inr (inr (inr (b, ap (λ x. x ∷ b) (eqb-true c 9 (and_parts t.leading (c == 9) parts.0).1), opens s m p t false stood (λ e. refl) low, low, refl, refl))))) (rw (f, g, h) refl)
     | inr h ↦ goes gap (past p) _ (sym (past_is p c b f)) (blank_goes c s m p t stood) (blank_stands c s m p t stood h) none (rw (f, g, h) refl)
   ]
   turns c b e is (has_line f) unlike s p m t stood = goes gap _ (with_break t) refl (begins_here (break_leads t)) refl (white_stands single ctx start c b p.col (rw f refl)) (line_goes c b p t f)
@@ -152,10 +152,10 @@ module _ (single : Bool) (ctx : Context) (start : Position) (least : ℕ) (limit
       let from = from_gap 92 r (λ _. slash_no_quote single) s m p t stood in
       started _ 92 r s m p t slash_white stood (λ _. slash_no_quote single) (λ why at w i. refused why at (arrived w) (from ∙ i)) (λ none deep i.
       let z = escape_fails ctx start r p (joined t) bad in
-      refused z.why start (arrived (placed _ _ none (by_escape r z.why double refl z.bad (rw (deep, and_false (begins_further s false)) refl)))) (from ∙ (i ∙ (grind arith))))
+      refused z.why start (arrived (inr (none, by_escape single least start s p r z.why double z.bad (rw (deep, and_false (begins_further s false)) refl)))) (from ∙ (i ∙ (grind arith))))
 
   unclosed_ends : Later []
-  unclosed_ends s p m t stood = refused QuotedEnd start (arrived (placed _ _ (and_false (p.col == 0)) (by_end refl))) (grind arith)
+  unclosed_ends s p m t stood = refused QuotedEnd start (arrived (inr (and_false (p.col == 0), inl (refl, refl, refl)))) (grind arith)
 
   none_ends : (c : ℕ) (b : List ℕ) → NoElement single c b → Later (c ∷ b)
   none_ends c b (closing e ended) = rw e (closed_ends b ended)

@@ -199,17 +199,20 @@ abbrev pub is_marked : Position → List ℕ → Bool
 is_marked p text = (p.col == 0) && is_document_marker text
 
 module _ (single : Bool) (least : ℕ) (start : Position) where
-  -- What is wrong at a place, but for a document marker.
-  pub data Place (s : LineStand) (p : Position) (text : List ℕ) : Problem → Position → Type 0 where
-    by_end : text ≡ [] → Place s p text QuotedEnd start
-    by_escape : (next : List ℕ) (why : Problem) → single ≡ false → text ≡ 92 ∷ next → IsBadEscape next why → all_stand least s p.col (content 92 ∷ []) ≡ true → Place s p text why start
-    by_column : begins_solid text ≡ true → begins_further s (begins_with (quote_of single) text) ≡ true → nat_lt p.col least ≡ true → Place s p text QuotedIndentation start
-    by_tab : (next : List ℕ) → text ≡ 9 ∷ next → begins_further s false ≡ true → nat_lt p.col least ≡ true → Place s p text TabAsIndentation p
+  -- What is wrong at a place, but for a document marker: the text ends; an escape is none; a further line begins left of the column; or a TAB stands there.
+  abbrev pub Place : LineStand → Position → List ℕ → Problem → Position → Type 0
+  Place s p text why at =
+      ((text ≡ []) × (why ≡ QuotedEnd) × (at ≡ start)) ⊎
+      (((next : List ℕ) × (single ≡ false) × (text ≡ 92 ∷ next) × IsBadEscape next why × (all_stand least s p.col (content 92 ∷ []) ≡ true) × (element_of single 92 next ≡ None) × (why ≡ escape_problem next) × (at ≡ start)) ⊎
+      (((begins_solid text ≡ true) × (begins_further s (begins_with (quote_of single) text) ≡ true) × (nat_lt p.col least ≡ true) × (why ≡ QuotedIndentation) × (at ≡ start)) ⊎
+      ((next : List ℕ) × (text ≡ 9 ∷ next) × (begins_further s false ≡ true) × (nat_lt p.col least ≡ true) × (why ≡ TabAsIndentation) × (at ≡ p))))
+
+  pub by_escape : (s : LineStand) (p : Position) (next : List ℕ) (why : Problem) → single ≡ false → IsBadEscape next why → all_stand least s p.col (content 92 ∷ []) ≡ true → Place s p (92 ∷ next) why start
+  by_escape s p next why double bad may = inr (inl (next, double, refl, bad, may, none_here single next why double bad, sym (bad_is next why bad), refl))
 
   -- the same, or a marker
-  pub data Wrong (s : LineStand) (p : Position) (text : List ℕ) : Problem → Position → Type 0 where
-    by_marker : is_marked p text ≡ true → Wrong s p text QuotedDocumentMarker start
-    placed : (why : Problem) (at : Position) → is_marked p text ≡ false → Place s p text why at → Wrong s p text why at
+  abbrev pub Wrong : LineStand → Position → List ℕ → Problem → Position → Type 0
+  Wrong s p text why at = ((is_marked p text ≡ true) × (why ≡ QuotedDocumentMarker) × (at ≡ start)) ⊎ ((is_marked p text ≡ false) × Place s p text why at)
 
   -- The closing quote stands at a place, and may stand there; the text and the position after it.
   pub record Closes (s : LineStand) (p : Position) (text rest : List ℕ) (end : Position) : Type 0 where
@@ -335,39 +338,23 @@ module _ (single : Bool) (least : ℕ) (start : Position) where
       let same : u ≡ v = cc (is, also) in
       meets E F R e f both _ _ _ w (subst (λ x. Walk F (past_element s x.element) (position_after p (c ∷ take x.further b) (drop x.further b)) (drop x.further b)) same z)
 
-  -- what is said so of a place
-  abbrev Said : LineStand → Position → List ℕ → Problem → Position → Type 0
-  Said s p text why at =
-      ((is_marked p text ≡ true) × (why ≡ QuotedDocumentMarker) × (at ≡ start)) ⊎
-      ((is_marked p text ≡ false) × (((text ≡ []) × (why ≡ QuotedEnd) × (at ≡ start)) ⊎
-      (((next : List ℕ) × (text ≡ 92 ∷ next) × (element_of single 92 next ≡ None) × (stands least s p.col (content 92) ≡ true) × (why ≡ escape_problem next) × (at ≡ start)) ⊎
-      (((begins_solid text ≡ true) × (begins_further s (begins_with (quote_of single) text) ≡ true) × (nat_lt p.col least ≡ true) × (why ≡ QuotedIndentation) × (at ≡ start)) ⊎
-      ((next : List ℕ) × (text ≡ 9 ∷ next) × (begins_further s false ≡ true) × (nat_lt p.col least ≡ true) × (why ≡ TabAsIndentation) × (at ≡ p))))))
-
-  said : (why : Problem) (at : Position) (s : LineStand) (p : Position) (text : List ℕ) → Wrong s p text why at → Said s p text why at
-  said why at s p text (by_marker h) = inl (h, refl, refl)
-  said why at s p text (placed _ _ none (by_end e)) = inr (none, inl (e, refl, refl))
-  said why at s p text (placed _ _ none (by_escape next _ double cut bad may)) = inr (none, inr (inl (next, cut, none_here single next why double bad, grind arith, sym (bad_is next why bad), refl)))
-  said why at s p text (placed _ _ none (by_column solid further low)) = inr (none, inr (inr (inl (solid, further, low, refl, refl))))
-  said why at s p text (placed _ _ none (by_tab next cut further low)) = inr (none, inr (inr (inr (next, cut, further, low, refl, refl))))
-
   wrong_stops : (why : Problem) (at : Position) → Stops (λ t q x. Wrong t q x why at)
   unfolding is_blank is_break
-  wrong_stops why at s p c b e is fit none x = by e is fit (kind_of single c b e is) (said why at s p (c ∷ b) x)
+  wrong_stops why at s p c b e is fit none x = by e is fit (kind_of single c b e is) x
     where
-      by : (e : Spelled) → element_of single c b ≡ Some e → stands least s p.col e.element ≡ true → Kind single c b e → Said s p (c ∷ b) why at → ⊥
+      by : (e : Spelled) → element_of single c b ≡ Some e → stands least s p.col e.element ≡ true → Kind single c b e → Wrong s p (c ∷ b) why at → ⊥
       by e is fit (has_content code k solid) x = grind (arith, nat_tests, eqb-true, none)
       by e is fit (has_blank f g) x = grind (arith, nat_tests, eqb-true, none, same_blank, same_break)
       by e is fit (has_line f) x = grind (arith, nat_tests, eqb-true, none, same_blank, same_break)
       by e is fit (has_escaped d a double same_c same_b f) x = grind (arith, nat_tests, none)
 
-  one_wrong : (why1 why2 : Problem) (at1 at2 : Position) (s : LineStand) (p : Position) (text : List ℕ) → Said s p text why1 at1 → Said s p text why2 at2 → (why1 ≡ why2) × (at1 ≡ at2)
+  one_wrong : (why1 why2 : Problem) (at1 at2 : Position) (s : LineStand) (p : Position) (text : List ℕ) → Wrong s p text why1 at1 → Wrong s p text why2 at2 → (why1 ≡ why2) × (at1 ≡ at2)
   unfolding classes.is_blank classes.is_break
   one_wrong why1 why2 at1 at2 a p text x y = grind (arith, nat_tests)
 
   -- What is wrong first with a text is one thing at one position.
   pub one_reason : (s : LineStand) (p : Position) (text : List ℕ) (why1 why2 : Problem) (at1 at2 : Position) → Reason s p text why1 at1 → Reason s p text why2 at2 → (why1 ≡ why2) × (at1 ≡ at2)
-  one_reason s p text why1 why2 at1 at2 = meets _ _ _ (wrong_stops why1 at1) (wrong_stops why2 at2) (λ s p text x y. one_wrong why1 why2 at1 at2 s p text (said why1 at1 s p text x) (said why2 at2 s p text y)) s p text
+  one_reason s p text why1 why2 at1 at2 = meets _ _ _ (wrong_stops why1 at1) (wrong_stops why2 at2) (one_wrong why1 why2 at1 at2) s p text
 
   -- A marker begins a line here, or the closing quote stands here and may.
   abbrev Ends : List ℕ → LineStand → Position → List ℕ → Type 0
@@ -377,13 +364,13 @@ module _ (single : Bool) (least : ℕ) (start : Position) where
   unfolding single_quoted_element double_quoted_element classes.is_nul
   ends_stop next ends s p c b e is fit none x = grind (arith, nat_tests, eqb-true, ends_before)
 
-  no_end : (next : List ℕ) (why : Problem) (at : Position) → (why ≡ QuotedDocumentMarker → ⊥) → (s : LineStand) (p : Position) (text : List ℕ) → Said s p text why at → Ends next s p text → ⊥
+  no_end : (next : List ℕ) (why : Problem) (at : Position) → (why ≡ QuotedDocumentMarker → ⊥) → (s : LineStand) (p : Position) (text : List ℕ) → Wrong s p text why at → Ends next s p text → ⊥
   no_end next why at unlike a p text x y = grind (arith, nat_tests)
 
   -- Nothing but a marker is wrong where a body stands whose lines are indented, and its closing quote.
   pub not_closed : (s : LineStand) (p : Position) (body next : List ℕ) (es : List Element) → ends_before single next ≡ true → elements (element_of single) 0 body ≡ Some es → all_stand least s p.col (es ++ before_quote (past_elements s es)) ≡ true
       → (why : Problem) (at : Position) → (why ≡ QuotedDocumentMarker → ⊥) → Reason s p (body ++ quote_of single ∷ next) why at → ⊥
   not_closed s p body next es ends are fits why at unlike x =
-      meets _ (Ends next) ⊥ (wrong_stops why at) (ends_stop next ends) (λ s p text x. no_end next why at unlike s p text (said why at s p text x)) s p _ x
+      meets _ (Ends next) ⊥ (wrong_stops why at) (ends_stop next ends) (no_end next why at unlike) s p _ x
       (walk_of (Ends next) (before_quote (past_elements s es)) (marked_from p.col body (quote_of single ∷ next)) (quote_of single ∷ next) (grind arith) (λ t q y h i. inl h) 0 body es s p (omega arith) are fits refl
       (λ fit free k. inr (record { is_quote = refl; fit = fit; end_is = refl })))

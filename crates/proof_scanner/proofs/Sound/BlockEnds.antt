@@ -93,6 +93,6 @@ pub record BlockAs (style : BlockStyle) (indent : ℕ) (p : Position) (text : Li
 
 pub block_as : (style : BlockStyle) (indent : ℕ) (more : List ℕ) (p : Position) (r : Read Block) → has_no_nul more ≡ true → block (is_literal_style style) indent (indicator_of style ∷ more) p ≡ Ok r → BlockAs style indent p (indicator_of style ∷ more) r
 block_as style indent more p r none e = elim (read_as e (scans_end style indent more p (some_chars more none))) [
-  whole_block piece next b it (read free clear same) ↦
+  | whole_block piece next b it (read free clear same) ↦
       record { piece = piece; next = next; scalar = b; is_text = it.is_text; is_read = it.is_read; style_is = it.is_style; may_end = λ bs l. block_clear indent p b piece next bs l it.is_read free clear; is = same }
 ]

@@ -137,5 +137,5 @@ directive_keeps text more t a e col =
     let h : Held = unroll_indent 0 t.held in
     exactly _ (held_exactly t (line_begun t.held h refl)) (λ optional. read (begun_from h) (directive t.rest h.position) _ (λ x is. went
     (elim (read_as (ap (λ p. directive (37 ∷ more) p) (sym (unroll_keeps 0 t.held).0) ∙ (ap (λ r. directive r h.position) (sym e) ∙ is)) (directives_end more t.held.position)) as (λ y w. Onward text t.rest (after_it t y (begun_from h))) [
-      whole_directive line next d cut no_break ends is ↦ line_keeps text t (directive_read line next d t.held.position) (ap is_empty e) a (directive_is_read t line next d (e ∙ ap (λ l. 37 ∷ l) cut) no_break ends is col) optional
+      | whole_directive line next d cut no_break ends is ↦ line_keeps text t (directive_read line next d t.held.position) (ap is_empty e) a (directive_is_read t line next d (e ∙ ap (λ l. 37 ∷ l) cut) no_break ends is col) optional
     ])))

@@ -24,9 +24,9 @@ pub record PlainAs (ctx : Context) (p : Position) (text : List ℕ) (x : machine
 
 plain_as : (ctx : Context) (p : Position) (text : List ℕ) (x : machine.Read Plain) → has_no_nul text ≡ true → begins_solid text ≡ true → is_indented ctx p ≡ true → plain ctx text p ≡ Ok x → PlainAs ctx p text x
 plain_as ctx p text x none begins indented e = (elim (read_as e (scans_end ctx text p none begins indented)) as (λ y w. plain ctx text p ≡ Ok y → PlainAs ctx p text y) [
-  whole_plain piece gap rest value cut whole white ends value_is ↦ λ k.
-        let fits = plain_fits ctx p text piece gap (plains.after_plain p piece gap rest value) begins cut k in
-        search (cut, whole, white, ends, value_is, same_has_break gap, position_append p piece gap rest, fits)
+  | whole_plain piece gap rest value cut whole white ends value_is ↦ λ k.
+      let fits = plain_fits ctx p text piece gap (plains.after_plain p piece gap rest value) begins cut k in
+      search (cut, whole, white, ends, value_is, same_has_break gap, position_append p piece gap rest, fits)
 ]) e
 
 -- ---- its piece and its gap

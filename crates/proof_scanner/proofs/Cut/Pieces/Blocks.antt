@@ -83,7 +83,7 @@ module _ (a : Account) (indent : ℕ) (outside : is_in_flow a ≡ false) (column
   by_style : (style : BlockStyle) (more : List ℕ) (r : Read Block) → has_no_nul (indicator_of style ∷ more) ≡ true → has_no_nul more ≡ true → block (is_literal_style style) indent (indicator_of style ∷ more) a.position ≡ Ok r
       → ReadAs a (indicator_of style ∷ more) (token_of style r.value.text) r.value.position r.rest r.position × IsBelow a.position r.position r.rest
   by_style style more r all nul e = elim (read_as e (scans_end style indent more a.position (some_chars more nul))) [
-    whole_block piece next b it (read free deep same) ↦ rw same (found style (indicator_of style ∷ more) piece next b (no_nul_after piece next (subst (λ l. has_no_nul l ≡ true) it.is_text all)) it.is_text it.is_read it.is_style)
+    | whole_block piece next b it (read free deep same) ↦ rw same (found style (indicator_of style ∷ more) piece next b (no_nul_after piece next (subst (λ l. has_no_nul l ≡ true) it.is_text all)) it.is_text it.is_read it.is_style)
   ]
 
 -- a block scalar that was read is the piece of its token, and after it spaces were passed

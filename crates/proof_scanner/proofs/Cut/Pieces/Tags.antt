@@ -49,7 +49,7 @@ written_in_line (c ∷ t) g h = grind (arith, eqb-true, verbatim_in_line t g, sh
 
 pub tag_property : (fl : Bool) (p : Position) (text more : List ℕ) → text ≡ 33 ∷ more → (x : Read models.Tag) → models.tag fl text p ≡ Ok x → IsProperty fl (Tok.tag x.value.handle x.value.suffix) p text x.rest x.position
 tag_property fl p text more e x k = elim (read_as (ap (λ r. models.tag fl r p) (sym e) ∙ k) (tags_end fl more p)) as (λ y w. IsProperty fl (Tok.tag y.value.handle y.value.suffix) p text y.rest y.position) [
-  whole_tag piece rest handle suffix cut is follows ↦ let line : has_no_break (33 ∷ piece) ≡ true = written_in_line piece (record { handle = handle; suffix = suffix }) is in grind (arith, line, position_in_line)
+  | whole_tag piece rest handle suffix cut is follows ↦ let line : has_no_break (33 ∷ piece) ≡ true = written_in_line piece (record { handle = handle; suffix = suffix }) is in grind (arith, line, position_in_line)
 ]
 
 -- a tag that was read is the piece of its token
