@@ -15,22 +15,19 @@ pub record GoesNear (a : Account) (w : Step) (next : List ℕ) (q : Position) : 
   pub near : (position_after a.site.position w.separation (w.piece ++ next)).index ≤ q.index + 1024
 
 near_by : (w : Step) (ws : List Step) (last : List ℕ) (a : Account) (q : Position) → a.line ≡ waits q → IsRowFrom (Some a) (w ∷ ws) last → ((b : Account) → b.line ≡ waits q → IsRowFrom (Some b) ws last → b.site.position.index ≤ q.index + 1024) → GoesNear a w (spelled ws last) q
-near_by w ws last a q e row further = let c = some_row (account_past a w (spelled ws last)) ws last row.1 in of c.0 c.2 (made a.site a.line a.entries w (spelled ws last) c.0 c.1)
-  where
-    next : List ℕ
-    next = spelled ws last
-
-    at : Site
-    at = site_at false a.site w.separation w.piece w.shown next
-
-    of : (b : Account) → IsRowFrom (Some b) ws last → Made a.site a.line a.entries w next b → GoesNear a w next q
-    of b on (inside some sep site one) =
-        let there = still_there true (begins_free_line a.site.before w.separation) a.line b.line q e sep in
-        record { unbroken = there.0; near = (grind (arith, index_after, (ap (λ x. x.position) site), (further b there.1 on))) }
-    of b on (outside m o none sep past line site one) =
-        let there = still_there false (begins_free_line a.site.before w.separation) a.line m q e sep in
-        let on_or_near : (o.line ≡ waits q) ⊎ (at.position.index ≤ q.index + 1024) = grind (arith, (subst (λ l. line_past (is_in_column at.position.col at.blocks) at.position at.blocks (act_of w.shown) w.key l ≡ Some o) there.1 past)) in
-        record { unbroken = there.0; near = elim on_or_near [ inl still ↦ (grind (arith, index_after, (ap (λ x. x.position) site), (further b (line ∙ still) on))) | inr near ↦ near ] }
+near_by w ws last a q e row further =
+    let next : List ℕ = spelled ws last in
+    let at : Site = site_at false a.site w.separation w.piece w.shown next in
+    let c = some_row (account_past a w next) ws last row.1 in
+    elim (made a.site a.line a.entries w next c.0 c.1) [
+      | inside some sep site one ↦
+          let there = still_there true (begins_free_line a.site.before w.separation) a.line c.0.line q e sep in
+          record { unbroken = there.0; near = (grind (arith, index_after, (ap (λ x. x.position) site), (further c.0 there.1 c.2))) }
+      | outside m o none sep past line site one ↦
+          let there = still_there false (begins_free_line a.site.before w.separation) a.line m q e sep in
+          let on_or_near : (o.line ≡ waits q) ⊎ (at.position.index ≤ q.index + 1024) = grind (arith, (subst (λ l. line_past (is_in_column at.position.col at.blocks) at.position at.blocks (act_of w.shown) w.key l ≡ Some o) there.1 past)) in
+          record { unbroken = there.0; near = elim on_or_near [ inl still ↦ (grind (arith, index_after, (ap (λ x. x.position) site), (further c.0 (line ∙ still) c.2))) | inr near ↦ near ] }
+    ]
 
 -- where the last piece of a row ended while a key waits
 ends_near : (ws : List Step) (last : List ℕ) (a : Account) (q : Position) → a.line ≡ waits q → IsRowFrom (Some a) ws last → a.site.position.index ≤ q.index + 1024

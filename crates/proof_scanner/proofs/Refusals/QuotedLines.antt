@@ -165,19 +165,15 @@ module _ (single : Bool) (ctx : Context) (start : Position) (least : ℕ) (limit
 
   by_element : (c : ℕ) (b : List ℕ) (o : Option Spelled) → element_of single c b ≡ o → (c == 0) ≡ false → ((n : ℕ) → Later (drop n b)) → Later (c ∷ b)
   by_element c b None is some later s p m t stood = none_ends c b (no_element single c b some is) s p m t stood
-  by_element c b (Some e) is some later s p m t stood = by (turns c b e is (kind_of single c b e is) unlike s p m t stood)
-    where
-      unlike : single ≡ false → (c == quote_of single) ≡ false
-      unlike double = let i = rw double at is in rw double (no_quote c b e i)
-
-      from : scan single ctx start (c ∷ b) m p t ≡ scan single ctx start (c ∷ b) gap p t
-      from = from_gap c b unlike s m p t stood
-
-      by : Turns c b s p e (scan single ctx start (c ∷ b) gap p t) → Ends s p (c ∷ b) (scan single ctx start (c ∷ b) m p t)
-      by (fails why at w i) = refused why at (arrived w) (from ∙ i)
-      by (goes n q u place there fit none i) = elim (later e.further (past_element s e.element) q n u there) [
-        | refused why at h j ↦ refused why at (stepped c b e is fit none (rw (sym place) h)) (from ∙ (i ∙ j))
-        | reads z w j ↦ reads z (stepped c b e is fit none (rw (sym place) w)) (from ∙ (i ∙ j))
+  by_element c b (Some e) is some later s p m t stood =
+      let unlike : single ≡ false → (c == quote_of single) ≡ false = λ double. let i = rw double at is in rw double (no_quote c b e i) in
+      let from = from_gap c b unlike s m p t stood in
+      elim (turns c b e is (kind_of single c b e is) unlike s p m t stood) [
+        | fails why at w i ↦ refused why at (arrived w) (from ∙ i)
+        | goes n q u place there fit none i ↦ elim (later e.further (past_element s e.element) q n u there) [
+          | refused why at h j ↦ refused why at (stepped c b e is fit none (rw (sym place) h)) (from ∙ (i ∙ j))
+          | reads z w j ↦ reads z (stepped c b e is fit none (rw (sym place) w)) (from ∙ (i ∙ j))
+        ]
       ]
 
   each_ends : (n : ℕ) (a : List ℕ) → list_all is_some a ≡ true → Later (drop n a)

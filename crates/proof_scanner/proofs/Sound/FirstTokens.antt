@@ -73,11 +73,10 @@ tokens_are_cut text ts nul h = rows_are_cuts text ts (tokens_are_of_a_row text t
 -- ---- where a run has come to in a text, and whether it met the stream's start
 
 pub run_is_where : (text : List ℕ) (t : ScannerState) → has_no_nul text ≡ true → Reaches (start text) t → IsWhere text t
-run_is_where text t nul run = by (reached fetch_keeps text nul (start text) t run (begins refl))
-  where
-    by : Fares text t → IsWhere text t
-    by (begins e) = grind (arith, over)
-    by (goes s) =
-        let c : IsCutUpTo text (s.separation ++ t.rest) s.base t.held.tokens = stands_cut text t s in
-        grind (arith, s, c, cut_position text s.separation t.rest s.base t.held.tokens t.held.position (whole_text text nul) s.position_is c)
-    by (over f r n) = grind (arith, rows_are_cuts)
+run_is_where text t nul run = elim (reached fetch_keeps text nul (start text) t run (begins refl)) [
+  | begins e ↦ grind (arith, over)
+  | goes s ↦
+      let c : IsCutUpTo text (s.separation ++ t.rest) s.base t.held.tokens = stands_cut text t s in
+      grind (arith, s, c, cut_position text s.separation t.rest s.base t.held.tokens t.held.position (whole_text text nul) s.position_is c)
+  | over f r n ↦ grind (arith, rows_are_cuts)
+]
