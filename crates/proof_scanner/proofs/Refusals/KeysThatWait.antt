@@ -125,11 +125,11 @@ apart_after s ds es w c next a b q j e1 e2 = by (made s taken ds w next a e1) (m
 -- ---- as far as a beginning leads
 
 pub together_keeps : Keeps (λ x y _. Together x y)
-together_keeps x y a b v c next i p h k e f = record {
-  known = known_after x.site x.line y.line x.entries y.entries v c next a b i.1 i.2 p.on_first p.known e (rw i.0 f);
-  on_first = waiting_past x.site x.line x.entries v next a p.on_first h e;
-  on = waiting_past y.site y.line y.entries (With v c) next b p.on k f;
-}
+together_keeps x y a b v c next i p h k e f = search (
+  known_after x.site x.line y.line x.entries y.entries v c next a b i.1 i.2 p.on_first p.known e (rw i.0 f),
+  waiting_past x.site x.line x.entries v next a p.on_first h e,
+  waiting_past y.site y.line y.entries (With v c) next b p.on k f,
+)
 
 pub apart_keeps : (q : Position) → Keeps (λ x y _. Apart q x y)
 apart_keeps q x y a b v c next i p h k e f =
@@ -199,11 +199,8 @@ begins_waiting text after b g = along (λ x _. Waiting x.line x.site) (λ x y w 
 -- ---- positions
 
 further_in : (text f rest : List ℕ) (p : Position) → IsPositionIn text (f ++ rest) p → IsPositionIn text rest (position_after p f rest)
-further_in text f rest p at = record {
-  before = at.before ++ f;
-  is_text = at.is_text ∙ sym (append_assoc at.before f rest);
-  is_position = ap (λ q. position_after q f rest) at.is_position ∙ sym (position_append first_position at.before f rest);
-}
+further_in text f rest p at =
+    search (at.is_text ∙ sym (append_assoc at.before f rest), ap (λ q. position_after q f rest) at.is_position ∙ sym (position_append first_position at.before f rest))
 
 place_past : (text : List ℕ) (x y : Account) (w : Step) (next : List ℕ) → IsPositionIn text (w.separation ++ (w.piece ++ next)) x.site.position → account_past x w next ≡ Some y → IsPositionIn text next y.site.position
 place_past text x y w next at e = grind (arith, (made x.site x.line x.entries w next y e), further_in)

@@ -119,20 +119,7 @@ abbrev pub step_from : (a b c : Account) (separation rest next : List ℕ) (here
     → StepAt a separation rest here
 step_from a b c separation rest next here w like written past e filled solid clean here_is =
     let at : (w.separation ≡ separation) × (w.piece ++ next ≡ rest) = step_here b w next separation rest written e filled solid clean in
-    record {
-      account = b;
-      is_like = like;
-      step = w;
-      next = next;
-      past = c;
-      is_written = written;
-      is_past = past;
-      separation_is = at.0;
-      text_is = at.1;
-      is_clean = clean;
-      here_is = here_is;
-      position_is = ap (λ s. position_after s.position w.separation (w.piece ++ next)) (sym like.0) ∙ (ap (λ f. position_after a.site.position f (w.piece ++ next)) at.0 ∙ (ap (λ z. position_after a.site.position separation z) at.1 ∙ sym here_is));
-    }
+    search (like, written, past, at.0, at.1, clean, here_is, ap (λ s. position_after s.position w.separation (w.piece ++ next)) (sym like.0) ∙ (ap (λ f. position_after a.site.position f (w.piece ++ next)) at.0 ∙ (ap (λ z. position_after a.site.position separation z) at.1 ∙ sym here_is)))
 
 pub row_at : (text separation rest : List ℕ) (a : Account) (here : Position) (r : Row) → IsPlace text a separation rest here → begins_separation rest ≡ false → is_empty rest ≡ false → HasRow text r → RowAt text a separation rest here
 row_at text separation rest a here r p solid some h = by g.steps g.is_row g.spells

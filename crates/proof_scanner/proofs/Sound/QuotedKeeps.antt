@@ -114,10 +114,10 @@ module _ (text : List ℕ) (quotes : Quotes) (t : ScannerState) (a : Arrives tex
 pub quoted_keeps : (text : List ℕ) (quotes : Quotes) (t : ScannerState) (more : List ℕ) → t.rest ≡ quote_of (are_single quotes) ∷ more → IsDeep t.held → Arrives text t → Holds (Onward text t.rest) (fetch_flow_scalar quotes t)
 unfolding fetch_flow_scalar
 quoted_keeps text quotes t more e deep a =
+    let read_as : (x : machine.Read (List ℕ)) → quoted (are_single quotes) (context t.held) t.rest t.held.position ≡ Ok x → QuotedAs (are_single quotes) (context t.held) t.held.position t.rest x = λ x i.
+    rw e (quoted_as quotes (context t.held) t.held.position more x ((and_parts (not (is_nul (quote_of (are_single quotes)))) (has_no_nul more) (subst (λ r. has_no_nul r ≡ true) e a.is_clean)).1) (subst (λ r. quoted (are_single quotes) (context t.held) r t.held.position ≡ Ok x) e i)) in
     rw (saved_is t.held)
     (read (allow_key false (record t.held { keys = saved_keys t.held })) (quoted (are_single quotes) (context t.held) t.rest t.held.position) _
-    (λ x i. (chained (quoted_checked t.held.position (piece_of (are_single quotes) (read_as x i).body) (closed text quotes t a deep x (read_as x i)) (in_line (are_single quotes) (read_as x i).body) (no_nul_after (piece_of (are_single quotes) (read_as x i).body) x.rest (subst (λ r. has_no_nul r ≡ true) (read_as x i).cut a.is_clean)) (read_as x i).end_is)
-    (λ v c. chained (both_hold (exact v) (skipped text quotes t a deep x (read_as x i) v c)) (λ w z. went (node text quotes t a deep x (read_as x i) v c w z.0 z.1))))))
-  where
-    read_as : (x : machine.Read (List ℕ)) → quoted (are_single quotes) (context t.held) t.rest t.held.position ≡ Ok x → QuotedAs (are_single quotes) (context t.held) t.held.position t.rest x
-    read_as x i = rw e (quoted_as quotes (context t.held) t.held.position more x ((and_parts (not (is_nul (quote_of (are_single quotes)))) (has_no_nul more) (subst (λ r. has_no_nul r ≡ true) e a.is_clean)).1) (subst (λ r. quoted (are_single quotes) (context t.held) r t.held.position ≡ Ok x) e i))
+    (λ x i. let q : QuotedAs (are_single quotes) (context t.held) t.held.position t.rest x = read_as x i in
+    chained (quoted_checked t.held.position (piece_of (are_single quotes) q.body) (closed text quotes t a deep x q) (in_line (are_single quotes) q.body) (no_nul_after (piece_of (are_single quotes) q.body) x.rest (subst (λ r. has_no_nul r ≡ true) q.cut a.is_clean)) q.end_is)
+    (λ v c. chained (both_hold (exact v) (skipped text quotes t a deep x q v c)) (λ w z. went (node text quotes t a deep x q v c w z.0 z.1)))))

@@ -62,8 +62,7 @@ arrives_cut text t a =
 
 -- the position after a separation that was read after a cut
 pub cut_position : (text separation rest : List ℕ) (a : Account) (ts : List Token) (p : Position) → up_to_nul text ≡ text → p ≡ position_after a.site.position separation rest → IsCutUpTo text (separation ++ rest) a ts → IsPositionIn text rest p
-cut_position text separation rest a ts p whole e c = record {
-  before = spelled c.row [] ++ separation;
-  is_text = sym whole ∙ sym c.is_text ∙ spelled_before c.row (separation ++ rest) ∙ sym (append_assoc (spelled c.row []) separation rest);
-  is_position = e ∙ ap (λ q. position_after q separation rest) (sym (ap (λ b. b.position) c.is_row.past) ∙ row_position first_account c.row (separation ++ rest)) ∙ sym (position_append first_position (spelled c.row []) separation rest);
-}
+cut_position text separation rest a ts p whole e c = search (
+  sym whole ∙ sym c.is_text ∙ spelled_before c.row (separation ++ rest) ∙ sym (append_assoc (spelled c.row []) separation rest),
+  e ∙ ap (λ q. position_after q separation rest) (sym (ap (λ b. b.position) c.is_row.past) ∙ row_position first_account c.row (separation ++ rest)) ∙ sym (position_append first_position (spelled c.row []) separation rest),
+)
