@@ -32,20 +32,20 @@ pub waiting_past : (s : Site) (l : Line) (es : List Entry) (w : Step) (next : Li
 waiting_past s l es w next b on is e q wt =
     let here : Position = position_after s.position w.separation (w.piece ++ next) in
     elim (made s l es w next b e) [
-    | outside m o none sep past line site one ↦
-        let unbroken : has_break w.piece ≡ false = grind (arith, wt, one) in
-        elim (waits_past _ _ _ _ w.key m o q past (sym line ∙ wt)) [
-          | begun k f h bs ↦ line_after q here w.piece w.shown next b.site (ap (λ (x : Site). x.position) site) (ap (λ (x : Site). x.before) site) (ap (λ (x : Position). x.line) h) (let col = ap (λ (x : Position). x.col) h in omega (arith, col)) is.1.0 unbroken (ap is_marker k)
-          | kept k f bs ↦
-              let was = waited false (begins_free_line s.before w.separation) l m q sep f in
-              let far = here_on q s w.separation (w.piece ++ next) (on q was.0) was.1 in
-              line_after q here w.piece w.shown next b.site (ap (λ (x : Site). x.position) site) (ap (λ (x : Site). x.before) site) far.0 (omega (arith, far.1)) is.1.0 unbroken (ap is_marker k)
-        ]
-    | inside some sep site one ↦
-        let unmarked : (c : Bool) → is_marker (act_of w.shown) ≡ c → suc q.col ≤ here.col → is_marker (act_of w.shown) ≡ false = λ c h e. grind (arith, nat_tests, eqb-true, marker_begins, next, is) in
-        let was = waited true (begins_free_line s.before w.separation) l b.line q sep wt in
-        let far = here_on q s w.separation (w.piece ++ next) (on q was.0) was.1 in
-        line_after q here w.piece w.shown next b.site (ap (λ (x : Site). x.position) site) (ap (λ (x : Site). x.before) site) far.0 (omega (arith, far.1)) is.1.0 (grind (arith, wt, one)) (unmarked (is_marker (act_of w.shown)) refl far.1)
+      | outside m o none sep past line site one ↦
+          let unbroken : has_break w.piece ≡ false = grind (arith, wt, one) in
+          elim (waits_past _ _ _ _ w.key m o q past (sym line ∙ wt)) [
+            | begun k f h bs ↦ line_after q here w.piece w.shown next b.site (ap (λ (x : Site). x.position) site) (ap (λ (x : Site). x.before) site) (ap (λ (x : Position). x.line) h) (let col = ap (λ (x : Position). x.col) h in omega (arith, col)) is.1.0 unbroken (ap is_marker k)
+            | kept k f bs ↦
+                let was = waited false (begins_free_line s.before w.separation) l m q sep f in
+                let far = here_on q s w.separation (w.piece ++ next) (on q was.0) was.1 in
+                line_after q here w.piece w.shown next b.site (ap (λ (x : Site). x.position) site) (ap (λ (x : Site). x.before) site) far.0 (omega (arith, far.1)) is.1.0 unbroken (ap is_marker k)
+          ]
+      | inside some sep site one ↦
+          let unmarked : (c : Bool) → is_marker (act_of w.shown) ≡ c → suc q.col ≤ here.col → is_marker (act_of w.shown) ≡ false = λ c h e. grind (arith, nat_tests, eqb-true, marker_begins, next, is) in
+          let was = waited true (begins_free_line s.before w.separation) l b.line q sep wt in
+          let far = here_on q s w.separation (w.piece ++ next) (on q was.0) was.1 in
+          line_after q here w.piece w.shown next b.site (ap (λ (x : Site). x.position) site) (ap (λ (x : Site). x.before) site) far.0 (omega (arith, far.1)) is.1.0 (grind (arith, wt, one)) (unmarked (is_marker (act_of w.shown)) refl far.1)
     ]
 
 -- ---- a beginning and a row

@@ -142,7 +142,9 @@ HasNear s = is_empty s.flow ≡ true → (k : Key) → top_key s.keys ≡ Some k
 
 next_near : (t : ScannerState) → Holds (λ u. HasNear u.held) (fetch_next t)
 unfolding fetch_next stale drop_stale
-next_near t = chained (always {P = λ x. Unit {0}} (skip_to_next_token t) (λ x. tt)) (λ u a. chained (always {P = λ x. Unit {0}} _ (λ x. tt)) (λ v b. chained (always {P = λ x. Unit {0}} (fetch_here (on_held (λ s. unroll_indent (s.position.col + 1) s) v)) (λ x. tt)) (λ w c. tried w (stale w.held) (grind (arith, nat_tests, eqb-true, either, in_flow, went, not, refused, top_key, map, still, is_far)) (λ h n. n))))
+next_near t =
+    let anything : (A : Type 0) (r : Result A Fault) → Holds (λ x. Unit {0}) r = λ A r. always r (λ x. tt) in
+    chained (anything _ (skip_to_next_token t)) (λ u a. chained (anything _ _) (λ v b. chained (anything _ (fetch_here (on_held (λ s. unroll_indent (s.position.col + 1) s) v))) (λ w c. tried w (stale w.held) (grind (arith, nat_tests, eqb-true, either, in_flow, went, not, refused, top_key, map, still, is_far)) (λ h n. n))))
 
 -- after a fetch
 pub fetch_near : (t : ScannerState) → t.held.started ≡ true → Holds (λ u. HasNear u.held) (fetch t)

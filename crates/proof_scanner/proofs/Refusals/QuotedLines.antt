@@ -111,13 +111,15 @@ module _ (single : Bool) (ctx : Context) (start : Position) (least : ℕ) (limit
       go none deep (steps _ q at (after_escaped double f g) full unmarked marks j) = absurd (cc g)
       go none deep (is_marked h j) = absurd (cc (none, simp append-nil at h))
       go none deep (is_shallow h j) = absurd (cc (h, limit p.col, deep))
-  turns c b e is (has_blank f g) unlike s p m t stood = let none = white_stands single ctx start c b p.col (rw (f, g) refl) in elim (cases_Bool (t.leading && (c == 9) && nat_lt (p.col + 1) ctx.indent)) [
-    | inl h ↦
-        let parts = and_parts (t.leading && (c == 9)) (nat_lt (p.col + 1) ctx.indent) h in
-        let low : nat_lt p.col least ≡ true = sym (limit p.col) ∙ parts.1 in
-        fails TabAsIndentation p (inr (none, inr (inr (inr (b, ap (λ x. x ∷ b) (eqb-true c 9 (and_parts t.leading (c == 9) parts.0).1), opens s m p t false stood (λ e. refl) low, low, refl, refl))))) (rw (f, g, h) refl)
-    | inr h ↦ goes gap (past p) _ (sym (past_is p c b f)) (blank_goes c s m p t stood) (blank_stands c s m p t stood h) none (rw (f, g, h) refl)
-  ]
+  turns c b e is (has_blank f g) unlike s p m t stood =
+      let none = white_stands single ctx start c b p.col (rw (f, g) refl) in
+      elim (cases_Bool (t.leading && (c == 9) && nat_lt (p.col + 1) ctx.indent)) [
+        | inl h ↦
+            let parts = and_parts (t.leading && (c == 9)) (nat_lt (p.col + 1) ctx.indent) h in
+            let low : nat_lt p.col least ≡ true = sym (limit p.col) ∙ parts.1 in
+            fails TabAsIndentation p (inr (none, inr (inr (inr (b, ap (λ x. x ∷ b) (eqb-true c 9 (and_parts t.leading (c == 9) parts.0).1), opens s m p t false stood (λ e. refl) low, low, refl, refl))))) (rw (f, g, h) refl)
+        | inr h ↦ goes gap (past p) _ (sym (past_is p c b f)) (blank_goes c s m p t stood) (blank_stands c s m p t stood h) none (rw (f, g, h) refl)
+      ]
   turns c b e is (has_line f) unlike s p m t stood = goes gap _ (with_break t) refl (begins_here (break_leads t)) refl (white_stands single ctx start c b p.col (rw f refl)) (line_goes c b p t f)
   turns c b e is (has_escaped d a double same_c same_b f) unlike s p m t stood =
       rw (same_c, same_b)

@@ -81,14 +81,14 @@ arrives_with text v s solid near u blocks awaits levels tokens = record {
 -- Where the next piece begins the block collections that are deeper end.
 pub arrives_now : (text : List ℕ) (v : ScannerState) → Stands text v → begins_separation v.rest ≡ false → HasNearKey v → Arrives text (on_held (λ s. unroll_indent (s.position.col + 1) s) v)
 arrives_now text v s solid near = let p : Position = v.held.position in elim (cases_Bool (is_empty v.held.flow)) [
-    | inr e ↦
-        rw (unrolled_in_flow (p.col + 1) v.held e)
-        (arrives_with text v s solid near (record { indent = v.held.indent; indents = v.held.indents; tokens = v.held.tokens }) (grind arith) (grind arith) s.are_levels (grind (arith, append-nil)))
-    | inl e ↦
-        let u : Levels = unrolled (p.col + 1) p v.held.indent v.held.indents v.held.tokens in
-        let z : Ended p s.base.site.blocks s.base.site.awaits v.held.tokens u = rw (s.blocks_are, s.awaits_is) (levels_end p v.held.indent v.held.indents v.held.tokens s.are_levels) in
-        rw (unrolled_outside (p.col + 1) v.held e)
-        (arrives_with text v s solid near u (grind (arith, z)) (grind (arith, z)) z.are_levels (grind (arith, z)))
+  | inr e ↦
+      rw (unrolled_in_flow (p.col + 1) v.held e)
+      (arrives_with text v s solid near (record { indent = v.held.indent; indents = v.held.indents; tokens = v.held.tokens }) (grind arith) (grind arith) s.are_levels (grind (arith, append-nil)))
+  | inl e ↦
+      let u : Levels = unrolled (p.col + 1) p v.held.indent v.held.indents v.held.tokens in
+      let z : Ended p s.base.site.blocks s.base.site.awaits v.held.tokens u = rw (s.blocks_are, s.awaits_is) (levels_end p v.held.indent v.held.indents v.held.tokens s.are_levels) in
+      rw (unrolled_outside (p.col + 1) v.held e)
+      (arrives_with text v s solid near u (grind (arith, z)) (grind (arith, z)) z.are_levels (grind (arith, z)))
 ]
 
 -- where a piece begins, after stale keys
