@@ -206,15 +206,13 @@ module _ (text : List ℕ) {why1 why2 : Problem} {at1 at2 : Position} (f : Claim
 
 -- All claims of a text are one.
 pub stuck_once : (text : List ℕ) (why1 why2 : Problem) (at1 at2 : Position) → IsStuck text why1 at1 → IsStuck text why2 at2 → (why1 ≡ why2) × (at1 ≡ at2)
-stuck_once text why1 why2 at1 at2 s t = by f.says g.says
-  where
-    f : Claim text why1 at1
-    f = claim_of text why1 at1 s
-
-    g : Claim text why2 at2
-    g = claim_of text why2 at2 t
-
-    by : FailsFirst f.account f.separation f.here f.rest why1 at1 ⊎ ((why1 ≡ ValueNotAllowed) × (at1 ≡ f.here) × Keyless text f.account f.separation f.rest f.here) → FailsFirst g.account g.separation g.here g.rest why2 at2 ⊎ ((why2 ≡ ValueNotAllowed) × (at2 ≡ g.here) × Keyless text g.account g.separation g.rest g.here) → (why1 ≡ why2) × (at1 ≡ at2)
-    by (inl x) (inl y) = failing_once text f g x y
-    by x (inr y) = let r = keyless_once text f g y.2 in (r.0 ∙ sym y.0, r.1 ∙ sym y.1)
-    by (inr x) y = let r = keyless_once text g f x.2 in (x.0 ∙ sym r.0, x.1 ∙ sym r.1)
+stuck_once text why1 why2 at1 at2 s t =
+    let f : Claim text why1 at1 = claim_of text why1 at1 s in
+    let g : Claim text why2 at2 = claim_of text why2 at2 t in
+    elim g.says [
+      | inr y ↦ let r = keyless_once text f g y.2 in (r.0 ∙ sym y.0, r.1 ∙ sym y.1)
+      | inl y ↦ elim f.says [
+        | inl x ↦ failing_once text f g x y
+        | inr x ↦ let r = keyless_once text g f x.2 in (x.0 ∙ sym r.0, x.1 ∙ sym r.1)
+      ]
+    ]

@@ -2,7 +2,7 @@
 use Rattle.proof_scanner.proofs.Common.{or-false, cases_Bool, innermost, IsNotRight, [], Account, account_past, Act, act_of, ap, arith, begins_free_line, begins_separation, BeginsButForKey, blocks_at, Bool, Entry, fails, false, first_account, free, gives_node, has_break, HasRow, inl, inr, is_empty, is_in_column, is_in_flow, is_marker, is_separation, IsRowFrom, IsWritten, key_waits, length, LikeEntries, LikeLine, Line, line_past, line_past_separation, List, no_key, no_nul_after, None, not, not-true, not_ended, Outside, Position, position_after, position_in_line, previous_by, refl, Row, same_flow, Site, site_at, Some, spelled, Step, subst, sym, taken, TextsWithARowAreNotStuck, Tok, true, waits, ℕ, ◌++◌, ◌+◌, ◌<◌, ◌∙◌, ◌∷◌, ◌≡◌, ◌≤◌, ◌⊎◌, eqb-true, nat_tests, append-nil, append_assoc, append_cancel_right, AreAround, AreEntries, Arrives, Begins, comma, first_position, FlowLevel, gives_closing, gives_comma, GoesThrough, has_no_nul, has_required, HasNoKey, in_flow, is_blank, is_blank_or_end, is_break, is_far, is_flow, is_nul, is_required, IsNear, IsPositionIn, Key, Leads, mapping_closing, MayChoose, Option, outside_key, position_append, ScannerState, sequence_closing, Stands, suc, top_key, ◌||◌, IsAt}
 use Rattle.proof_scanner.proofs.Refusals.Common.{first_stays, IsRowless, Keeps, Same, Walked, With, account_by, at_end, cut_position, in_flow_is, index_after, no_entries, not_before_after, not_none, piece_ends, place, stands_cut, step_here, strictly, walk, whole_text, with_entries, same_of, waited, still_there, like_past, begun, kept, waits_past, Made, outside, inside, made}
 use Rattle.proof_scanner.proofs.Refusals.PiecesRefused.{Here, marker_begins, whole_by}
-use Rattle.proof_scanner.proofs.Refusals.OtherRows.{none_ends, goes_near, keeps_on, row_begins, StepAt, RowAt, row_at, BeginsWith, begins_with_part}
+use Rattle.proof_scanner.proofs.Refusals.OtherRows.{GoesNear, goes_near, keeps_on, row_begins, StepAt, RowAt, row_at, BeginsWith, begins_with_part}
 use Rattle.proof_scanner.proofs.Refusals.NoRows.{failing_places_have_no_row, no_keyless_colon}
 use Rattle.proof_row.proofs.CutColumns.{unbroken}
 
@@ -145,7 +145,13 @@ first_together = record { known = λ q h. absurd (cc h); on_first = λ q h. absu
 -- Where a key that must be one waits in a beginning, no line ends before a place to which steps lead without it.
 pub key_on_its_line : (text separation rest : List ℕ) (begin here : Position) (a : Account) (r : Row) → BeginsButForKey text (separation ++ rest) begin a → is_separation false separation rest ≡ true → here ≡ position_after a.site.position separation rest → begin.line < here.line
     → is_empty rest ≡ false → begins_separation rest ≡ false → HasRow text r → ⊥
-key_on_its_line text separation rest begin here a r g filled here_is late some solid row = ends second.steps second.is_row second.spells
+key_on_its_line text separation rest begin here a r g filled here_is late some solid row =
+    let s = goes_near second.steps second.last after z begin second.holds.one second.is_row second.spells in
+    let n : GoesNear z s.0 s.1 begin = s.4 in
+    let at : (s.0.separation ≡ separation) × (s.0.piece ++ s.1 ≡ rest) = step_here z s.0 s.1 separation rest s.2 s.3 filled solid (no_nul_after separation rest second.is_clean) in
+    let unbroken : begins_free_line z.site.before separation ≡ false = subst (λ x. begins_free_line z.site.before x ≡ false) at.0 n.unbroken in
+    let line : here.line ≡ begin.line = ap (λ (p : Position). p.line) here_is ∙ (ap (λ (s : Site). (position_after s.position separation rest).line) second.is_like.0 ∙ (here_on begin z.site separation rest second.holds.on unbroken).0) in
+    omega (arith, late, line)
   where
     after : List ℕ
     after = separation ++ rest
@@ -166,14 +172,6 @@ key_on_its_line text separation rest begin here a r g filled here_is late some s
 
     z : Account
     z = second.account
-
-    ends : (ws : List Step) → IsRowFrom (Some z) ws second.last → spelled ws second.last ≡ after → ⊥
-    ends [] k f = none_ends z begin second.holds.one k.1
-    ends (w ∷ ws) k f =
-        let at : (w.separation ≡ separation) × (w.piece ++ spelled ws second.last ≡ rest) = step_here z w (spelled ws second.last) separation rest k.0 f filled solid (no_nul_after separation rest second.is_clean) in
-        let unbroken : begins_free_line z.site.before separation ≡ false = subst (λ x. begins_free_line z.site.before x ≡ false) at.0 (goes_near w ws second.last z begin second.holds.one k).unbroken in
-        let line : here.line ≡ begin.line = ap (λ (p : Position). p.line) here_is ∙ (ap (λ (s : Site). (position_after s.position separation rest).line) second.is_like.0 ∙ (here_on begin z.site separation rest second.holds.on unbroken).0) in
-        omega (arith, late, line)
 
 pub texts_with_a_row_are_not_stuck : TextsWithARowAreNotStuck
 texts_with_a_row_are_not_stuck text why at r row (fails a separation rest why2 here at2 place some solid f) = failing_places_have_no_row text separation rest a here at why r place solid some f.fails row
@@ -216,28 +214,24 @@ same_place text separation rest p b nul at g =
 -- While a key waits in the row, each part of the separation there ends on the key's line, and near.
 near_there : (text after : List ℕ) (q : Position) (g : GoesThrough text after) → g.account.line ≡ waits q → (separation rest : List ℕ) → after ≡ separation ++ rest → is_separation false separation rest ≡ true → is_far q (position_after g.account.site.position separation rest) ≡ false
 unfolding is_far
-near_there text after q g waiting separation rest cut filled = by g.steps g.is_row g.spells
-  where
-    by : (ws : List Step) → IsRowFrom (Some g.account) ws g.last → spelled ws g.last ≡ after → is_far q (position_after g.account.site.position separation rest) ≡ false
-    by [] row e = absurd (none_ends g.account q waiting row.1)
-    by (w ∷ ws) row e =
-        let next : List ℕ = w.piece ++ spelled ws g.last in
-        let p : Position = g.account.site.position in
-        let part : BeginsWith w.separation separation next rest = begins_with_part false w.separation separation next rest row.0.0 filled (piece_ends g.account w (spelled ws g.last) row.0) (e ∙ cut) in
-        let here : Position = position_after p separation rest in
-        let n = goes_near w ws g.last g.account q waiting row in
-        let on = here_on q g.account.site w.separation next (begins_waiting text after g.account g.begins q waiting) n.unbroken in
-        let whole : position_after p w.separation next ≡ position_after here part.more next = ap (λ f. position_after p f next) part.whole_is ∙ (position_append p separation part.more next ∙ ap (λ r. position_after (position_after p separation r) part.more next) (sym part.rest_is)) in
-        let later = (not_before_after here part.more next).0 in
-        grind (arith, nat_tests, whole, on.0, n.near, later, index_after here part.more next)
+near_there text after q g waiting separation rest cut filled =
+    let s = goes_near g.steps g.last after g.account q waiting g.is_row g.spells in
+    let w : Step = s.0 in
+    let n : GoesNear g.account w s.1 q = s.4 in
+    let next : List ℕ = w.piece ++ s.1 in
+    let p : Position = g.account.site.position in
+    let part : BeginsWith w.separation separation next rest = begins_with_part false w.separation separation next rest s.2.0 filled (piece_ends g.account w s.1 s.2) (s.3 ∙ cut) in
+    let here : Position = position_after p separation rest in
+    let on = here_on q g.account.site w.separation next (begins_waiting text after g.account g.begins q waiting) n.unbroken in
+    let whole : position_after p w.separation next ≡ position_after here part.more next = ap (λ f. position_after p f next) part.whole_is ∙ (position_append p separation part.more next ∙ ap (λ r. position_after (position_after p separation r) part.more next) (sym part.rest_is)) in
+    let later = (not_before_after here part.more next).0 in
+    grind (arith, nat_tests, whole, on.0, n.near, later, index_after here part.more next)
 
 -- At the text's end no key waits in the row.
 none_at_end : (text separation rest : List ℕ) (q : Position) (g : GoesThrough text (separation ++ rest)) → g.account.line ≡ waits q → is_separation false separation rest ≡ true → rest ≡ [] → ⊥
-none_at_end text separation rest q g waiting filled none = by g.steps g.is_row g.spells
-  where
-    by : (ws : List Step) → IsRowFrom (Some g.account) ws g.last → spelled ws g.last ≡ separation ++ rest → ⊥
-    by [] row e = none_ends g.account q waiting row.1
-    by (w ∷ ws) row e = at_end g.account w separation (spelled ws g.last) (rw (sym none) filled) row.0 (sym (append-nil separation) ∙ (ap (λ x. separation ++ x) (sym none) ∙ sym e))
+none_at_end text separation rest q g waiting filled none =
+    let s = goes_near g.steps g.last (separation ++ rest) g.account q waiting g.is_row g.spells in
+    at_end g.account s.0 separation s.1 (rw (sym none) filled) s.2 (sym (append-nil separation) ∙ (ap (λ x. separation ++ x) (sym none) ∙ sym s.3))
 
 -- ---- open keys
 

@@ -34,9 +34,11 @@ ends_near : (ws : List Step) (last : List ℕ) (a : Account) (q : Position) → 
 ends_near [] last a q e row = absurd (none_ends a q e row.1)
 ends_near (w ∷ ws) last a q e row = grind (arith, near_by w ws last a q e row (λ b. ends_near ws last b q), index_after)
 
--- While a key waits the row goes on so.
-pub goes_near : (w : Step) (ws : List Step) (last : List ℕ) (a : Account) (q : Position) → a.line ≡ waits q → IsRowFrom (Some a) (w ∷ ws) last → GoesNear a w (spelled ws last) q
-goes_near w ws last a q e row = near_by w ws last a q e row (λ b. ends_near ws last b q)
+-- While a key waits the row goes on so, by a step.
+pub goes_near : (ws : List Step) (last after : List ℕ) (a : Account) (q : Position) → a.line ≡ waits q → IsRowFrom (Some a) ws last → spelled ws last ≡ after
+    → (w : Step) × (next : List ℕ) × IsWritten a w next × (w.separation ++ (w.piece ++ next) ≡ after) × GoesNear a w next q
+goes_near [] last after a q e row h = absurd (none_ends a q e row.1)
+goes_near (w ∷ ws) last after a q e row h = (w, spelled ws last, row.0, h, near_by w ws last a q e row (λ b. ends_near ws last b q))
 
 -- ---- separations
 
