@@ -112,16 +112,15 @@ module _ (text : List ℕ) (s : Site) (l line_here : Line) (allowed : Bool) (k :
           old d y i j (rw (sym j) (n.waiting x.from begin x.begins (waited false (begins_free_line s.before w.separation) x.from.line x.line begin x.sep f).0 near_line near_index))
 
       waited_on : (d : Bool) (y : Option Key) → allowed ≡ d → k ≡ y → (b : Account) (x : Key) (z : Past b) → saved d new y ≡ Some x → x.required ≡ true → z.after.line ≡ waits x.position
-      waited_on true (Some y) i j b x z e m = absurd (grind (arith, line_is))
       waited_on true None i j b x z e m =
           let same : new ≡ x = same_of new x e in
           let like : LikeLine l z.from.line = subst (λ o. LikeLine (line_by c o l) z.from.line) j z.is_like in
           let line : z.line ≡ free = (grind arith) in
           grind (arith, same, line, keyed, must, place)
-      waited_on false None i j b x z e m = absurd (cc e)
       waited_on false (Some y) i j b x z e m =
           let was : z.line ≡ waits x.position = (still_there false (begins_free_line s.before w.separation) z.from.line z.line x.position (n.required z.from x z.begins (j ∙ e) m) z.sep).1 in
           (grind arith)
+      waited_on d y i j b x z e m = grind (arith, line_is)
 
 -- ---- what is known of keys that wait, where a piece begins, is known after the piece and a separation
 

@@ -12,10 +12,9 @@ use Rattle.proof_scanner.proofs.Refusals.QuotedReasons.{quote_no_break, after_qu
 
 -- the faults of further lines
 abbrev pub is_of_lines : Fault → Bool
-is_of_lines OutOfMemory = false
 is_of_lines (At QuotedIndentation p) = true
 is_of_lines (At TabAsIndentation p) = true
-is_of_lines (At _ p) = false
+is_of_lines f = false
 
 -- ---- texts
 
@@ -145,9 +144,8 @@ module _ (single : Bool) (ctx : Context) (start : Position) (least : ℕ) (limit
 
   -- what is no closing quote is read after an escaped break as in a gap
   from_gap : (c : ℕ) (b : List ℕ) → (single ≡ false → (c == quote_of single) ≡ false) → (s : LineStand) (m : Mode) (p : Position) (t : Folded) → Stood p t s m → scan single ctx start (c ∷ b) m p t ≡ scan single ctx start (c ∷ b) gap p t
-  from_gap c b unlike s m p t (in_line deep) = refl
-  from_gap c b unlike s m p t (begins_here leads) = refl
   from_gap c b unlike s m p t (escaped double leads) = after_gap single ctx start c (c ∷ b) p t refl (ap (λ q. c == q) (same_quote single) ∙ unlike double)
+  from_gap c b unlike s m p t stood = refl
 
   bad_ends : single ≡ false → (r : List ℕ) → escape r ≡ None → Later (92 ∷ r)
   bad_ends double r bad s p m t stood =
@@ -179,10 +177,9 @@ module _ (single : Bool) (ctx : Context) (start : Position) (least : ℕ) (limit
       ]
 
   each_ends : (n : ℕ) (a : List ℕ) → list_all is_some a ≡ true → Later (drop n a)
-  each_ends zero [] full = unclosed_ends
-  each_ends (suc n) [] full = unclosed_ends
   each_ends (suc n) (c ∷ b) full = each_ends n b (and_parts (is_some c) (list_all is_some b) full).1
   each_ends zero (c ∷ b) full = let q = and_parts (is_some c) (list_all is_some b) full in by_element c b (element_of single c b) refl (not-true (c == 0) q.0) (λ n. each_ends n b q.1)
+  each_ends n a full = unclosed_ends
 
   -- the whole scalar, where it may begin
   pub whole_ends : nat_lt ((start.col + 1) + 1) ctx.indent ≡ false → (more : List ℕ) → list_all is_some more ≡ true → Ends within (past start) more (quoted single ctx (quote_of single ∷ more) start)

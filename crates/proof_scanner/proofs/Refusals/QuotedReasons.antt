@@ -97,10 +97,9 @@ marks_after single c b e is (has_escaped d a double same_c same_b f) p body rest
 
 -- whether an element may stand in a column, in a line that began so
 abbrev pub stands : (least : ℕ) → LineStand → (column : ℕ) → Element → Bool
-stands least s k (content c) = not (begins_further s false && nat_lt k least)
 stands least s k (blank c) = not (begins_further s false && (c == 9) && nat_lt k least)
 stands least s k line_break = true
-stands least s k escaped_break = not (begins_further s false && nat_lt k least)
+stands least s k e = not (begins_further s false && nat_lt k least)
 
 -- the column after it, as far as it matters
 abbrev pub column_past : ℕ → Element → ℕ

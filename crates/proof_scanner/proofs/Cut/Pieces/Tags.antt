@@ -21,9 +21,8 @@ of_class class none handle t g h = grind (arith, all_in_line)
 
 closed_in_line : (t : List ℕ) → is_same t (codes ">") ≡ true → has_no_break t ≡ true
 unfolding is_break
-closed_in_line [] h = cc
 closed_in_line (c ∷ []) h = grind arith
-closed_in_line (c ∷ d ∷ t) h = grind arith
+closed_in_line t h = grind arith
 
 verbatim_in_line : (t : List ℕ) (g : Tag) → verbatim t ≡ Some g → has_no_break t ≡ true
 unfolding is_uri is_decimal_digit is_letter
