@@ -48,12 +48,11 @@ module _ (text : List ℕ) (a : Account) (w : Step) (next : List ℕ) (written :
 
   -- After a piece that is no part of a node no key waits.
   pub none_known : (p : Position) → is_in_flow a.entries ≡ false → begins_key (act_of w.shown) ≡ false → Way GivesUp text (w.separation ++ (w.piece ++ next)) a → KnowsKey text next p None
-  none_known p fl idle way = record { waiting = λ b begin g e l i. none b begin (came_by text a w next b way written g) e; required = λ b x g e m. absurd (cc e); rows = goes_past text a w next way written }
-    where
-      none : (b : Account) (begin : Position) → Came text a w next b → b.line ≡ waits begin → ⊥
-      none b begin c e =
-          let by : Made c.from.site c.from.line c.from.entries (With w c.key) next b → ⊥ = λ a. grind (arith, nat_tests, eqb-true, same_flow, waits_past) in
-          by (made c.from.site c.from.line c.from.entries (With w c.key) next b c.is_past)
+  none_known p fl idle way =
+      let none : (b : Account) (begin : Position) → Came text a w next b → b.line ≡ waits begin → ⊥ = λ b begin c e.
+      let by : Made c.from.site c.from.line c.from.entries (With w c.key) next b → ⊥ = λ a. grind (arith, nat_tests, eqb-true, same_flow, waits_past) in
+      by (made c.from.site c.from.line c.from.entries (With w c.key) next b c.is_past) in
+      record { waiting = λ b begin g e l i. none b begin (came_by text a w next b way written g) e; required = λ b x g e m. absurd (cc e); rows = goes_past text a w next way written }
 
 -- a part of a node, or a block scalar
 abbrev pub is_of_node : Act → Bool

@@ -271,11 +271,13 @@ module _ {a : Account} {separation rest : List ℕ} {here : Position} (s : StepA
   made_here = made s.account.site s.account.line s.account.entries s.step s.next s.past s.is_past
 
   pub not_first : Waiting s.account.line s.account.site → here.col ≡ 0 → ⊥
-  not_first on col = let place = ap (λ (p : Position). p.col) s.position_is in omega (arith, (here_on q s.account.site s.step.separation (s.step.piece ++ s.next) (on q waiting) (unbroken made_here)).1, place, col)
-    where
-      unbroken : Made s.account.site s.account.line s.account.entries s.step s.next s.past → begins_free_line s.account.site.before s.step.separation ≡ false
-      unbroken (outside m o none sep past line site one) = (still_there false _ s.account.line m q waiting sep).0
-      unbroken (inside some sep site one) = (still_there true _ s.account.line s.past.line q waiting sep).0
+  not_first on col =
+      let unbroken : begins_free_line s.account.site.before s.step.separation ≡ false = elim made_here [
+        | outside m o none sep past line site one ↦ (still_there false _ s.account.line m q waiting sep).0
+        | inside some sep site one ↦ (still_there true _ s.account.line s.past.line q waiting sep).0
+      ] in
+      let place = ap (λ (p : Position). p.col) s.position_is in
+      omega (arith, (here_on q s.account.site s.step.separation (s.step.piece ++ s.next) (on q waiting) unbroken).1, place, col)
 
   pub not_closing : is_in_flow a.entries ≡ false → (act_of s.step.shown ≡ gives_comma) ⊎ (act_of s.step.shown ≡ gives_closing) → ⊥
   not_closing out act = elim made_here [

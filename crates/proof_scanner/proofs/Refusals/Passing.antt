@@ -109,7 +109,8 @@ skip_refused before bs awaits begin separation t filled here l known = elim (cas
         -- two beginnings of a text that are equally long are the same
         let same_length : (a b r s : List ℕ) → a ++ r ≡ b ++ s → length a ≡ length b → a ≡ b = λ a b r s e n. sym (take-append_seam a r) ∙ (ap (λ k. take k (a ++ r)) n ∙ (ap (λ x. take (length b) x) e ∙ take-append_seam b s)) in
         let q : Position = position_after t.held.position (first ++ 9 ∷ blanks) rest in
-        let place : d.place ≡ q = cc (d.is_fault, fault_of e) in
+        let same_fault : f ≡ At TabInBlockIndentation q = cc e in
+        let place : d.place ≡ q = cc (d.is_fault, same_fault) in
         let index : d.place.index ≡ q.index = ap (λ y. y.index) place in
         let whole : t.rest ≡ (first ++ 9 ∷ blanks) ++ rest = cut ∙ sym (append_assoc first (9 ∷ blanks) rest) in
         let passed_is : d.passed ≡ first ++ 9 ∷ blanks = same_length d.passed (first ++ 9 ∷ blanks) d.rest rest (sym d.cut ∙ whole) (omega (arith, index, d.index_is, index_after t.held.position (first ++ 9 ∷ blanks) rest)) in
@@ -125,14 +126,11 @@ skip_refused before bs awaits begin separation t filled here l known = elim (cas
           is_filled = separation_append false separation (first ++ 9 ∷ blanks) rest (rw (← whole) filled) fill;
           goes_on = grind arith;
           is_solid = grind (arith, not-true);
-          is_fault = fault_of e ∙ ap (λ p. At TabInBlockIndentation p) there;
+          is_fault = same_fault ∙ ap (λ p. At TabInBlockIndentation p) there;
           is_later = rw (← there) ((not_before_after t.held.position (first ++ 9 ∷ blanks) rest).0);
           is_indented_by_tab = tabbed_is before bs awaits (separation ++ (first ++ 9 ∷ blanks))
               (rw (sym passed_is) d.tabbed.0) (rw (sym passed_is) d.tabbed.1);
         })
-      where
-        fault_of : {g : Fault} → ◌≡◌ {A = Result ScannerState Fault} (Err f) (Err g) → f ≡ g
-        fault_of e = cc e
 
 -- ---- keys that are near
 
