@@ -1,6 +1,6 @@
 -- A text without NUL that has a row is read: each run ends the stream or is refused, and a text with a row is not refused.
 use Rattle.proof_row.proofs.OneRow.{one_reading}
-use Rattle.proof_scanner.proofs.Common.{arith, At, Err, false, Fault, fetch, fetch_stream_start, has_no_nul, HasTokens, held_of, here, inl, inr, IsRead, length, List, Ok, OutOfMemory, Reaches, refl, Result, ScannerState, Stands, start, suc, there, true, zero, ℕ, ◌<◌, ◌≡◌, ◌≤◌}
+use Rattle.proof_scanner.proofs.Common.{arith, At, Err, false, Fault, fetch, fetch_stream_start, has_no_nul, held_of, here, inl, inr, IsRead, length, List, Ok, OutOfMemory, Reaches, refl, Result, ScannerState, Stands, start, suc, there, true, zero, ℕ, ◌<◌, ◌≡◌, ◌≤◌}
 use Rattle.proof_scanner.proofs.Refusals.Common.{Fetched, Told, fetched, first_fetch, tokens_are_of_a_row, with_row, stream_started}
 use Rattle.proof_scanner.specs.Goes.{IsComplete}
 use Rattle.proof_scanner.proofs.Refusals.KeysThatWait.{texts_with_a_row_are_not_stuck}

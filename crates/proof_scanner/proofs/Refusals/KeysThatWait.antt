@@ -1,5 +1,5 @@
 -- A key that must be one waits in each row of the text; and while it waits no line ends. So no row goes on where a beginning has only gone on over a line's end by making no key of it.
-use Rattle.proof_scanner.proofs.Common.{or-false, cases_Bool, innermost, IsNotRight, [], Account, account_past, Act, act_of, ap, arith, begins_free_line, begins_separation, BeginsButForKey, blocks_at, Bool, Entry, fails, false, first_account, free, gives_node, has_break, HasRow, inl, inr, is_empty, is_in_column, is_in_flow, is_marker, is_separation, IsRowFrom, IsWritten, key_waits, length, LikeEntries, LikeLine, Line, line_past, line_past_separation, List, no_key, no_nul_after, None, not, not-true, not_ended, Outside, Position, position_after, position_in_line, previous_by, refl, Row, same_flow, Site, site_at, Some, spelled, Step, subst, sym, taken, TextsWithARowAreNotStuck, Tok, true, waits, ℕ, ◌++◌, ◌+◌, ◌<◌, ◌∙◌, ◌∷◌, ◌≡◌, ◌≤◌, ◌⊎◌, eqb-true, nat_tests, append-nil, append_assoc, append_cancel_right, AreAround, AreEntries, Arrives, Begins, comma, first_position, FlowLevel, gives_closing, gives_comma, GoesThrough, has_no_nul, has_required, HasNoKey, in_flow, is_blank, is_blank_or_end, is_break, is_far, is_flow, is_nul, is_required, IsNear, IsPositionIn, Key, Leads, mapping_closing, MayChoose, Option, outside_key, position_append, ScannerState, sequence_closing, Stands, suc, top_key, ◌||◌, IsAt}
+use Rattle.proof_scanner.proofs.Common.{or-false, cases_Bool, innermost, IsNotRight, [], Account, account_past, Act, act_of, ap, arith, begins_free_line, begins_separation, BeginsButForKey, blocks_at, Bool, Entry, fails, false, first_account, free, gives_node, has_break, HasRow, inl, inr, is_empty, is_in_column, is_in_flow, is_marker, is_separation, IsWritten, key_waits, length, LikeEntries, LikeLine, Line, line_past, line_past_separation, List, no_key, no_nul_after, None, not, not-true, not_ended, Outside, Position, position_after, position_in_line, previous_by, refl, Row, same_flow, Site, site_at, Some, spelled, Step, subst, sym, taken, TextsWithARowAreNotStuck, Tok, true, waits, ℕ, ◌++◌, ◌+◌, ◌<◌, ◌∙◌, ◌∷◌, ◌≡◌, ◌≤◌, ◌⊎◌, eqb-true, nat_tests, append-nil, append_assoc, append_cancel_right, AreAround, AreEntries, Arrives, Begins, comma, first_position, FlowLevel, gives_closing, gives_comma, GoesThrough, has_no_nul, has_required, HasNoKey, in_flow, is_blank, is_blank_or_end, is_break, is_far, is_flow, is_nul, is_required, IsNear, IsPositionIn, Key, Leads, mapping_closing, MayChoose, Option, outside_key, position_append, ScannerState, sequence_closing, Stands, suc, top_key, ◌||◌, IsAt}
 use Rattle.proof_scanner.proofs.Refusals.Common.{first_stays, IsRowless, Keeps, Same, Walked, With, account_by, at_end, cut_position, in_flow_is, index_after, no_entries, not_before_after, not_none, piece_ends, place, stands_cut, step_here, strictly, walk, whole_text, with_entries, same_of, waited, still_there, like_past, begun, kept, waits_past, Made, outside, inside, made}
 use Rattle.proof_scanner.proofs.Refusals.PiecesRefused.{Here, marker_begins, whole_by}
 use Rattle.proof_scanner.proofs.Refusals.OtherRows.{GoesNear, goes_near, keeps_on, row_begins, StepAt, RowAt, row_at, BeginsWith, begins_with_part}

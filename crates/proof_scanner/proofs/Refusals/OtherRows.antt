@@ -1,6 +1,6 @@
 -- A row of a text goes through each place that a beginning of a row leads to, at an account that is like the beginning's; and its next piece stands there.
 use Rattle.proof_scanner.proofs.Common.{[], Account, account_past, ap, append-nil, Begins, begins_free_line, begins_separation, Bool, false, first_account, further_lines_stand, has_no_nul, HasRow, if◌then◌else◌, is_deep_enough, is_empty, is_gap, is_in_flow, is_indented_by_spaces, is_separation, IsLike, IsPlace, IsRowFrom, IsWritten, least_for, List, may_precede, no_nul_after, None, plain_scalar, Position, position_after, refl, Row, separations, Some, spelled, Step, subst, sym, true, up_to_nul, ℕ, ◌&&◌, ◌++◌, ◌∙◌, ◌∷◌, ◌≡◌, arith, eqb-true, nat_tests, act_of, and_parts, ends_separation, inl, inr, is_break, is_in_column, line_past, longer, may_end, not, Option, same_head, Site, site_at, waits, ◌+◌, ◌==◌, ◌≤◌, ◌⊎◌}
-use Rattle.proof_scanner.proofs.Refusals.Common.{some_row, Keeps, KeepsOn, Made, Same, Walked, With, begins_at_start, begins_past, ends_before, index_after, inside, made, outside, row_walks, step_here, still_there, strict_way, At}
+use Rattle.proof_scanner.proofs.Refusals.Common.{some_row, Keeps, KeepsOn, Same, Walked, With, begins_at_start, begins_past, ends_before, index_after, inside, made, outside, row_walks, step_here, still_there, strict_way, At}
 use Rattle.proof_row.proofs.Separations.{over}
 
 -- ---- a key that waits outside flow is near as long as a row goes on: its colon is still to come, on its line, at most 1024 characters after its start

@@ -1,5 +1,5 @@
 -- Where a piece begins, a row of the text may begin with all pieces before it; or a node which must be an implicit key waits there, and its line has ended.
-use Rattle.proof_scanner.proofs.Common.{Begins, IsCarriedOn, position_after, ◌≤◌, [], Account, ap, AreEntries, arith, Arrives, At, begins_document_at, Bool, chosen, columns, entries_by, Entry, Err, fails, FailsFirst, false, Fault, FlowLevel, followed_first, gives_node, has_open_level, HasRow, if◌then◌else◌, in_flow, is_empty, is_full, is_in_flow, is_taken, is_told, IsFollowed, IsLookedAt, IsNear, IsPlace, IsStuck, Key, key_waits, least_here, length, List, MayChoose, nat_lt, nat_tests, no_piece, no_piece_first, None, NoPiece, not, Ok, Option, or_left, or_right, OutOfMemory, outside_key, Position, Problem, refl, Row, ScannerState, site_at_place, site_in, Some, subst, sym, true, ℕ, ◌-◌, ◌<◌, ◌∙◌, ◌≡◌, is_shown, IsThere, eqb-true, cases_Bool, inl, inr, go_on, Held, lexed, Read, Result, with_held, ◌>>=◌, begins_separation, begins_white_space, begins_with, begins_with_space_or_break, ends_spaces, glued, HasNoWhiteSpace, HasPassed, Holds, is_at_gap, is_blank, is_blank_or_end, is_break, is_breakz, is_nul, is_separation, IsGlued, peek, refused_as, skip_spaces, skip_yaml_whitespace, SkipTabs, space, spaces_are_passed, white_space_is_passed, Yes, ◌++◌, ◌∷◌, CommentNotSeparated, EndsAs}
+use Rattle.proof_scanner.proofs.Common.{Begins, IsCarriedOn, position_after, ◌≤◌, [], Account, ap, AreEntries, arith, Arrives, At, begins_document_at, Bool, chosen, columns, entries_by, Entry, Err, fails, FailsFirst, false, Fault, FlowLevel, followed_first, gives_node, has_open_level, HasRow, if◌then◌else◌, in_flow, is_empty, is_full, is_in_flow, is_taken, is_told, IsFollowed, IsLookedAt, IsNear, IsPlace, IsStuck, Key, key_waits, least_here, length, List, MayChoose, nat_lt, nat_tests, no_piece, no_piece_first, None, NoPiece, not, Ok, Option, or_left, or_right, OutOfMemory, outside_key, Position, Problem, refl, Row, ScannerState, site_at_place, site_in, Some, subst, sym, true, ℕ, ◌-◌, ◌<◌, ◌∙◌, ◌≡◌, is_shown, IsThere, eqb-true, cases_Bool, inl, inr, go_on, Held, lexed, Read, Result, with_held, ◌>>=◌, begins_separation, begins_white_space, begins_with, begins_with_space_or_break, ends_spaces, glued, HasNoWhiteSpace, HasPassed, Holds, is_at_gap, is_blank, is_blank_or_end, is_break, is_breakz, is_nul, is_separation, peek, refused_as, skip_spaces, skip_yaml_whitespace, SkipTabs, space, spaces_are_passed, white_space_is_passed, Yes, ◌++◌, ◌∷◌, CommentNotSeparated, EndsAs}
 use Rattle.proof_scanner.proofs.Sound.Common.{same_flow, IsDeep, many_around}
 use Rattle.proof_scanner.specs.Failing.{followed}
 use Rattle.proof_scanner.proofs.Sound.WhiteSpaces.{white_of, past_white, past_white_space, white_exactly}

@@ -72,10 +72,9 @@ lines_go column s (c ∷ before) t h = lines_go column (past s c) before t (line
 pub tab_line : (column k : ℕ) (before z : List ℕ) → stand_after after_blank before ≡ on_line k → nat_lt k column ≡ true → plain_lines_fit column (before ++ 9 ∷ z) ≡ true → is_blanks (first_line z) ≡ true
 unfolding is_break is_blank
 tab_line column k before z stands low fit =
-    let by : (n : ℕ) → column - k ≡ n → line_is k column (9 ∷ first_line z) ≡ true → is_blanks (first_line z) ≡ true = λ n e h. grind (arith, nat_tests, low) in
     let h : lines_from column (on_line k) (9 ∷ z) ≡ true = ap (λ s. lines_from column s (9 ∷ z)) (sym stands) ∙ lines_go column after_blank before (9 ∷ z) fit in
     let q : line_is k column (9 ∷ first_line z) ≡ true = ap (line_is k column) (sym (first_is column 9 z refl)) ∙ (and_parts (line_is k column (first_line (9 ∷ z))) (plain_lines_fit column (9 ∷ z)) h).0 in
-    by (column - k) refl q
+    grind (arith, nat_tests, low, q)
 
 blank_in_line : (c : ℕ) → is_blank c ≡ true → is_break c ≡ false
 unfolding is_blank is_break

@@ -1,5 +1,5 @@
 -- The scan of a quoted scalar reads one, or refuses the text for what is wrong with it first.
-use Rattle.proof_scanner.proofs.Common.{position_past, position_append, [], cases_Bool, inl, inr, after_element, after_escaped, after_gap, after_quote, along, along_more, and_false, and_parts, ap, append-nil, arith, At, at_start, begins_further, begins_marked, Begun, begun, blank, Bool, break_further, content, Context, drop, element_of, ends_before, eqb-true, Err, escape, escaped_break, false, Fault, first_is_gap, first_fails, Folded, gap, in_gap, inside, is_document_marker, is_marked, is_some, append_cancel_right, ◌++◌, quoted_lines_fit, joined, line_break, LineStand, List, list_all, marked, Mode, nat_lt, nat_tests, None, not, not-true, nothing, off_margin, Ok, Option, OutOfMemory, past, past_element, past_escaped, past_is, Position, position_after, Problem, quoted, Read, refl, Result, scan, shallow, Some, Spelled, step, StepOf, steps, subst, suc, sym, take, true, white_stands, with_break, with_escaped_break, within, zero, ℕ, ◌&&◌, ◌+◌, ◌==◌, ◌∙◌, ◌∷◌, ◌≡◌, ◌≤◌, past_elements, QuotedDocumentMarker, QuotedEnd, QuotedIndentation, TabAsIndentation, break_leads}
+use Rattle.proof_scanner.proofs.Common.{position_past, position_append, [], cases_Bool, inl, inr, after_element, after_escaped, after_gap, after_quote, along, along_more, and_false, and_parts, ap, append-nil, arith, At, at_start, begins_further, begins_marked, Begun, begun, blank, Bool, break_further, content, Context, drop, element_of, ends_before, eqb-true, Err, escape, false, Fault, first_is_gap, first_fails, Folded, gap, in_gap, inside, is_document_marker, is_marked, is_some, append_cancel_right, ◌++◌, quoted_lines_fit, joined, LineStand, List, list_all, marked, Mode, nat_lt, nat_tests, None, not, not-true, nothing, off_margin, Ok, Option, past, past_element, past_escaped, past_is, Position, position_after, Problem, quoted, Read, refl, Result, scan, shallow, Some, Spelled, step, StepOf, steps, subst, suc, sym, take, true, white_stands, with_break, with_escaped_break, within, zero, ℕ, ◌&&◌, ◌+◌, ◌==◌, ◌∙◌, ◌∷◌, ◌≡◌, ◌≤◌, past_elements, QuotedDocumentMarker, QuotedEnd, QuotedIndentation, TabAsIndentation, break_leads}
 use Rattle.yaml_chars.specs.Class.{is_break, is_blank}
 use Rattle.model_scanner.specs.Quoted.{after}
 use Rattle.model_scanner.specs.Quoted as model
@@ -8,7 +8,7 @@ use Rattle.proof_lexers.proofs.Quoted.Shapes.{NoElement, closing, slash, no_elem
 use Rattle.proof_lexers.proofs.Quoted.Turns.{spelled, begins, Step, is_shallow}
 use Rattle.proof_scanner.proofs.Sound.QuotedBreaks.{Kind, has_content, has_blank, has_line, has_escaped, is_white, quote_white, slash_white, body_between}
 use Rattle.proof_scanner.specs.NoPiece.{quote_of}
-use Rattle.proof_scanner.proofs.Refusals.QuotedReasons.{quote_no_break, after_quote_at, no_quote, solid_here, past_line, past_two, after_it, kind_of, content_after, stands, by_escape, arrived, stepped, Reason, Wrong, Closed, parted, all_stand, before_quote, lines_close}
+use Rattle.proof_scanner.proofs.Refusals.QuotedReasons.{quote_no_break, after_quote_at, no_quote, solid_here, past_line, past_two, kind_of, content_after, stands, by_escape, arrived, stepped, Reason, Wrong, Closed, parted, all_stand, before_quote, lines_close}
 
 -- the faults of further lines
 abbrev pub is_of_lines : Fault → Bool

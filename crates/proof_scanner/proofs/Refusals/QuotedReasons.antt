@@ -1,5 +1,5 @@
 -- Why the text after an opening quote is refused, told of the text from an element on.
-use Rattle.proof_scanner.proofs.Common.{past, [], after_own, and_false, ap, append_assoc, are_indented, arith, at_start, begins_further, begins_solid, begins_with, begun_with, blank, Bool, content, drop, Element, element_of, elements, escaped_break, false, further_lines_fit, has_more, is_document_marker, IsBadEscape, line_break, Lines, lines_fit, lines_of, LineStand, List, local, LocalOf, marked_from, nat_lt, nat_tests, not, past_element, past_elements, past_escaped, past_is, Position, position_after, position_append, Problem, refl, replicate, Some, Spelled, subst, suc, sym, take, take-append-drop, true, within, zero, ℕ, ◌&&◌, ◌++◌, ◌+◌, ◌==◌, ◌∙◌, ◌∷◌, ◌≡◌, eqb-true, or-false, after_chars, along, along_more, append-nil, break_further, digit_value, double_quoted_element, escape, escape_by, feed_is_no_marker, has_marker, hexadecimal, in_line_position, is_cr_lf, is_in_line, line_position, None, numeric_escape, Option, past_break, plain_element, position_past, same_blank, same_break, same_feed, single_quoted_element, ◌*◌, ◌≤◌, QuotedDocumentMarker, QuotedEnd, QuotedIndentation, TabAsIndentation, and_parts, drop-append-le, ends_before, inl, inr, length, length-take, Local, lookup, number_at, numbered, numeric_escapes, take-append-le, cases_Bool, ◌||◌, ◌⊎◌, EscapedCode, HexadecimalDigit, UnknownEscape, feed_past}
+use Rattle.proof_scanner.proofs.Common.{past, [], after_own, and_false, ap, append_assoc, arith, at_start, begins_further, begins_solid, begins_with, begun_with, blank, Bool, content, drop, Element, element_of, elements, escaped_break, false, further_lines_fit, has_more, is_document_marker, IsBadEscape, line_break, Lines, lines_fit, lines_of, LineStand, List, local, LocalOf, marked_from, nat_lt, nat_tests, not, past_element, past_elements, past_escaped, past_is, Position, position_after, position_append, Problem, refl, replicate, Some, Spelled, subst, suc, sym, take, take-append-drop, true, within, zero, ℕ, ◌&&◌, ◌++◌, ◌+◌, ◌==◌, ◌∙◌, ◌∷◌, ◌≡◌, eqb-true, or-false, after_chars, along, along_more, append-nil, break_further, digit_value, double_quoted_element, escape, escape_by, feed_is_no_marker, has_marker, hexadecimal, in_line_position, is_cr_lf, is_in_line, line_position, None, numeric_escape, Option, past_break, plain_element, position_past, same_blank, same_break, same_feed, single_quoted_element, ◌*◌, ◌≤◌, QuotedDocumentMarker, QuotedEnd, QuotedIndentation, TabAsIndentation, and_parts, drop-append-le, ends_before, inl, inr, length, length-take, Local, lookup, number_at, numbered, numeric_escapes, take-append-le, cases_Bool, ◌||◌, ◌⊎◌, EscapedCode, HexadecimalDigit, UnknownEscape, feed_past}
 use Rattle.proof_scanner.proofs.Sound.QuotedBreaks.{Kind, has_content, has_blank, has_line, has_escaped, fits_from, lines_from, lines_here, empty_here, KindOf, kind, is_white}
 use Rattle.proof_scanner.specs.NoPiece.{quote_of}
 use Rattle.yaml_chars.specs.Class.{is_break, is_blank}

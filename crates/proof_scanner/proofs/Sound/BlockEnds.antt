@@ -1,5 +1,5 @@
 -- What stands after a block scalar that the scanner reads: it stands clear of the scalar.
-use Rattle.proof_scanner.proofs.Common.{AreLines, Block, BlockRead, BlockStyle, Break, IsBlockRead, Lined, List, None, Ok, Option, Position, Read, Some, [], after_line, after_spell, and_parts, ap, are_empty, arith, block, block_may_end, block_read, collection_of, eqb-true, false, first_content, first_empty, first_header, has_no_nul, indicator_of, innermost, is_at_end, is_empty_line, is_literal_style, is_shallow, is_tabbed, leading_spaces, least_column, lined, nat_tests, past_spaces, position_after, position_past, read_as, read_block, read_lines, read_may_end, refl, slice_index, space_past, spell, split, split_spell, texts, true, whole_block, ℕ, ◌++◌, ◌+◌, ◌==◌, ◌∙◌, ◌∷◌, ◌≡◌, lines_front}
+use Rattle.proof_scanner.proofs.Common.{AreLines, Block, BlockRead, BlockStyle, Break, Lined, List, None, Ok, Option, Position, Read, Some, [], after_line, after_spell, and_parts, ap, are_empty, arith, block, block_may_end, block_read, collection_of, eqb-true, false, first_content, first_empty, first_header, has_no_nul, indicator_of, innermost, is_at_end, is_empty_line, is_literal_style, is_shallow, is_tabbed, leading_spaces, least_column, lined, nat_tests, past_spaces, position_after, position_past, read_as, read_block, read_lines, read_may_end, refl, slice_index, space_past, spell, split, split_spell, texts, true, whole_block, ℕ, ◌++◌, ◌+◌, ◌==◌, ◌∙◌, ◌∷◌, ◌≡◌, lines_front}
 use Rattle.proof_lexers.specs.BlockScan.{read}
 use Rattle.proof_lexers.proofs.Blocks.Ends.{scans_end}
 use Rattle.proof_scanner.proofs.Cut.Pieces.Blocks.{piece_has_line}

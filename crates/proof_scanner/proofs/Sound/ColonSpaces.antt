@@ -1,5 +1,5 @@
 -- What the model reads after a colon: where a TAB stands next, the blanks and a comment; else nothing.
-use Rattle.proof_scanner.proofs.Common.{cases_Bool, inl, inr, arith, Bool, Held, Holds, List, Ok, ScannerState, Yes, [], after, begins_with, begins_with_alpha, blanks_and_comment, check_after_tab, check_value_space, checked, colon_may_precede, eqb-true, false, has_no_break, if◌then◌else◌, is_blank, is_separation, lexed, or_parts, pair_position, past_blanks_and_comment, past_comment, peek, refl, same_alpha, space, tab, true, went, ℕ, ◌++◌, ◌==◌, ◌||◌, ◌∙◌, ◌≡◌}
+use Rattle.proof_scanner.proofs.Common.{cases_Bool, inl, inr, arith, Held, Holds, List, ScannerState, [], after, begins_with, begins_with_alpha, blanks_and_comment, check_after_tab, check_value_space, checked, colon_may_precede, eqb-true, false, has_no_break, if◌then◌else◌, is_blank, is_separation, or_parts, pair_position, past_blanks_and_comment, past_comment, peek, refl, same_alpha, tab, true, went, ℕ, ◌++◌, ◌==◌, ◌||◌, ◌∙◌, ◌≡◌}
 use Rattle.yaml_chars.specs.Class.{is_alpha}
 use Rattle.defs_text.specs.Classes as classes
 use Rattle.proof_scanner.proofs.Sound.Steps.{line_rest_cut, line_rest_fills, line_rest_in_line, past_rest, rest_read, begins_here}

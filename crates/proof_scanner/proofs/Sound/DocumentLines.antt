@@ -1,5 +1,5 @@
 -- Document markers and directives: what holds where they begin holds between two fetches after them.
-use Rattle.proof_scanner.proofs.Common.{[], and_false, and_parts, ap, append-nil, append_assoc, AreLevels, arith, Arrives, before_by, begin_line, begins_free_line, begins_line, begins_with, blanks_and_comment, Bool, check_document_end, columns, Directive, directive_of, directives_end, either, Entry, eqb-true, false, fetch_directive, fetch_document_end, fetch_document_marker, first_break, FlowLevel, gives_marker, has_break, has_no_break, has_no_nul, has_open_level, Held, Holds, is_at_gap, is_break, is_breakz, is_closed, is_empty, is_indented_by_spaces, is_renewed, is_required, is_separation, IsDirectiveRead, IsPiece, IsReadOn, Key, List, may_precede, no_nul_after, None, on_held, Option, or_true, other, past, past_blanks_and_comment, past_line_rest, peek, Position, position_after, position_append, previous_by, push, put, read, read_as, refl, refused, remove_implicit_key, replicate-append-replicate, ScannerState, seen, settled, Site, site_in, skip_indicator, Some, subst, sym, taken, Tok, token_of, top_key, true, unroll_indent, went, whole_directive, with_top, ℕ, ◌++◌, ◌∙◌, ◌∷◌, ◌≡◌, ◌≤◌, if◌then◌else◌}
+use Rattle.proof_scanner.proofs.Common.{[], and_false, and_parts, ap, append-nil, append_assoc, AreLevels, arith, Arrives, before_by, begin_line, begins_free_line, begins_line, begins_with, blanks_and_comment, Bool, check_document_end, columns, Directive, directive_of, directives_end, either, Entry, eqb-true, false, fetch_directive, fetch_document_end, fetch_document_marker, first_break, FlowLevel, gives_marker, has_break, has_no_break, has_no_nul, has_open_level, Held, Holds, is_at_gap, is_break, is_breakz, is_closed, is_empty, is_indented_by_spaces, is_renewed, is_required, is_separation, IsPiece, IsReadOn, Key, List, may_precede, no_nul_after, None, on_held, Option, or_true, other, past, past_blanks_and_comment, past_line_rest, peek, Position, position_after, position_append, previous_by, push, put, read, read_as, refl, refused, remove_implicit_key, replicate-append-replicate, ScannerState, seen, settled, Site, site_in, skip_indicator, Some, subst, sym, taken, Tok, token_of, top_key, true, unroll_indent, went, whole_directive, with_top, ℕ, ◌++◌, ◌∙◌, ◌∷◌, ◌≡◌, ◌≤◌, if◌then◌else◌}
 use Rattle.proof_scanner.proofs.Sound.Steps.{exactly, held_exactly, Onward, adjacent_kept, by_sides, ArrivesBy, at_end_of, goes_inside, is_done, key_gone, line_rest_cut, line_rest_fills, line_rest_in_line, read_outside, Reads, rest_skipped, same_in_line, shorter, some_rest, three_past, tokens_before, unrolled_in_flow, with_entries, same_has_break, with_sides, ended_outside, all_ended, IsToken, unroll_keeps}
 use Rattle.defs_token.specs.Account.{Account as PieceAccount}
 use Rattle.model_scanner.specs.Directive.{directive}

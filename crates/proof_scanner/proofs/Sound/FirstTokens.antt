@@ -1,5 +1,5 @@
 -- The first of a text's tokens are a cut of a beginning of it.
-use Rattle.proof_scanner.proofs.Common.{zero, IsPiece, [], ap, arith, begins, end_token, Fares, first_position, has_no_nul, inl, inr, IsCut, IsCutOfBeginning, IsCutUpTo, IsRow, IsWhere, List, None, Option, over, Position, Reaches, refl, rows_are_cuts, ScannerState, Some, start, start_token, stream_end, sym, Tok, Token, tokens_of, true, up_to_nul, Written, ℕ, ◌++◌, ◌∙◌, ◌∷◌, ◌≡◌, ◌⊎◌, goes, append-nil, drop, first_token, length, length-append, subst, suc, take, take-append-le, ◌≤◌}
+use Rattle.proof_scanner.proofs.Common.{zero, IsPiece, [], ap, arith, begins, end_token, first_position, has_no_nul, inl, inr, IsCut, IsCutOfBeginning, IsCutUpTo, IsRow, IsWhere, List, None, Option, over, Position, Reaches, refl, rows_are_cuts, ScannerState, Some, start, start_token, stream_end, sym, Tok, Token, tokens_of, true, up_to_nul, Written, ℕ, ◌++◌, ◌∙◌, ◌∷◌, ◌≡◌, ◌⊎◌, goes, append-nil, drop, first_token, length, length-append, subst, suc, take, take-append-le, ◌≤◌}
 use Rattle.defs_token.specs.Account.{Account, first_account}
 use Rattle.defs_token.specs.Cut.{account_at, account_past, spelled}
 use Rattle.proof_scanner.specs.Laws.{TokensAreACut}

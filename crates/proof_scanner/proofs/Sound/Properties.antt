@@ -1,7 +1,7 @@
 -- Anchors, aliases and tags: what holds between two fetches holds after them.
-use Rattle.proof_scanner.proofs.Common.{Arrives, Entry, FlowLevel, Holds, Key, List, NameKind, None, Option, Position, ScannerState, Site, Tok, [], anchor_name, anchor_token, another, arith, false, fetch_anchor, fetch_tag, gives_node, in_flow, is_empty, mark_of, node_start, not, on_held, push, read, refl, seen, true, unled, went, ℕ, ◌∙◌, ◌∷◌, ◌≡◌, allow_key}
+use Rattle.proof_scanner.proofs.Common.{Arrives, Holds, List, NameKind, None, Position, ScannerState, Site, Tok, [], anchor_name, anchor_token, another, arith, false, fetch_anchor, fetch_tag, gives_node, in_flow, is_empty, mark_of, node_start, not, on_held, push, read, refl, seen, true, unled, went, ℕ, ◌∙◌, ◌∷◌, ◌≡◌, allow_key}
 use Rattle.model_scanner.specs.Tag as tags
-use Rattle.proof_scanner.proofs.Sound.Steps.{Onward, IsToken, ArrivesBy, deep_for, IsDeep, IsRead, node_read, reads_before_none, same_flow, saved_is, site_of, site_then, with_entries, saved_keys}
+use Rattle.proof_scanner.proofs.Sound.Steps.{Onward, IsToken, deep_for, IsDeep, node_read, reads_before_none, same_flow, saved_is, site_of, site_then, with_entries, saved_keys}
 use Rattle.proof_scanner.proofs.Cut.Pieces.Names.{IsProperty, name_property}
 use Rattle.proof_scanner.proofs.Cut.Pieces.Tags.{tag_property}
 

@@ -1,6 +1,6 @@
 -- Spaces, breaks and comments after a `?`: what the model reads there is all of them, and no TAB is among them but in comments.
 use Rattle.proof_scanner.proofs.Sound.Steps.{always, last_first}
-use Rattle.proof_scanner.proofs.Common.{WhitespaceExpected, At, Bool, Err, HasPassed, Held, Holds, List, ScannerState, [], after_separation, and_false, and_parts, ap, append_cancel_right, arith, begins_white_space, begins_with, begins_with_space_or_break, both_hold, eqb-true, false, has_break, has_no_break, has_tab_before_piece, if◌then◌else◌, inr, is_at_gap, is_blank, is_blank_or_end, is_break, is_nul, is_one_of, is_separation, last_line, no_break_hash, not, or_true, refl, refused, same_break, skip_yaml_whitespace, slice_index, sym, true, weakened, went, white, ℕ, ◌++◌, ◌==◌, ◌||◌, ◌∙◌, ◌∷◌, ◌≡◌, ◌⊎◌, white_space_is_passed}
+use Rattle.proof_scanner.proofs.Common.{WhitespaceExpected, At, Bool, Err, Held, Holds, List, ScannerState, [], after_separation, and_false, and_parts, ap, append_cancel_right, arith, begins_white_space, begins_with, begins_with_space_or_break, both_hold, eqb-true, false, has_break, has_no_break, has_tab_before_piece, if◌then◌else◌, inr, is_at_gap, is_blank, is_blank_or_end, is_break, is_nul, is_one_of, is_separation, last_line, no_break_hash, not, or_true, refl, refused, same_break, skip_yaml_whitespace, slice_index, sym, true, weakened, went, white, ℕ, ◌++◌, ◌==◌, ◌||◌, ◌∙◌, ◌∷◌, ◌≡◌, ◌⊎◌, white_space_is_passed}
 use Rattle.model_scanner.specs.Space.{at_break}
 use Rattle.proof_scanner.proofs.Cut.Passes.{read_holds}
 

@@ -1,5 +1,5 @@
 -- What the scan of a tag reads is its piece.
-use Rattle.proof_scanner.proofs.Common.{[], after, all_leading, ap, begins_with_mark, Bool, codes, eqb-true, false, has_no_break, is_alpha, is_break, is_decimal_digit, is_letter, is_same, is_tag, is_uri, IsTagRead, leading, List, Ok, Position, position_in_line, Read, read_as, refl, shorthand, Some, span_cut, sym, Tag, tag_of_class, TagIsRead, tags_end, Tok, true, verbatim, whole_tag, written_tag, ℕ, ◌++◌, ◌∙◌, ◌∷◌, ◌≡◌, arith, nat_tests}
+use Rattle.proof_scanner.proofs.Common.{[], after, all_leading, ap, begins_with_mark, Bool, codes, eqb-true, false, has_no_break, is_alpha, is_break, is_decimal_digit, is_letter, is_same, is_tag, is_uri, leading, List, Ok, Position, position_in_line, Read, read_as, refl, shorthand, Some, span_cut, sym, Tag, tag_of_class, TagIsRead, tags_end, Tok, true, verbatim, whole_tag, written_tag, ℕ, ◌++◌, ◌∙◌, ◌∷◌, ◌≡◌, arith, nat_tests}
 use Rattle.defs_text.specs.Tags.{named}
 use Rattle.model_scanner.specs.Tag as models
 use Rattle.proof_scanner.proofs.Cut.Pieces.Separations.{no_break_append}
