@@ -129,8 +129,7 @@ same_flow allowed again a ks es b = grind arith
 
 last_tokens : (h : Held) (ts : List Token) (x : Site) (es : List Entry) → is_empty h.flow ≡ is_empty es → AreLevels h.indent h.indents → h.tokens ≡ ts ++ ends_here (not (is_empty h.flow)) h.position x.blocks →
     (site_here (not (is_empty h.flow)) h.position x).blocks ≡ columns h.indent h.indents → (ended_at (unroll_indent 0 (at_stream_end h))).tokens ≡ ts ++ tokens_at_end h.position x.blocks es
-last_tokens h ts x [] e levels tokens blocks = grind (arith, ended_outside, append_assoc, ends_by_levels, ends_here, columns)
-last_tokens h ts x (y ∷ es) e levels tokens blocks = grind (arith, unrolled_in_flow, not-true, append-nil)
+last_tokens h ts x a e levels tokens blocks = grind (arith, ended_outside, append_assoc, ends_by_levels, ends_here, columns, unrolled_in_flow, not-true, append-nil)
 
 -- At the text's end the stream ends, unless a key must still come to its colon, and the tokens are those of a row of the text.
 pub stream_ended : (text : List ℕ) (t : ScannerState) → Arrives text t → t.rest ≡ [] →
