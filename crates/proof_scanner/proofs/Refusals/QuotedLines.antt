@@ -138,9 +138,8 @@ module _ (single : Bool) (ctx : Context) (start : Position) (least : ℕ) (limit
           started _ (model.quote_of single) r s gap p t (quote_white single) stood unlike (λ why at w. refused why at (arrived w)) (λ none deep i. reads _ (closed s (grind (arith, and_false))) (i ∙ closes single ctx start r p (joined t) ended))
 
       by : (s : LineStand) (m : Mode) → Stood p t s m → Ends s p (model.quote_of single ∷ r) (scan single ctx start (model.quote_of single ∷ r) m p t)
-      by s m (in_line deep) = in_its_line within (in_line deep) (λ e. absurd (cc e))
-      by s m (begins_here leads) = in_its_line at_start (begins_here leads) (λ e. absurd (cc e))
       by s m (escaped double leads) = reads _ (closed past_escaped refl) (after_quote single ctx start (model.quote_of single) (model.quote_of single ∷ r) p t refl refl ∙ closes single ctx start r p t ended)
+      by s m stood = in_its_line s stood (λ e. absurd (cc e))
 
   -- what is no closing quote is read after an escaped break as in a gap
   from_gap : (c : ℕ) (b : List ℕ) → (single ≡ false → (c == quote_of single) ≡ false) → (s : LineStand) (m : Mode) (p : Position) (t : Folded) → Stood p t s m → scan single ctx start (c ∷ b) m p t ≡ scan single ctx start (c ∷ b) gap p t
