@@ -1,8 +1,7 @@
 -- A text without NUL that has a row is read: each run ends the stream or is refused, and a text with a row is not refused.
 use Rattle.proof_row.proofs.OneRow.{one_reading}
-use Rattle.proof_scanner.proofs.Common.{arith, At, Err, false, Fault, fetch, fetch_stream_start, has_no_nul, HasTokens, held_of, here, inl, inr, IsRead, length, List, Ok, OutOfMemory, Reaches, refl, Result, ScannerState, Stands, start, suc, there, true, zero, ℕ, ◌<◌, ◌≡◌, ◌≤◌}
-use Rattle.proof_scanner.proofs.Refusals.Common.{Fetched, Told, fetched, first_fetch, tokens_are_of_a_row, with_row}
-use Rattle.proof_scanner.proofs.Sound.Runs.{stream_started}
+use Rattle.proof_scanner.proofs.Common.{arith, At, Err, false, Fault, fetch, fetch_stream_start, has_no_nul, held_of, here, inl, inr, IsRead, length, List, Ok, OutOfMemory, Reaches, refl, Result, ScannerState, Stands, start, suc, there, true, zero, ℕ, ◌<◌, ◌≡◌, ◌≤◌}
+use Rattle.proof_scanner.proofs.Refusals.Common.{Fetched, Told, fetched, first_fetch, tokens_are_of_a_row, with_row, stream_started}
 use Rattle.proof_scanner.specs.Goes.{IsComplete}
 use Rattle.proof_scanner.proofs.Refusals.KeysThatWait.{texts_with_a_row_are_not_stuck}
 use Rattle.proof_scanner.proofs.Refusals.Refusals.{refusal_told}
@@ -40,14 +39,11 @@ run_ends text nul =
     before (start text) first refl (first_fetch text) (outcome text nul (length text) first (stream_started text nul) (omega arith))
 
 pub texts_with_a_row_are_read : IsComplete
-texts_with_a_row_are_read text tokens nul (r, h, is) = by (run_ends text nul)
-  where
-    not_refused : (f : Fault) → Told text f → ⊥
-    not_refused OutOfMemory t = t
-    not_refused (At why at) t = texts_with_a_row_are_not_stuck text why at r h (t (with_row r h)).is_stuck
-
-    by : Outcome (start text) → HasTokens text tokens
-    by (ends u run ended) =
-        let mine : IsRead text u.held.tokens = tokens_are_of_a_row text u.held.tokens nul (record { end = u; run = run; ended = ended; tokens = refl }) in
-        record { end = u; run = run; ended = ended; tokens = one_reading text u.held.tokens tokens mine (r, h, is) }
-    by (refused u f run going e) = absurd (not_refused f (refusal_told text f nul (record { last = u; run = run; going = going; refused = e })))
+texts_with_a_row_are_read text tokens nul (r, h, is) =
+    let not_refused : (f : Fault) → Told text f → ⊥ = elim [ OutOfMemory ↦ λ t. t | At why at ↦ λ t. texts_with_a_row_are_not_stuck text why at r h (t (with_row r h)).is_stuck ] in
+    elim (run_ends text nul) [
+      | ends u run ended ↦
+          let mine : IsRead text u.held.tokens = tokens_are_of_a_row text u.held.tokens nul (record { end = u; run = run; ended = ended; tokens = refl }) in
+          record { end = u; run = run; ended = ended; tokens = one_reading text u.held.tokens tokens mine (r, h, is) }
+      | refused u f run going e ↦ absurd (not_refused f (refusal_told text f nul (record { last = u; run = run; going = going; refused = e })))
+    ]

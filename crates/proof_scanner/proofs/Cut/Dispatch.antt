@@ -23,10 +23,8 @@ pub record Marked (c : ℕ) (a : List ℕ) : Type 0 where
 
 pub marked : (c : ℕ) (a : List ℕ) → (0 == c) ≡ false → comes_marker c a ≡ true → Marked c a
 unfolding comes_marker is_blank is_break
-marked c [] z h = grind arith
-marked c (x ∷ []) z h = grind arith
-marked c (x ∷ y ∷ []) z h = grind arith
 marked c (x ∷ y ∷ z ∷ more) n h = grind (arith, nat_tests, same_gap)
+marked c a z h = grind arith
 
 pub no_marker : (a : List ℕ) → comes_marker 45 a ≡ false → comes_marker 46 a ≡ false → is_document_marker a ≡ false
 unfolding comes_marker are_marks is_blank is_break

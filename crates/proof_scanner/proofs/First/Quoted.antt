@@ -6,7 +6,7 @@ use Rattle.proof_scanner.specs.NoPiece as none
 use Rattle.proof_scanner.specs.QuotedLines as lines
 use Rattle.proof_scanner.proofs.Refusals.Common.{ends_before, same_has_break, quote_of}
 use Rattle.proof_scanner.proofs.Refusals.TextsRefused.{begins_lines}
-use Rattle.proof_scanner.proofs.Refusals.QuotedReasons.{one_reason, walk_of, after_quote_at, all_stand, indented_are, is_marked, by_end, by_escape, by_column, by_tab, by_marker, placed, Place, Wrong, Reason}
+use Rattle.proof_scanner.proofs.Refusals.QuotedReasons.{one_reason, walk_of, after_quote_at, all_stand, indented_are, is_marked, by_escape, Place, Wrong, Reason}
 
 -- ---- the quote
 
@@ -57,24 +57,24 @@ module _ (least : ℕ) (here : Position) (rest : List ℕ) where
         → (all_stand least (past_elements within es) (position_after (past here) body r).col last ≡ true → k ≡ false → Place single least here (past_elements within es) (position_after (past here) body r) r why at) → Reason single least here within (past here) more why at
     walked why at k last es body r cut no_feed are fit marks marker end =
         rw cut
-        (walk_of single least here (λ t q x. Wrong single least here t q x why at) last k r no_feed marker 0 body es within (past here) (omega arith) are fit (rw (off_margin here.col 0) marks) (λ f free n. placed why at free (end f n)))
+        (walk_of single least here (λ t q x. Wrong single least here t q x why at) last k r no_feed marker 0 body es within (past here) (omega arith) are fit (rw (off_margin here.col 0) marks) (λ f free n. inr (free, end f n)))
 
     by_text : (why : Problem) (n : IsNotQuoted single more why) → quoted_first single least more why n → Reason single least here within (past here) more why here
-    by_text why (none.by_marker body r e has marks) first = walked why here true [] has.0 body r e (further_is_no_break 0 r first.0) has.1 (indented has.0 first.1) marks (λ t q x h _. by_marker h) (λ f n. absurd (cc n))
-    by_text why (none.by_end has) first = walked why here false [] has.0 more [] (sym (append-nil more)) refl has.1 (indented has.0 first.1) first.0 (λ t q x h n. absurd (cc n)) (λ f n. by_end refl)
+    by_text why (none.by_marker body r e has marks) first = walked why here true [] has.0 body r e (further_is_no_break 0 r first.0) has.1 (indented has.0 first.1) marks (λ t q x h _. inl (h, refl, refl)) (λ f n. absurd (cc n))
+    by_text why (none.by_end has) first = walked why here false [] has.0 more [] (sym (append-nil more)) refl has.1 (indented has.0 first.1) first.0 (λ t q x h n. absurd (cc n)) (λ f n. inl (refl, refl, refl))
     by_text why (none.by_escape body r _ double e has bad) first =
-        walked why here false (content 92 ∷ []) has.0 body (92 ∷ r) e refl has.1 (sym (indented_are least within (past here).col (has.0 ++ content 92 ∷ [])) ∙ first.1) first.0 (λ t q x h n. absurd (cc n)) (λ f n. by_escape r why double refl bad f)
+        walked why here false (content 92 ∷ []) has.0 body (92 ∷ r) e refl has.1 (sym (indented_are least within (past here).col (has.0 ++ content 92 ∷ [])) ∙ first.1) first.0 (λ t q x h n. absurd (cc n)) (λ f n. by_escape single least here _ _ r why double bad f)
 
     by_lines : rest ≡ quote_of single ∷ more → (why : Problem) (at : Position) (n : IsQuotedFault single least here rest why at) → lines_first single least here rest why at n → Reason single least here within (past here) more why at
     unfolding classes.is_break classes.is_blank
     by_lines whole why at (lines.by_column body r es e are solid further low) first =
         let all : quote_of single ∷ more ≡ quote_of single ∷ (body ++ r) = sym whole ∙ e in
-        walked why at false [] es body r (cc all) (grind arith) are (indented es first.1) first.0 (λ t q x h n. absurd (cc n)) (λ f n. by_column solid further (ap (λ (q : Position). nat_lt q.col least) (sym (after_quote_at single here body r)) ∙ low))
+        walked why at false [] es body r (cc all) (grind arith) are (indented es first.1) first.0 (λ t q x h n. absurd (cc n)) (λ f n. inr (inr (inl (solid, further, ap (λ (q : Position). nat_lt q.col least) (sym (after_quote_at single here body r)) ∙ low, refl, refl))))
     by_lines whole why at (lines.by_tab body r es e are further low) first =
         let all : quote_of single ∷ more ≡ quote_of single ∷ (body ++ tab ∷ r) = sym whole ∙ e in
         let there = after_quote_at single here body (tab ∷ r) in
         rw there
-        (walked TabAsIndentation _ false [] es body (tab ∷ r) (cc all) refl are (indented es first.1) first.0 (λ t q x h n. absurd (cc n)) (λ f n. by_tab r refl further (ap (λ (q : Position). nat_lt q.col least) (sym there) ∙ low)))
+        (walked TabAsIndentation _ false [] es body (tab ∷ r) (cc all) refl are (indented es first.1) first.0 (λ t q x h n. absurd (cc n)) (λ f n. inr (inr (inr (r, refl, further, ap (λ (q : Position). nat_lt q.col least) (sym there) ∙ low, refl, refl)))))
 
     one_sorted : has_no_nul rest ≡ true → (why1 why2 : Problem) (at1 at2 : Position) → Sorted single more why1 at1 → Sorted single more why2 at2 → (why1 ≡ why2) × (at1 ≡ at2)
     one_sorted clean why1 why2 at1 at2 (inl x) (inl y) = one_reason single least here within (past here) more why1 why2 at1 at2 x.0 y.0

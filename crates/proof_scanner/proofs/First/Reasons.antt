@@ -176,16 +176,13 @@ no_later_dash collection s before rest more begins cut goes = no_flow true colle
 -- A scalar that goes on over two texts, each before a dash and a flow indicator, goes on over the same text.
 same_before : (collection : Option ℕ) (s : Stand) (a b x y : List ℕ) → a ++ 45 ∷ x ≡ b ++ 45 ∷ y → begins_flow x ≡ true → begins_flow y ≡ true → goes_on true collection s a (45 ∷ x) ≡ true → goes_on true collection s b (45 ∷ y) ≡ true → a ≡ b
 same_before collection s [] [] x y cut f g goes also = refl
-same_before collection s [] (d ∷ b) x y cut f g goes also = grind (arith, nat_tests, eqb-true, no_later_dash, further_on)
-same_before collection s (c ∷ a) [] x y cut f g goes also = grind (arith, nat_tests, eqb-true, no_later_dash, further_on)
 same_before collection s (c ∷ a) (d ∷ b) x y cut f g goes also = grind (arith, nat_tests, eqb-true, further_on, same_before collection (past s c) a b x y)
+same_before collection s a b x y cut f g goes also = grind (arith, nat_tests, eqb-true, no_later_dash, further_on)
 
 -- the same of a scalar's first character on
 same_start : (collection : Option ℕ) (a b x y : List ℕ) → a ++ 45 ∷ x ≡ b ++ 45 ∷ y → begins_flow x ≡ true → begins_flow y ≡ true → goes_over true collection a (45 ∷ x) ≡ true → goes_over true collection b (45 ∷ y) ≡ true → a ≡ b
-same_start collection [] [] x y cut f g goes also = refl
-same_start collection [] (d ∷ b) x y cut f g goes also = absurd (no_later_dash collection inside b x y f (cc cut) also)
-same_start collection (c ∷ a) [] x y cut f g goes also = absurd (no_later_dash collection inside a y x g (cc cut) goes)
 same_start collection (c ∷ a) (d ∷ b) x y cut f g goes also = let same : d ≡ c = cc cut in rw (same, same_before collection inside a b x y (cc cut) f g goes also) refl
+same_start collection a b x y cut f g goes also = grind (arith, no_later_dash)
 
 -- A reason at a plain scalar that comes first: its column; a TAB; or a dash.
 abbrev pub PlainReason : (in_flow : Bool) (collection : List ℕ) (here : Position) (text : List ℕ) → Problem → Position → Type 0
@@ -248,10 +245,9 @@ same_setting a b separation here like = grind (arith, nat_tests, eqb-true, same_
 pub first_tab : (in_comment : Bool) (p q x y : List ℕ) → p ++ 9 ∷ x ≡ q ++ 9 ∷ y → is_separation in_comment p (9 ∷ x) ≡ true → is_separation in_comment q (9 ∷ y) ≡ true → has_tab_before_piece in_comment p ≡ false → has_tab_before_piece in_comment q ≡ false → (p ≡ q) × (x ≡ y)
 unfolding is_blank is_break is_nul
 first_tab b [] [] x y e f g h k = grind (arith, nat_tests, eqb-true)
-first_tab b [] (d ∷ q) x y e f g h k = grind arith
-first_tab b (c ∷ p) [] x y e f g h k = grind arith
 first_tab true (c ∷ p) (d ∷ q) x y e f g h k = grind (arith, nat_tests, eqb-true, first_tab (not (is_break c)) p q x y)
 first_tab false (c ∷ p) (d ∷ q) x y e f g h k = grind (arith, nat_tests, eqb-true, first_tab (c == 35) p q x y)
+first_tab b p q x y e f g h k = grind arith
 
 -- ---- brackets and commas
 

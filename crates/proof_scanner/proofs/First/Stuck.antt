@@ -179,45 +179,40 @@ module _ (text : List ℕ) {why1 why2 : Problem} {at1 at2 : Position} (f : Claim
 
   -- A colon for which no key waits is the only one of its text, and nothing else fails.
   keyless_once : Keyless text g.account g.separation g.rest g.here → (why1 ≡ ValueNotAllowed) × (at1 ≡ g.here)
-  keyless_once z = elim (meet GivesUp Same (BeginsOrApart text) (keeps_apart text) f.way.steps way.steps after1 after2 first_account first_account f.account g.account (refl, tt, tt) (begins, inl (first_together, begins)) f.way.leads way.leads (f.way.spells ∙ sym way.spells) (clean_way text f.way.steps after1 f.way.spells)) [
-    | same_place like r e ↦
-        let cut = one_cut f.stands g.stands like (clean_place f.way) e in
-        elim f.says [
-          | inl x ↦ absurd (colon_alone g.account f.account (like_sym f.account g.account like) g.separation z.more g.here z.is_value z.is_outside (rw (sym z.is_rest) z.looked) z.has_no_tab_after why1 at1 (rw (sym z.is_rest, sym cut.0, sym cut.1, sym cut.2) x))
-          | inr x ↦ (x.0, x.1 ∙ cut.2)
-        ]
-    | second_on n ↦
-        let s : StepAt f.account f.separation f.rest f.here = step Same (λ x y e. ap (λ (u : Account). u.site) e) (BeginsOrApart text) f.stands g.stands n (clean_place f.way) in
-        elim f.says [
-          | inl x ↦
-              absurd (no_step_stands s (clear Same (λ x y e. ap (λ (u : Account). u.site) e) (BeginsOrApart text) f.stands g.stands n (clean_place f.way) (λ _. z.looked.has_no_tab)) why1 at1 x.fails)
-          | inr x ↦ absurd (keyless_step text f.separation f.rest x.2.more f.account f.here s x.2.is_rest n.holds.0 x.2.place.is_filled x.2.is_value x.2.is_outside x.2.is_line_taken x.2.has_none)
-        ]
-    | first_on n ↦
-        let s : StepAt g.account g.separation g.rest g.here = step GivesUp gives_up_site (λ x y. BeginsOrApart text y x) g.stands f.stands n (clean_place g.way) in
-        elim n.holds.1 [
-          | inl r ↦ absurd (keyless_step text g.separation g.rest z.more g.account g.here s z.is_rest r.1 z.place.is_filled z.is_value z.is_outside z.is_line_taken z.has_none)
-          | inr r ↦ absurd (no_colon_here s z.more z.is_rest z.is_value z.is_outside z.is_line_taken (λ q waiting unbroken near. cc (waiting, r.1.none)))
-        ]
-  ]
-    where
-      way : Way Same text after2 g.account
-      way = strict_way text after2 g.account z.place.begins
-
-      begins : Begins text (spelled f.way.steps after1) first_account
-      begins = rw f.way.spells (begins_at_start text)
+  keyless_once z =
+      let way : Way Same text after2 g.account = strict_way text after2 g.account z.place.begins in
+      let begins : Begins text (spelled f.way.steps after1) first_account = rw f.way.spells (begins_at_start text) in
+      elim (meet GivesUp Same (BeginsOrApart text) (keeps_apart text) f.way.steps way.steps after1 after2 first_account first_account f.account g.account (refl, tt, tt) (begins, inl (first_together, begins)) f.way.leads way.leads (f.way.spells ∙ sym way.spells) (clean_way text f.way.steps after1 f.way.spells)) [
+        | same_place like r e ↦
+            let cut = one_cut f.stands g.stands like (clean_place f.way) e in
+            elim f.says [
+              | inl x ↦ absurd (colon_alone g.account f.account (like_sym f.account g.account like) g.separation z.more g.here z.is_value z.is_outside (rw (sym z.is_rest) z.looked) z.has_no_tab_after why1 at1 (rw (sym z.is_rest, sym cut.0, sym cut.1, sym cut.2) x))
+              | inr x ↦ (x.0, x.1 ∙ cut.2)
+            ]
+        | second_on n ↦
+            let s : StepAt f.account f.separation f.rest f.here = step Same (λ x y e. ap (λ (u : Account). u.site) e) (BeginsOrApart text) f.stands g.stands n (clean_place f.way) in
+            elim f.says [
+              | inl x ↦
+                  absurd (no_step_stands s (clear Same (λ x y e. ap (λ (u : Account). u.site) e) (BeginsOrApart text) f.stands g.stands n (clean_place f.way) (λ _. z.looked.has_no_tab)) why1 at1 x.fails)
+              | inr x ↦ absurd (keyless_step text f.separation f.rest x.2.more f.account f.here s x.2.is_rest n.holds.0 x.2.place.is_filled x.2.is_value x.2.is_outside x.2.is_line_taken x.2.has_none)
+            ]
+        | first_on n ↦
+            let s : StepAt g.account g.separation g.rest g.here = step GivesUp gives_up_site (λ x y. BeginsOrApart text y x) g.stands f.stands n (clean_place g.way) in
+            elim n.holds.1 [
+              | inl r ↦ absurd (keyless_step text g.separation g.rest z.more g.account g.here s z.is_rest r.1 z.place.is_filled z.is_value z.is_outside z.is_line_taken z.has_none)
+              | inr r ↦ absurd (no_colon_here s z.more z.is_rest z.is_value z.is_outside z.is_line_taken (λ q waiting unbroken near. cc (waiting, r.1.none)))
+            ]
+      ]
 
 -- All claims of a text are one.
 pub stuck_once : (text : List ℕ) (why1 why2 : Problem) (at1 at2 : Position) → IsStuck text why1 at1 → IsStuck text why2 at2 → (why1 ≡ why2) × (at1 ≡ at2)
-stuck_once text why1 why2 at1 at2 s t = by f.says g.says
-  where
-    f : Claim text why1 at1
-    f = claim_of text why1 at1 s
-
-    g : Claim text why2 at2
-    g = claim_of text why2 at2 t
-
-    by : FailsFirst f.account f.separation f.here f.rest why1 at1 ⊎ ((why1 ≡ ValueNotAllowed) × (at1 ≡ f.here) × Keyless text f.account f.separation f.rest f.here) → FailsFirst g.account g.separation g.here g.rest why2 at2 ⊎ ((why2 ≡ ValueNotAllowed) × (at2 ≡ g.here) × Keyless text g.account g.separation g.rest g.here) → (why1 ≡ why2) × (at1 ≡ at2)
-    by (inl x) (inl y) = failing_once text f g x y
-    by x (inr y) = let r = keyless_once text f g y.2 in (r.0 ∙ sym y.0, r.1 ∙ sym y.1)
-    by (inr x) y = let r = keyless_once text g f x.2 in (x.0 ∙ sym r.0, x.1 ∙ sym r.1)
+stuck_once text why1 why2 at1 at2 s t =
+    let f : Claim text why1 at1 = claim_of text why1 at1 s in
+    let g : Claim text why2 at2 = claim_of text why2 at2 t in
+    elim g.says [
+      | inr y ↦ let r = keyless_once text f g y.2 in (r.0 ∙ sym y.0, r.1 ∙ sym y.1)
+      | inl y ↦ elim f.says [
+        | inl x ↦ failing_once text f g x y
+        | inr x ↦ let r = keyless_once text g f x.2 in (x.0 ∙ sym r.0, x.1 ∙ sym r.1)
+      ]
+    ]

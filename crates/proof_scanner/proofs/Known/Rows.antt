@@ -139,15 +139,13 @@ clean_after [] after h = h
 clean_after (w ∷ ws) after h = clean_after ws after (no_nul_after w.piece (spelled ws after) (no_nul_after w.separation (w.piece ++ spelled ws after) h))
 
 pub walk : (J : Account → Account → Type 0) (R : Account → Account → List ℕ → Type 0) → KeepsOn J Same R → (vs ws : List Step) (after last : List ℕ) (x y a : Account) → IsLike x y → R x y (spelled vs after) → LeadsBy J (Some x) vs after a → IsRowFrom (Some y) ws last → spelled vs after ≡ spelled ws last → Holds (has_no_nul (spelled vs after)) → Walked R a after
-walk J R keeps vs ws after last x y a i h leads row e clean = by (meet J Same R keeps vs ws after last x y a end.0 i h leads (strictly ws last (Some y) end.0 end.1) e clean)
-  where
-    end : (b : Account) × Leads (Some y) ws last b × (is_separation false last [] ≡ true) × (may_end b ≡ true)
-    end = row_end ws last (Some y) row
-
-    by : Meet J Same R a end.0 after last → Walked R a after
-    by (same_place like holds e) = record { account = end.0; is_like = like; holds = holds; steps = []; last = last; is_row = (end.2, end.3); spells = sym e; is_clean = clean_after vs after clean }
-    by (first_on n) = absurd (at_end n.account n.step last (spelled n.steps after) end.2 n.is_written (sym n.spells))
-    by (second_on n) = record { account = n.account; is_like = n.is_like; holds = n.holds; steps = n.step ∷ n.steps; last = last; is_row = (n.is_written, rw n.is_past (leads_row n.steps last (Some n.past) end.0 n.leads end.2 end.3)); spells = n.spells; is_clean = clean_after vs after clean }
+walk J R keeps vs ws after last x y a i h leads row e clean =
+    let end = row_end ws last (Some y) row in
+    elim (meet J Same R keeps vs ws after last x y a end.0 i h leads (strictly ws last (Some y) end.0 end.1) e clean) [
+      | same_place like holds e ↦ record { account = end.0; is_like = like; holds = holds; steps = []; last = last; is_row = (end.2, end.3); spells = sym e; is_clean = clean_after vs after clean }
+      | first_on n ↦ absurd (at_end n.account n.step last (spelled n.steps after) end.2 n.is_written (sym n.spells))
+      | second_on n ↦ record { account = n.account; is_like = n.is_like; holds = n.holds; steps = n.step ∷ n.steps; last = last; is_row = (n.is_written, rw n.is_past (leads_row n.steps last (Some n.past) end.0 n.leads end.2 end.3)); spells = n.spells; is_clean = clean_after vs after clean }
+    ]
 
 pub row_walks : (J : Account → Account → Type 0) (R : Account → Account → List ℕ → Type 0) → KeepsOn J Same R → (text after : List ℕ) (a : Account) (r : Row) → R first_account first_account (up_to_nul text) → Way J text after a → HasRow text r → Walked R a after
 row_walks J R keeps text after a r p way h = grind (arith, nat_tests, eqb-true, walk, first_account, clean_up_to_end)

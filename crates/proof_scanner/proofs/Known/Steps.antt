@@ -48,12 +48,11 @@ module _ (text : List ℕ) (a : Account) (w : Step) (next : List ℕ) (written :
 
   -- After a piece that is no part of a node no key waits.
   pub none_known : (p : Position) → is_in_flow a.entries ≡ false → begins_key (act_of w.shown) ≡ false → Way GivesUp text (w.separation ++ (w.piece ++ next)) a → KnowsKey text next p None
-  none_known p fl idle way = record { waiting = λ b begin g e l i. none b begin (came_by text a w next b way written g) e; required = λ b x g e m. absurd (cc e); rows = goes_past text a w next way written }
-    where
-      none : (b : Account) (begin : Position) → Came text a w next b → b.line ≡ waits begin → ⊥
-      none b begin c e =
-          let by : Made c.from.site c.from.line c.from.entries (With w c.key) next b → ⊥ = λ a. grind (arith, nat_tests, eqb-true, same_flow, waits_past) in
-          by (made c.from.site c.from.line c.from.entries (With w c.key) next b c.is_past)
+  none_known p fl idle way =
+      let none : (b : Account) (begin : Position) → Came text a w next b → b.line ≡ waits begin → ⊥ = λ b begin c e.
+      let by : Made c.from.site c.from.line c.from.entries (With w c.key) next b → ⊥ = λ a. grind (arith, nat_tests, eqb-true, same_flow, waits_past) in
+      by (made c.from.site c.from.line c.from.entries (With w c.key) next b c.is_past) in
+      record { waiting = λ b begin g e l i. none b begin (came_by text a w next b way written g) e; required = λ b x g e m. absurd (cc e); rows = goes_past text a w next way written }
 
 -- a part of a node, or a block scalar
 abbrev pub is_of_node : Act → Bool
@@ -112,16 +111,15 @@ module _ (text : List ℕ) (s : Site) (l line_here : Line) (allowed : Bool) (k :
           old d y i j (rw (sym j) (n.waiting x.from begin x.begins (waited false (begins_free_line s.before w.separation) x.from.line x.line begin x.sep f).0 near_line near_index))
 
       waited_on : (d : Bool) (y : Option Key) → allowed ≡ d → k ≡ y → (b : Account) (x : Key) (z : Past b) → saved d new y ≡ Some x → x.required ≡ true → z.after.line ≡ waits x.position
-      waited_on true (Some y) i j b x z e m = absurd (grind (arith, line_is))
       waited_on true None i j b x z e m =
           let same : new ≡ x = same_of new x e in
           let like : LikeLine l z.from.line = subst (λ o. LikeLine (line_by c o l) z.from.line) j z.is_like in
           let line : z.line ≡ free = (grind arith) in
           grind (arith, same, line, keyed, must, place)
-      waited_on false None i j b x z e m = absurd (cc e)
       waited_on false (Some y) i j b x z e m =
           let was : z.line ≡ waits x.position = (still_there false (begins_free_line s.before w.separation) z.from.line z.line x.position (n.required z.from x z.begins (j ∙ e) m) z.sep).1 in
           (grind arith)
+      waited_on d y i j b x z e m = grind (arith, line_is)
 
 -- ---- what is known of keys that wait, where a piece begins, is known after the piece and a separation
 

@@ -71,11 +71,8 @@ pub strict_way : (text after : List ℕ) (a : Account) → Begins text after a �
 strict_way text after a g = record { steps = g.steps; spells = g.spells; leads = strictly g.steps after (Some first_account) a g.leads }
 
 pub way_but_for_key : (text after : List ℕ) (begin : Position) (b : Account) → BeginsButForKey text after begin b → Way GivesUp text after b
-way_but_for_key text after begin b g = record {
-  steps = g.begins.steps ++ g.steps;
-  spells = spelled_append g.begins.steps g.steps after ∙ g.begins.spells;
-  leads = given_up_on g.begins.steps g.steps after (Some first_account) g.account b begin g.begins.leads g.line_is g.must_be g.leads;
-}
+way_but_for_key text after begin b g =
+    search (spelled_append g.begins.steps g.steps after ∙ g.begins.spells, given_up_on g.begins.steps g.steps after (Some first_account) g.account b begin g.begins.leads g.line_is g.must_be g.leads)
 
 -- ---- two ways
 

@@ -68,10 +68,9 @@ column_fault indent bs here text piece next b least e clean is untabbed low =
     (none.by_column piece w.header.text next (texts w.lines) b e read_here further (lines_written piece next w) empty (rw (least.1, ← column_is) parts.2) (rw (← column_is) parts.3), no_tab_fault)
   where
     parts : (is_at_end next ≡ false) × (is_none (first_content b.column true here piece) ≡ true) × (nat_le indent (further_position here piece next).col ≡ true) × (nat_lt (further_position here piece next).col b.column ≡ true)
-    parts = four (is_at_end next) _ _ _ low
-      where
-        four : (x y z u : Bool) → (((not x && y) && z) && u) ≡ true → (x ≡ false) × (y ≡ true) × (z ≡ true) × (u ≡ true)
-        four x y z u h = grind arith
+    parts =
+        let four : (x y z u : Bool) → (((not x && y) && z) && u) ≡ true → (x ≡ false) × (y ≡ true) × (z ≡ true) × (u ≡ true) = λ x y z u h. grind arith in
+        four (is_at_end next) _ _ _ low
 
     further : is_at_end next ≡ false
     further = parts.0

@@ -2,9 +2,8 @@
 use Rattle.proof_scanner.proofs.Common.{GoesOn, with_top, [], allow_key, and_false, and_parts, ap, append_assoc, arith, Arrives, At, begin_flow, begin_key, begin_keyless_mapping, begin_keyless_value, begin_line, begin_pair, begins_free_line, begins_with, begins_with_alpha, begins_with_space_or_break, blanks_and_comment, Bool, check_after_tab, check_block_entry, check_dash, check_document_end, check_key_space, check_value_space, chosen, closed_key, Collection, colon_may_precede, deepened_flow, directive_of, directives_end, end_entry, end_flow, ended_flow, entries_by, Entry, eqb-true, false, Fault, fetch_block_entry, fetch_directive, fetch_document_end, fetch_document_marker, fetch_flow_collection_end, fetch_flow_collection_start, fetch_flow_entry, fetch_key, fetch_value, followed_first, free, further, go_on, has, has_no_break, Held, held_of, Holds, in_flow, increase_flow_level, inl, inr, insert_key, is_alphanumeric, is_at_gap, is_blank, is_blank_or_breakz, is_breakz, is_empty, is_free, is_full, is_one_of, is_required, is_separation, is_taken, is_taken_line, is_value, is_value_here, IsDirectiveRefusal, IsFollowed, Key, leading, length, lexed, line_by, line_past_separation, List, may_ask, may_not_stand, MayChoose, nat_le, nat_lt, nat_tests, next_entry, No, no_key, None, not, not-false, not-true, Ok, on_held, opens, opens_pair, Option, or_true, OutOfMemory, outside_key, paired, pass_indicator, past, past_blanks_and_comment, past_line_rest, peek, Position, position_after, Problem, Read, refl, refused_as, remove_implicit_key, roll_entry, roll_indent, roll_one_col_indent, same_alpha, ScannerState, skip_indicator, skip_yaml_whitespace, slice_index, Some, space, subst, suc, sym, taken, takes_pair, Tok, top_key, true, try_held, unroll_indent, waits, white, Whitespace, Yes, ℕ, ◌&&◌, ◌++◌, ◌-◌, ◌==◌, ◌||◌, ◌∙◌, ◌∷◌, ◌≡◌, ◌≤◌, ◌⊎◌, append-nil, comment_of, is_break, is_decimal_digit, is_letter, is_on_line, past_comment, deepen, drop_open_level, BlockEntryInFlow, BlockEntryNotAllowed, ColonMisplaced, CommentNotSeparated, ContentAfterDocumentEnd, FlowTooDeep, KeyExpected, KeyNotAllowed, TabAfterColon, TabAfterDash, TabAfterKey, ValueNotAllowed, WhitespaceExpected}
 use Rattle.model_scanner.specs.Directive.{directive}
 use Rattle.model_scanner.specs.Block.{value_of}
-use Rattle.proof_scanner.proofs.Refusals.Common.{knowing, known_turn, held_exactly, Spaced, begins_here, gap_here, no_entries, no_tab_in, not_at_end, past_white, past_white_space, same_has_break, saved_is, saved_keys, spaced, spaces_skipped, value_is, white_cut, white_exactly, white_first, white_of, white_or_missed, is_alpha, after}
+use Rattle.proof_scanner.proofs.Refusals.Common.{knowing, known_turn, held_exactly, Spaced, begins_here, gap_here, no_entries, no_tab_in, not_at_end, past_white, past_white_space, same_has_break, saved_is, saved_keys, spaced, spaces_skipped, value_is, white_cut, white_exactly, white_first, white_of, white_or_missed, is_alpha, after, key_removed}
 use Rattle.proof_scanner.proofs.Sound.DocumentLines.{line_begun}
-use Rattle.proof_scanner.proofs.Cut.Documents.{key_removed}
 use Rattle.proof_scanner.proofs.Sound.Blanks.{same_in_line, line_rest_in_line, line_rest_cut, line_rest_fills, found_in, spaced_parted}
 use Rattle.proof_scanner.proofs.Refusals.Places.{Faults, fault, goes, read, in_turn, tried, checked, either, kept, IsRowless, Told, LiesDeep, rowless_told, account_by, place, many_levels, IsAllowed, stuck, in_flow_is, looked_at, none_begins, followed_stuck, white_goes, space_told, spaces_told, no_comment, no_comment_left, solid_past}
 use Rattle.proof_scanner.proofs.Refusals.KeysThatWait.{not_required, line_rowless, closing_rowless, none_waits}
@@ -78,10 +77,9 @@ module _ {text : List ℕ} {t : ScannerState} (a : Arrives text t) (some : is_em
   directive_told more e col =
       knowing (line_stays t) (tried t (line_told text t.held (line_rowless a some col))) (λ u s.
       read u.held (directive u.rest u.held.position) _
-      (λ f j. by f (refused_as (ap (λ r. directive r t.held.position) (sym (s.0 ∙ e)) ∙ (ap (λ q. directive u.rest q) (sym s.1) ∙ j)) (directives_end more t.held.position))) (λ x j. goes))
-    where
-      by : (f : Fault) → directives.IsNoDirective t.held.position more f → Told text f
-      by f (directives.no_directive line next cut one ends lacks why) = line_refused line next col (e ∙ ap (λ r. 37 ∷ r) cut) one ends lacks f why
+      (λ f j. elim (refused_as (ap (λ r. directive r t.held.position) (sym (s.0 ∙ e)) ∙ (ap (λ q. directive u.rest q) (sym s.1) ∙ j)) (directives_end more t.held.position)) [
+        | directives.no_directive line next cut one ends lacks why ↦ line_refused line next col (e ∙ ap (λ r. 37 ∷ r) cut) one ends lacks f why
+      ]) (λ x j. goes))
 
   pub marker_told : (tok : Tok) → t.held.position.col ≡ 0 → Faults (Told text) (fetch_document_marker tok t)
   unfolding fetch_document_marker

@@ -1,18 +1,10 @@
 -- A key that must be one waits in each row of the text; and while it waits no line ends. So no row goes on where a beginning has only gone on over a line's end by making no key of it.
-use Rattle.proof_scanner.proofs.Common.{or-false, cases_Bool, innermost, IsNotRight, [], Account, account_past, Act, act_of, ap, arith, begins_free_line, begins_separation, BeginsButForKey, blocks_at, Bool, Entry, fails, false, first_account, free, gives_node, has_break, HasRow, inl, inr, is_empty, is_in_column, is_in_flow, is_marker, is_separation, IsRowFrom, IsWritten, key_waits, length, LikeEntries, LikeLine, Line, line_past, line_past_separation, List, no_key, no_nul_after, None, not, not-true, not_ended, Outside, Position, position_after, position_in_line, previous_by, refl, Row, same_flow, Site, site_at, Some, spelled, Step, subst, sym, taken, TextsWithARowAreNotStuck, Tok, true, waits, ℕ, ◌++◌, ◌+◌, ◌<◌, ◌∙◌, ◌∷◌, ◌≡◌, ◌≤◌, ◌⊎◌, eqb-true, nat_tests, append-nil, append_assoc, append_cancel_right, AreAround, AreEntries, Arrives, Begins, comma, first_position, FlowLevel, gives_closing, gives_comma, GoesThrough, has_no_nul, has_required, HasNoKey, in_flow, is_blank, is_blank_or_end, is_break, is_far, is_flow, is_nul, is_required, IsNear, IsPositionIn, Key, Leads, mapping_closing, MayChoose, Option, outside_key, position_append, ScannerState, sequence_closing, Stands, suc, top_key, ◌||◌, IsAt}
-use Rattle.proof_scanner.proofs.Refusals.Common.{IsRowless, Keeps, Same, Walked, With, account_by, at_end, cut_position, in_flow_is, index_after, no_entries, not_before_after, not_none, piece_ends, place, stands_cut, step_here, strictly, walk, whole_text, with_entries}
+use Rattle.proof_scanner.proofs.Common.{or-false, cases_Bool, innermost, IsNotRight, [], Account, account_past, Act, act_of, ap, arith, begins_free_line, begins_separation, BeginsButForKey, blocks_at, Bool, Entry, fails, false, first_account, free, gives_node, has_break, HasRow, inl, inr, is_empty, is_in_column, is_in_flow, is_marker, is_separation, IsWritten, key_waits, length, LikeEntries, LikeLine, Line, line_past, line_past_separation, List, no_key, no_nul_after, None, not, not-true, not_ended, Outside, Position, position_after, position_in_line, previous_by, refl, Row, same_flow, Site, site_at, Some, spelled, Step, subst, sym, taken, TextsWithARowAreNotStuck, Tok, true, waits, ℕ, ◌++◌, ◌+◌, ◌<◌, ◌∙◌, ◌∷◌, ◌≡◌, ◌≤◌, ◌⊎◌, eqb-true, nat_tests, append-nil, append_assoc, append_cancel_right, AreAround, AreEntries, Arrives, Begins, comma, first_position, FlowLevel, gives_closing, gives_comma, GoesThrough, has_no_nul, has_required, HasNoKey, in_flow, is_blank, is_blank_or_end, is_break, is_far, is_flow, is_nul, is_required, IsNear, IsPositionIn, Key, Leads, mapping_closing, MayChoose, Option, outside_key, position_append, ScannerState, sequence_closing, Stands, suc, top_key, ◌||◌, IsAt}
+use Rattle.proof_scanner.proofs.Refusals.Common.{first_stays, IsRowless, Keeps, Same, Walked, With, account_by, at_end, cut_position, in_flow_is, index_after, no_entries, not_before_after, not_none, piece_ends, place, stands_cut, step_here, strictly, walk, whole_text, with_entries, same_of, waited, still_there, like_past, begun, kept, waits_past, Made, outside, inside, made}
 use Rattle.proof_scanner.proofs.Refusals.PiecesRefused.{Here, marker_begins, whole_by}
-use Rattle.proof_scanner.proofs.Known.Made.{same_of, waited, still_there, like_past, begun, kept, waits_past, Made, outside, inside, made}
-use Rattle.proof_scanner.proofs.Refusals.OtherRows.{none_ends, goes_near, keeps_on, row_begins, StepAt, RowAt, row_at, BeginsWith, begins_with_part}
+use Rattle.proof_scanner.proofs.Refusals.OtherRows.{GoesNear, goes_near, keeps_on, row_begins, StepAt, RowAt, row_at, BeginsWith, begins_with_part}
 use Rattle.proof_scanner.proofs.Refusals.NoRows.{failing_places_have_no_row, no_keyless_colon}
 use Rattle.proof_row.proofs.CutColumns.{unbroken}
-
--- ---- columns
-
--- collections that go on are not right of a column
-pub first_stays : (col : ℕ) (bs : List ℕ) → IsNotRight (innermost (not_ended col bs)) col
-first_stays col [] = tt
-first_stays col (n ∷ ns) = grind (arith, first_stays col ns)
 
 -- ---- the line of a key
 
@@ -37,26 +29,24 @@ pub here_on : (q : Position) (s : Site) (sep more : List ℕ) → OnLine q s →
 here_on q s sep more on f = grind (arith, stays)
 
 pub waiting_past : (s : Site) (l : Line) (es : List Entry) (w : Step) (next : List ℕ) (b : Account) → Waiting l s → IsWritten (with_entries s l es) w next → account_past (with_entries s l es) w next ≡ Some b → Waiting b.line b.site
-waiting_past s l es w next b on is e q wt = by (made s l es w next b e)
-  where
-    here : Position
-    here = position_after s.position w.separation (w.piece ++ next)
-
-    by : Made s l es w next b → OnLine q b.site
-    by (outside m o none sep past line site one) =
-        let unbroken : has_break w.piece ≡ false = grind (arith, wt, one) in
-        elim (waits_past _ _ _ _ w.key m o q past (sym line ∙ wt)) [
-          | begun k f h bs ↦ line_after q here w.piece w.shown next b.site (ap (λ (x : Site). x.position) site) (ap (λ (x : Site). x.before) site) (ap (λ (x : Position). x.line) h) (let col = ap (λ (x : Position). x.col) h in omega (arith, col)) is.1.0 unbroken (ap is_marker k)
-          | kept k f bs ↦
-              let was = waited false (begins_free_line s.before w.separation) l m q sep f in
-              let far = here_on q s w.separation (w.piece ++ next) (on q was.0) was.1 in
-              line_after q here w.piece w.shown next b.site (ap (λ (x : Site). x.position) site) (ap (λ (x : Site). x.before) site) far.0 (omega (arith, far.1)) is.1.0 unbroken (ap is_marker k)
-        ]
-    by (inside some sep site one) =
-        let unmarked : (c : Bool) → is_marker (act_of w.shown) ≡ c → suc q.col ≤ here.col → is_marker (act_of w.shown) ≡ false = λ c h e. grind (arith, nat_tests, eqb-true, marker_begins, next, is) in
-        let was = waited true (begins_free_line s.before w.separation) l b.line q sep wt in
-        let far = here_on q s w.separation (w.piece ++ next) (on q was.0) was.1 in
-        line_after q here w.piece w.shown next b.site (ap (λ (x : Site). x.position) site) (ap (λ (x : Site). x.before) site) far.0 (omega (arith, far.1)) is.1.0 (grind (arith, wt, one)) (unmarked (is_marker (act_of w.shown)) refl far.1)
+waiting_past s l es w next b on is e q wt =
+    let here : Position = position_after s.position w.separation (w.piece ++ next) in
+    elim (made s l es w next b e) [
+      | outside m o none sep past line site one ↦
+          let unbroken : has_break w.piece ≡ false = grind (arith, wt, one) in
+          elim (waits_past _ _ _ _ w.key m o q past (sym line ∙ wt)) [
+            | begun k f h bs ↦ line_after q here w.piece w.shown next b.site (ap (λ (x : Site). x.position) site) (ap (λ (x : Site). x.before) site) (ap (λ (x : Position). x.line) h) (let col = ap (λ (x : Position). x.col) h in omega (arith, col)) is.1.0 unbroken (ap is_marker k)
+            | kept k f bs ↦
+                let was = waited false (begins_free_line s.before w.separation) l m q sep f in
+                let far = here_on q s w.separation (w.piece ++ next) (on q was.0) was.1 in
+                line_after q here w.piece w.shown next b.site (ap (λ (x : Site). x.position) site) (ap (λ (x : Site). x.before) site) far.0 (omega (arith, far.1)) is.1.0 unbroken (ap is_marker k)
+          ]
+      | inside some sep site one ↦
+          let unmarked : (c : Bool) → is_marker (act_of w.shown) ≡ c → suc q.col ≤ here.col → is_marker (act_of w.shown) ≡ false = λ c h e. grind (arith, nat_tests, eqb-true, marker_begins, next, is) in
+          let was = waited true (begins_free_line s.before w.separation) l b.line q sep wt in
+          let far = here_on q s w.separation (w.piece ++ next) (on q was.0) was.1 in
+          line_after q here w.piece w.shown next b.site (ap (λ (x : Site). x.position) site) (ap (λ (x : Site). x.before) site) far.0 (omega (arith, far.1)) is.1.0 (grind (arith, wt, one)) (unmarked (is_marker (act_of w.shown)) refl far.1)
+    ]
 
 -- ---- a beginning and a row
 
@@ -135,11 +125,11 @@ apart_after s ds es w c next a b q j e1 e2 = by (made s taken ds w next a e1) (m
 -- ---- as far as a beginning leads
 
 pub together_keeps : Keeps (λ x y _. Together x y)
-together_keeps x y a b v c next i p h k e f = record {
-  known = known_after x.site x.line y.line x.entries y.entries v c next a b i.1 i.2 p.on_first p.known e (rw i.0 f);
-  on_first = waiting_past x.site x.line x.entries v next a p.on_first h e;
-  on = waiting_past y.site y.line y.entries (With v c) next b p.on k f;
-}
+together_keeps x y a b v c next i p h k e f = search (
+  known_after x.site x.line y.line x.entries y.entries v c next a b i.1 i.2 p.on_first p.known e (rw i.0 f),
+  waiting_past x.site x.line x.entries v next a p.on_first h e,
+  waiting_past y.site y.line y.entries (With v c) next b p.on k f,
+)
 
 pub apart_keeps : (q : Position) → Keeps (λ x y _. Apart q x y)
 apart_keeps q x y a b v c next i p h k e f =
@@ -155,7 +145,13 @@ first_together = record { known = λ q h. absurd (cc h); on_first = λ q h. absu
 -- Where a key that must be one waits in a beginning, no line ends before a place to which steps lead without it.
 pub key_on_its_line : (text separation rest : List ℕ) (begin here : Position) (a : Account) (r : Row) → BeginsButForKey text (separation ++ rest) begin a → is_separation false separation rest ≡ true → here ≡ position_after a.site.position separation rest → begin.line < here.line
     → is_empty rest ≡ false → begins_separation rest ≡ false → HasRow text r → ⊥
-key_on_its_line text separation rest begin here a r g filled here_is late some solid row = ends second.steps second.is_row second.spells
+key_on_its_line text separation rest begin here a r g filled here_is late some solid row =
+    let s = goes_near second.steps second.last after z begin second.holds.one second.is_row second.spells in
+    let n : GoesNear z s.0 s.1 begin = s.4 in
+    let at : (s.0.separation ≡ separation) × (s.0.piece ++ s.1 ≡ rest) = step_here z s.0 s.1 separation rest s.2 s.3 filled solid (no_nul_after separation rest second.is_clean) in
+    let unbroken : begins_free_line z.site.before separation ≡ false = subst (λ x. begins_free_line z.site.before x ≡ false) at.0 n.unbroken in
+    let line : here.line ≡ begin.line = ap (λ (p : Position). p.line) here_is ∙ (ap (λ (s : Site). (position_after s.position separation rest).line) second.is_like.0 ∙ (here_on begin z.site separation rest second.holds.on unbroken).0) in
+    omega (arith, late, line)
   where
     after : List ℕ
     after = separation ++ rest
@@ -176,14 +172,6 @@ key_on_its_line text separation rest begin here a r g filled here_is late some s
 
     z : Account
     z = second.account
-
-    ends : (ws : List Step) → IsRowFrom (Some z) ws second.last → spelled ws second.last ≡ after → ⊥
-    ends [] k f = none_ends z begin second.holds.one k.1
-    ends (w ∷ ws) k f =
-        let at : (w.separation ≡ separation) × (w.piece ++ spelled ws second.last ≡ rest) = step_here z w (spelled ws second.last) separation rest k.0 f filled solid (no_nul_after separation rest second.is_clean) in
-        let unbroken : begins_free_line z.site.before separation ≡ false = subst (λ x. begins_free_line z.site.before x ≡ false) at.0 (goes_near w ws second.last z begin second.holds.one k).unbroken in
-        let line : here.line ≡ begin.line = ap (λ (p : Position). p.line) here_is ∙ (ap (λ (s : Site). (position_after s.position separation rest).line) second.is_like.0 ∙ (here_on begin z.site separation rest second.holds.on unbroken).0) in
-        omega (arith, late, line)
 
 pub texts_with_a_row_are_not_stuck : TextsWithARowAreNotStuck
 texts_with_a_row_are_not_stuck text why at r row (fails a separation rest why2 here at2 place some solid f) = failing_places_have_no_row text separation rest a here at why r place solid some f.fails row
@@ -209,11 +197,8 @@ begins_waiting text after b g = along (λ x _. Waiting x.line x.site) (λ x y w 
 -- ---- positions
 
 further_in : (text f rest : List ℕ) (p : Position) → IsPositionIn text (f ++ rest) p → IsPositionIn text rest (position_after p f rest)
-further_in text f rest p at = record {
-  before = at.before ++ f;
-  is_text = at.is_text ∙ sym (append_assoc at.before f rest);
-  is_position = ap (λ q. position_after q f rest) at.is_position ∙ sym (position_append first_position at.before f rest);
-}
+further_in text f rest p at =
+    search (at.is_text ∙ sym (append_assoc at.before f rest), ap (λ q. position_after q f rest) at.is_position ∙ sym (position_append first_position at.before f rest))
 
 place_past : (text : List ℕ) (x y : Account) (w : Step) (next : List ℕ) → IsPositionIn text (w.separation ++ (w.piece ++ next)) x.site.position → account_past x w next ≡ Some y → IsPositionIn text next y.site.position
 place_past text x y w next at e = grind (arith, (made x.site x.line x.entries w next y e), further_in)
@@ -229,28 +214,24 @@ same_place text separation rest p b nul at g =
 -- While a key waits in the row, each part of the separation there ends on the key's line, and near.
 near_there : (text after : List ℕ) (q : Position) (g : GoesThrough text after) → g.account.line ≡ waits q → (separation rest : List ℕ) → after ≡ separation ++ rest → is_separation false separation rest ≡ true → is_far q (position_after g.account.site.position separation rest) ≡ false
 unfolding is_far
-near_there text after q g waiting separation rest cut filled = by g.steps g.is_row g.spells
-  where
-    by : (ws : List Step) → IsRowFrom (Some g.account) ws g.last → spelled ws g.last ≡ after → is_far q (position_after g.account.site.position separation rest) ≡ false
-    by [] row e = absurd (none_ends g.account q waiting row.1)
-    by (w ∷ ws) row e =
-        let next : List ℕ = w.piece ++ spelled ws g.last in
-        let p : Position = g.account.site.position in
-        let part : BeginsWith w.separation separation next rest = begins_with_part false w.separation separation next rest row.0.0 filled (piece_ends g.account w (spelled ws g.last) row.0) (e ∙ cut) in
-        let here : Position = position_after p separation rest in
-        let n = goes_near w ws g.last g.account q waiting row in
-        let on = here_on q g.account.site w.separation next (begins_waiting text after g.account g.begins q waiting) n.unbroken in
-        let whole : position_after p w.separation next ≡ position_after here part.more next = ap (λ f. position_after p f next) part.whole_is ∙ (position_append p separation part.more next ∙ ap (λ r. position_after (position_after p separation r) part.more next) (sym part.rest_is)) in
-        let later = (not_before_after here part.more next).0 in
-        grind (arith, nat_tests, whole, on.0, n.near, later, index_after here part.more next)
+near_there text after q g waiting separation rest cut filled =
+    let s = goes_near g.steps g.last after g.account q waiting g.is_row g.spells in
+    let w : Step = s.0 in
+    let n : GoesNear g.account w s.1 q = s.4 in
+    let next : List ℕ = w.piece ++ s.1 in
+    let p : Position = g.account.site.position in
+    let part : BeginsWith w.separation separation next rest = begins_with_part false w.separation separation next rest s.2.0 filled (piece_ends g.account w s.1 s.2) (s.3 ∙ cut) in
+    let here : Position = position_after p separation rest in
+    let on = here_on q g.account.site w.separation next (begins_waiting text after g.account g.begins q waiting) n.unbroken in
+    let whole : position_after p w.separation next ≡ position_after here part.more next = ap (λ f. position_after p f next) part.whole_is ∙ (position_append p separation part.more next ∙ ap (λ r. position_after (position_after p separation r) part.more next) (sym part.rest_is)) in
+    let later = (not_before_after here part.more next).0 in
+    grind (arith, nat_tests, whole, on.0, n.near, later, index_after here part.more next)
 
 -- At the text's end no key waits in the row.
 none_at_end : (text separation rest : List ℕ) (q : Position) (g : GoesThrough text (separation ++ rest)) → g.account.line ≡ waits q → is_separation false separation rest ≡ true → rest ≡ [] → ⊥
-none_at_end text separation rest q g waiting filled none = by g.steps g.is_row g.spells
-  where
-    by : (ws : List Step) → IsRowFrom (Some g.account) ws g.last → spelled ws g.last ≡ separation ++ rest → ⊥
-    by [] row e = none_ends g.account q waiting row.1
-    by (w ∷ ws) row e = at_end g.account w separation (spelled ws g.last) (rw (sym none) filled) row.0 (sym (append-nil separation) ∙ (ap (λ x. separation ++ x) (sym none) ∙ sym e))
+none_at_end text separation rest q g waiting filled none =
+    let s = goes_near g.steps g.last (separation ++ rest) g.account q waiting g.is_row g.spells in
+    at_end g.account s.0 separation s.1 (rw (sym none) filled) s.2 (sym (append-nil separation) ∙ (ap (λ x. separation ++ x) (sym none) ∙ sym s.3))
 
 -- ---- open keys
 
@@ -290,11 +271,13 @@ module _ {a : Account} {separation rest : List ℕ} {here : Position} (s : StepA
   made_here = made s.account.site s.account.line s.account.entries s.step s.next s.past s.is_past
 
   pub not_first : Waiting s.account.line s.account.site → here.col ≡ 0 → ⊥
-  not_first on col = let place = ap (λ (p : Position). p.col) s.position_is in omega (arith, (here_on q s.account.site s.step.separation (s.step.piece ++ s.next) (on q waiting) (unbroken made_here)).1, place, col)
-    where
-      unbroken : Made s.account.site s.account.line s.account.entries s.step s.next s.past → begins_free_line s.account.site.before s.step.separation ≡ false
-      unbroken (outside m o none sep past line site one) = (still_there false _ s.account.line m q waiting sep).0
-      unbroken (inside some sep site one) = (still_there true _ s.account.line s.past.line q waiting sep).0
+  not_first on col =
+      let unbroken : begins_free_line s.account.site.before s.step.separation ≡ false = elim made_here [
+        | outside m o none sep past line site one ↦ (still_there false _ s.account.line m q waiting sep).0
+        | inside some sep site one ↦ (still_there true _ s.account.line s.past.line q waiting sep).0
+      ] in
+      let place = ap (λ (p : Position). p.col) s.position_is in
+      omega (arith, (here_on q s.account.site s.step.separation (s.step.piece ++ s.next) (on q waiting) unbroken).1, place, col)
 
   pub not_closing : is_in_flow a.entries ≡ false → (act_of s.step.shown ≡ gives_comma) ⊎ (act_of s.step.shown ≡ gives_closing) → ⊥
   not_closing out act = elim made_here [
@@ -324,17 +307,16 @@ module _ {text : List ℕ} {t : ScannerState} (a : Arrives text t) (some : is_em
 
   -- If the innermost open key must be one, it waits where the row goes on; so no row does where no such step stands.
   rowless : ((b : Account) (s : StepAt b a.separation t.rest t.held.position) (q : Position) → is_in_flow b.entries ≡ false → s.account.line ≡ waits q → Waiting s.account.line s.account.site → ⊥) → is_required (top_key t.held.keys) ≡ true → IsRowless text
-  rowless refuted must r h = elim (cases_Bool (is_empty t.held.flow)) [
-    | inl out ↦
-        let k = found _ (top_key t.held.keys) (key_outside out) must in
-        let at : RowAt text (account_by a some true []) a.separation t.rest t.held.position = row_at text a.separation t.rest (account_by a some true []) t.held.position r (place a some true [] (may _ (a.is_near out))) a.is_solid some h in
-        refuted (account_by a some true []) at.step_at k.0.position (in_flow_is a some true [] ∙ ap not out) (a.knows.required at.step_at.account k.0 at.begins k.1 k.2) (begins_waiting text (a.separation ++ t.rest) at.step_at.account at.begins)
-    | inr i ↦ cc (free_inside t.held.key_allowed _ t.held.flow t.held.keys a.base.entries i a.are_entries, must)
-  ]
-    where
+  rowless refuted must r h =
       -- it is near
-      may : (k : Option Key) → IsNear k t.held.position → MayChoose true true k t.held.position t.rest
-      may a near = grind (arith, some)
+      let may : (k : Option Key) → IsNear k t.held.position → MayChoose true true k t.held.position t.rest = λ k near. grind (arith, some) in
+      elim (cases_Bool (is_empty t.held.flow)) [
+        | inl out ↦
+            let k = found _ (top_key t.held.keys) (key_outside out) must in
+            let at : RowAt text (account_by a some true []) a.separation t.rest t.held.position = row_at text a.separation t.rest (account_by a some true []) t.held.position r (place a some true [] (may _ (a.is_near out))) a.is_solid some h in
+            refuted (account_by a some true []) at.step_at k.0.position (in_flow_is a some true [] ∙ ap not out) (a.knows.required at.step_at.account k.0 at.begins k.1 k.2) (begins_waiting text (a.separation ++ t.rest) at.step_at.account at.begins)
+        | inr i ↦ cc (free_inside t.held.key_allowed _ t.held.flow t.held.keys a.base.entries i a.are_entries, must)
+      ]
 
   pub line_rowless : t.held.position.col ≡ 0 → is_required (top_key t.held.keys) ≡ true → IsRowless text
   line_rowless col = rowless (λ b s q out waiting on. not_first s q waiting on col)

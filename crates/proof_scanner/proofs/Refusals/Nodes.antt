@@ -84,10 +84,9 @@ module _ {text : List ℕ} {t : ScannerState} (a : Arrives text t) (some : is_em
   unfolding fetch_tag
   tag_told more e =
       read (node_start t.held) (tags.tag (in_flow t.held) t.rest t.held.position) _
-      (λ f k. by f (refused_as (ap (λ r. tags.tag (in_flow t.held) r t.held.position) (sym e) ∙ k) (tags_end (in_flow t.held) more t.held.position))) (λ x k. goes)
-    where
-      by : (f : Fault) → tag_ends.IsTagFault (in_flow t.held) t.held.position more f → Told text f
-      by f (tag_ends.at_start why reason) = λ _. none_begins a some lies why _ (none.tagless more why e reason) tt
+      (λ f k. elim (refused_as (ap (λ r. tags.tag (in_flow t.held) r t.held.position) (sym e) ∙ k) (tags_end (in_flow t.held) more t.held.position)) as (λ g w. Told text g) [
+        | tag_ends.at_start why reason ↦ λ _. none_begins a some lies why _ (none.tagless more why e reason) tt
+      ]) (λ x k. goes)
 
   -- `'` or `"`
   pub quoted_told : IsDeep t.held → (quotes : Quotes) (more : List ℕ) → t.rest ≡ none.quote_of (are_single quotes) ∷ more → Faults (Told text) (fetch_flow_scalar quotes t)

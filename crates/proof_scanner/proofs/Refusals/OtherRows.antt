@@ -1,6 +1,6 @@
 -- A row of a text goes through each place that a beginning of a row leads to, at an account that is like the beginning's; and its next piece stands there.
 use Rattle.proof_scanner.proofs.Common.{[], Account, account_past, ap, append-nil, Begins, begins_free_line, begins_separation, Bool, false, first_account, further_lines_stand, has_no_nul, HasRow, if◌then◌else◌, is_deep_enough, is_empty, is_gap, is_in_flow, is_indented_by_spaces, is_separation, IsLike, IsPlace, IsRowFrom, IsWritten, least_for, List, may_precede, no_nul_after, None, plain_scalar, Position, position_after, refl, Row, separations, Some, spelled, Step, subst, sym, true, up_to_nul, ℕ, ◌&&◌, ◌++◌, ◌∙◌, ◌∷◌, ◌≡◌, arith, eqb-true, nat_tests, act_of, and_parts, ends_separation, inl, inr, is_break, is_in_column, line_past, longer, may_end, not, Option, same_head, Site, site_at, waits, ◌+◌, ◌==◌, ◌≤◌, ◌⊎◌}
-use Rattle.proof_scanner.proofs.Refusals.Common.{some_row, Keeps, KeepsOn, Made, Same, Walked, With, begins_at_start, begins_past, ends_before, index_after, inside, made, outside, row_walks, step_here, still_there, strict_way, At}
+use Rattle.proof_scanner.proofs.Refusals.Common.{some_row, Keeps, KeepsOn, Same, Walked, With, begins_at_start, begins_past, ends_before, index_after, inside, made, outside, row_walks, step_here, still_there, strict_way, At}
 use Rattle.proof_row.proofs.Separations.{over}
 
 -- ---- a key that waits outside flow is near as long as a row goes on: its colon is still to come, on its line, at most 1024 characters after its start
@@ -15,31 +15,30 @@ pub record GoesNear (a : Account) (w : Step) (next : List ℕ) (q : Position) : 
   pub near : (position_after a.site.position w.separation (w.piece ++ next)).index ≤ q.index + 1024
 
 near_by : (w : Step) (ws : List Step) (last : List ℕ) (a : Account) (q : Position) → a.line ≡ waits q → IsRowFrom (Some a) (w ∷ ws) last → ((b : Account) → b.line ≡ waits q → IsRowFrom (Some b) ws last → b.site.position.index ≤ q.index + 1024) → GoesNear a w (spelled ws last) q
-near_by w ws last a q e row further = let c = some_row (account_past a w (spelled ws last)) ws last row.1 in of c.0 c.2 (made a.site a.line a.entries w (spelled ws last) c.0 c.1)
-  where
-    next : List ℕ
-    next = spelled ws last
-
-    at : Site
-    at = site_at false a.site w.separation w.piece w.shown next
-
-    of : (b : Account) → IsRowFrom (Some b) ws last → Made a.site a.line a.entries w next b → GoesNear a w next q
-    of b on (inside some sep site one) =
-        let there = still_there true (begins_free_line a.site.before w.separation) a.line b.line q e sep in
-        record { unbroken = there.0; near = (grind (arith, index_after, (ap (λ x. x.position) site), (further b there.1 on))) }
-    of b on (outside m o none sep past line site one) =
-        let there = still_there false (begins_free_line a.site.before w.separation) a.line m q e sep in
-        let on_or_near : (o.line ≡ waits q) ⊎ (at.position.index ≤ q.index + 1024) = grind (arith, (subst (λ l. line_past (is_in_column at.position.col at.blocks) at.position at.blocks (act_of w.shown) w.key l ≡ Some o) there.1 past)) in
-        record { unbroken = there.0; near = elim on_or_near [ inl still ↦ (grind (arith, index_after, (ap (λ x. x.position) site), (further b (line ∙ still) on))) | inr near ↦ near ] }
+near_by w ws last a q e row further =
+    let next : List ℕ = spelled ws last in
+    let at : Site = site_at false a.site w.separation w.piece w.shown next in
+    let c = some_row (account_past a w next) ws last row.1 in
+    elim (made a.site a.line a.entries w next c.0 c.1) [
+      | inside some sep site one ↦
+          let there = still_there true (begins_free_line a.site.before w.separation) a.line c.0.line q e sep in
+          record { unbroken = there.0; near = (grind (arith, index_after, (ap (λ x. x.position) site), (further c.0 there.1 c.2))) }
+      | outside m o none sep past line site one ↦
+          let there = still_there false (begins_free_line a.site.before w.separation) a.line m q e sep in
+          let on_or_near : (o.line ≡ waits q) ⊎ (at.position.index ≤ q.index + 1024) = grind (arith, (subst (λ l. line_past (is_in_column at.position.col at.blocks) at.position at.blocks (act_of w.shown) w.key l ≡ Some o) there.1 past)) in
+          record { unbroken = there.0; near = elim on_or_near [ inl still ↦ (grind (arith, index_after, (ap (λ x. x.position) site), (further c.0 (line ∙ still) c.2))) | inr near ↦ near ] }
+    ]
 
 -- where the last piece of a row ended while a key waits
 ends_near : (ws : List Step) (last : List ℕ) (a : Account) (q : Position) → a.line ≡ waits q → IsRowFrom (Some a) ws last → a.site.position.index ≤ q.index + 1024
 ends_near [] last a q e row = absurd (none_ends a q e row.1)
 ends_near (w ∷ ws) last a q e row = grind (arith, near_by w ws last a q e row (λ b. ends_near ws last b q), index_after)
 
--- While a key waits the row goes on so.
-pub goes_near : (w : Step) (ws : List Step) (last : List ℕ) (a : Account) (q : Position) → a.line ≡ waits q → IsRowFrom (Some a) (w ∷ ws) last → GoesNear a w (spelled ws last) q
-goes_near w ws last a q e row = near_by w ws last a q e row (λ b. ends_near ws last b q)
+-- While a key waits the row goes on so, by a step.
+pub goes_near : (ws : List Step) (last after : List ℕ) (a : Account) (q : Position) → a.line ≡ waits q → IsRowFrom (Some a) ws last → spelled ws last ≡ after
+    → (w : Step) × (next : List ℕ) × IsWritten a w next × (w.separation ++ (w.piece ++ next) ≡ after) × GoesNear a w next q
+goes_near [] last after a q e row h = absurd (none_ends a q e row.1)
+goes_near (w ∷ ws) last after a q e row h = (w, spelled ws last, row.0, h, near_by w ws last a q e row (λ b. ends_near ws last b q))
 
 -- ---- separations
 
@@ -122,20 +121,7 @@ abbrev pub step_from : (a b c : Account) (separation rest next : List ℕ) (here
     → StepAt a separation rest here
 step_from a b c separation rest next here w like written past e filled solid clean here_is =
     let at : (w.separation ≡ separation) × (w.piece ++ next ≡ rest) = step_here b w next separation rest written e filled solid clean in
-    record {
-      account = b;
-      is_like = like;
-      step = w;
-      next = next;
-      past = c;
-      is_written = written;
-      is_past = past;
-      separation_is = at.0;
-      text_is = at.1;
-      is_clean = clean;
-      here_is = here_is;
-      position_is = ap (λ s. position_after s.position w.separation (w.piece ++ next)) (sym like.0) ∙ (ap (λ f. position_after a.site.position f (w.piece ++ next)) at.0 ∙ (ap (λ z. position_after a.site.position separation z) at.1 ∙ sym here_is));
-    }
+    search (like, written, past, at.0, at.1, clean, here_is, ap (λ s. position_after s.position w.separation (w.piece ++ next)) (sym like.0) ∙ (ap (λ f. position_after a.site.position f (w.piece ++ next)) at.0 ∙ (ap (λ z. position_after a.site.position separation z) at.1 ∙ sym here_is)))
 
 pub row_at : (text separation rest : List ℕ) (a : Account) (here : Position) (r : Row) → IsPlace text a separation rest here → begins_separation rest ≡ false → is_empty rest ≡ false → HasRow text r → RowAt text a separation rest here
 row_at text separation rest a here r p solid some h = by g.steps g.is_row g.spells

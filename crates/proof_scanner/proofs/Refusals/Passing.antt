@@ -1,7 +1,6 @@
 -- Faults on the way to the next token, from a state between two fetches.
-use Rattle.proof_scanner.proofs.Common.{take, [], and_parts, ap, append-nil, append_assoc, arith, begins_white, Bool, chained, drop_stale, either, eqb-true, Err, fails, false, Fault, fetch, fetch_here, fetch_next, follows_plain, Held, Holds, in_flow, is_empty, is_far, is_indented_by_spaces, is_one_of, is_renewed, is_separation, IsReadOn, Key, List, map, may_not_stand, not, Ok, on_held, or_right, outside_key, Position, position_after, position_append, Previous, refl, refused, Result, ScannerState, skip_to_next_token, Some, stale, Stands, still, sym, top_key, tried, true, unroll_indent, went, ℕ, ◌++◌, ◌+◌, ◌<◌, ◌==◌, ◌∙◌, ◌∷◌, ◌≡◌, nat_tests, cases_Bool, inl, inr, TabInBlockIndentation, At, begins_line, begins_separation, between, fills_blank, Gap, has_tab_within, is_before_indent, is_blanks, IsTabRefusal, last_line, least_column, length, not-true, same_blank, same_break, separations_are_passed, skip, suc, ◌&&◌, ◌||◌, ◌≤◌, EndsAs, reads, refuses, tab_left}
-use Rattle.proof_scanner.proofs.Refusals.Common.{Exact, index_after, is_in, last_more, least_is, no_entries, not_before_after, separation_append, skip_stays, is_break}
-use Rattle.proof_scanner.proofs.Refusals.Places.{stuck_at, Faults, mapped, Told, fault, goes}
+use Rattle.proof_scanner.proofs.Common.{take, [], and_parts, ap, append-nil, append_assoc, arith, begins_white, Bool, chained, drop_stale, either, eqb-true, false, Fault, fetch, fetch_here, fetch_next, follows_plain, Held, Holds, in_flow, is_empty, is_far, is_indented_by_spaces, is_one_of, is_renewed, is_separation, IsReadOn, Key, List, map, may_not_stand, not, on_held, or_right, outside_key, Position, position_after, position_append, Previous, refl, refused, Result, ScannerState, skip_to_next_token, Some, stale, Stands, still, sym, top_key, tried, true, unroll_indent, went, ℕ, ◌++◌, ◌+◌, ◌<◌, ◌==◌, ◌∙◌, ◌∷◌, ◌≡◌, nat_tests, cases_Bool, inl, inr, TabInBlockIndentation, At, begins_line, begins_separation, between, fills_blank, Gap, has_tab_within, is_before_indent, is_blanks, IsTabRefusal, last_line, least_column, length, not-true, same_blank, same_break, separations_are_passed, skip, suc, ◌&&◌, ◌||◌, ◌≤◌, EndsAs, reads, refuses, tab_left}
+use Rattle.proof_scanner.proofs.Refusals.Common.{always, tab_among, Exact, index_after, is_in, last_more, least_is, no_entries, not_before_after, separation_append, skip_stays, is_break, stuck_at, Faults, mapped, Told, fault, goes}
 use Rattle.proof_scanner.proofs.Sound.Skips.{line_more, IsLeast, IsAt, IsIn, IsPassed, skip_tells}
 use Rattle.proof_scanner.specs.Failing as defs
 use Rattle.defs_text.specs.Classes as classes
@@ -13,11 +12,6 @@ use Rattle.std.proofs.Math.Seq.{take-append_seam}
 within_more : (n m : ℕ) (l r : List ℕ) → n ≤ m → has_tab_within n l ≡ true → has_tab_within m (l ++ r) ≡ true
 within_more (suc n) (suc m) (c ∷ l) r less h = grind (arith, within_more n m l r)
 within_more a m l r less h = grind arith
-
--- at the end of a line that is shorter
-within_end : (n : ℕ) (l : List ℕ) → length l < n → has_tab_within n (l ++ 9 ∷ []) ≡ true
-within_end (suc n) (c ∷ l) less = grind (arith, within_end n l)
-within_end a l less = grind arith
 
 -- ---- the way to the next token
 
@@ -51,7 +45,7 @@ module _ (before : Previous) (least : ℕ) where
   -- a TAB left of the innermost level
   tab_here : (g : List ℕ) (c : ℕ) (s : Held) → is_break c ≡ false → ((c == 9) && is_before_indent s) ≡ true → IsLeast before least s → IsAt before least g s → IsTabbed (g ++ c ∷ [])
   unfolding is_before_indent
-  tab_here g c s e f l h = grind (arith, nat_tests, line_more, last_more, within_end, same_break)
+  tab_here g c s e f l h = grind (arith, nat_tests, line_more, last_more, tab_among, same_break)
 
   -- a blank more in its line
   blank_after : (g : List ℕ) (c : ℕ) → is_break c ≡ false → IsTabbed g → IsTabbed (g ++ c ∷ [])
@@ -115,7 +109,8 @@ skip_refused before bs awaits begin separation t filled here l known = elim (cas
         -- two beginnings of a text that are equally long are the same
         let same_length : (a b r s : List ℕ) → a ++ r ≡ b ++ s → length a ≡ length b → a ≡ b = λ a b r s e n. sym (take-append_seam a r) ∙ (ap (λ k. take k (a ++ r)) n ∙ (ap (λ x. take (length b) x) e ∙ take-append_seam b s)) in
         let q : Position = position_after t.held.position (first ++ 9 ∷ blanks) rest in
-        let place : d.place ≡ q = cc (d.is_fault, fault_of e) in
+        let same_fault : f ≡ At TabInBlockIndentation q = cc e in
+        let place : d.place ≡ q = cc (d.is_fault, same_fault) in
         let index : d.place.index ≡ q.index = ap (λ y. y.index) place in
         let whole : t.rest ≡ (first ++ 9 ∷ blanks) ++ rest = cut ∙ sym (append_assoc first (9 ∷ blanks) rest) in
         let passed_is : d.passed ≡ first ++ 9 ∷ blanks = same_length d.passed (first ++ 9 ∷ blanks) d.rest rest (sym d.cut ∙ whole) (omega (arith, index, d.index_is, index_after t.held.position (first ++ 9 ∷ blanks) rest)) in
@@ -131,14 +126,11 @@ skip_refused before bs awaits begin separation t filled here l known = elim (cas
           is_filled = separation_append false separation (first ++ 9 ∷ blanks) rest (rw (← whole) filled) fill;
           goes_on = grind arith;
           is_solid = grind (arith, not-true);
-          is_fault = fault_of e ∙ ap (λ p. At TabInBlockIndentation p) there;
+          is_fault = same_fault ∙ ap (λ p. At TabInBlockIndentation p) there;
           is_later = rw (← there) ((not_before_after t.held.position (first ++ 9 ∷ blanks) rest).0);
           is_indented_by_tab = tabbed_is before bs awaits (separation ++ (first ++ 9 ∷ blanks))
               (rw (sym passed_is) d.tabbed.0) (rw (sym passed_is) d.tabbed.1);
         })
-      where
-        fault_of : {g : Fault} → ◌≡◌ {A = Result ScannerState Fault} (Err f) (Err g) → f ≡ g
-        fault_of e = cc e
 
 -- ---- keys that are near
 
@@ -146,13 +138,11 @@ skip_refused before bs awaits begin separation t filled here l known = elim (cas
 abbrev pub HasNear : Held → Type 0
 HasNear s = is_empty s.flow ≡ true → (k : Key) → top_key s.keys ≡ Some k → is_far k.position s.position ≡ false
 
-pub anything : {A : Type 0} (r : Result A Fault) → Holds (λ x. Unit {0}) r
-anything (Ok x) = went tt
-anything (Err f) = refused
-
 next_near : (t : ScannerState) → Holds (λ u. HasNear u.held) (fetch_next t)
 unfolding fetch_next stale drop_stale
-next_near t = chained (anything (skip_to_next_token t)) (λ u a. chained (anything _) (λ v b. chained (anything (fetch_here (on_held (λ s. unroll_indent (s.position.col + 1) s) v))) (λ w c. tried w (stale w.held) (grind (arith, nat_tests, eqb-true, either, in_flow, went, not, refused, top_key, map, still, is_far)) (λ h n. n))))
+next_near t =
+    let anything : (A : Type 0) (r : Result A Fault) → Holds (λ x. Unit {0}) r = λ A r. always r (λ x. tt) in
+    chained (anything _ (skip_to_next_token t)) (λ u a. chained (anything _ _) (λ v b. chained (anything _ (fetch_here (on_held (λ s. unroll_indent (s.position.col + 1) s) v))) (λ w c. tried w (stale w.held) (grind (arith, nat_tests, eqb-true, either, in_flow, went, not, refused, top_key, map, still, is_far)) (λ h n. n))))
 
 -- after a fetch
 pub fetch_near : (t : ScannerState) → t.held.started ≡ true → Holds (λ u. HasNear u.held) (fetch t)

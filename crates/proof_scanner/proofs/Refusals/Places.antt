@@ -1,9 +1,7 @@
 -- Where a piece begins, a row of the text may begin with all pieces before it; or a node which must be an implicit key waits there, and its line has ended.
-use Rattle.proof_scanner.proofs.Common.{Begins, IsCarriedOn, position_after, ◌≤◌, [], Account, ap, AreEntries, arith, Arrives, At, begins_document_at, Bool, chosen, columns, entries_by, Entry, Err, fails, FailsFirst, false, Fault, FlowLevel, followed_first, gives_node, has_open_level, HasRow, if◌then◌else◌, in_flow, is_empty, is_full, is_in_flow, is_taken, is_told, IsFollowed, IsLookedAt, IsNear, IsPlace, IsStuck, Key, key_waits, least_here, length, List, MayChoose, nat_lt, nat_tests, no_piece, no_piece_first, None, NoPiece, not, Ok, Option, or_left, or_right, OutOfMemory, outside_key, Position, Problem, refl, Row, ScannerState, site_at_place, site_in, Some, subst, sym, true, ℕ, ◌-◌, ◌<◌, ◌∙◌, ◌≡◌, is_shown, IsThere, eqb-true, cases_Bool, inl, inr, go_on, Held, lexed, Read, Result, with_held, ◌>>=◌, begins_separation, begins_white_space, begins_with, begins_with_space_or_break, ends_spaces, glued, HasNoWhiteSpace, HasPassed, Holds, is_at_gap, is_blank, is_blank_or_end, is_break, is_breakz, is_nul, is_separation, IsGlued, peek, refused_as, skip_spaces, skip_yaml_whitespace, SkipTabs, space, spaces_are_passed, white_space_is_passed, Yes, ◌++◌, ◌∷◌, CommentNotSeparated, EndsAs}
-use Rattle.proof_scanner.proofs.Sound.StreamEnds.{same_flow}
-use Rattle.proof_scanner.proofs.Cut.Stoods.{IsDeep}
+use Rattle.proof_scanner.proofs.Common.{Begins, IsCarriedOn, position_after, ◌≤◌, [], Account, ap, AreEntries, arith, Arrives, At, begins_document_at, Bool, chosen, columns, entries_by, Entry, Err, fails, FailsFirst, false, Fault, FlowLevel, followed_first, gives_node, has_open_level, HasRow, if◌then◌else◌, in_flow, is_empty, is_full, is_in_flow, is_taken, is_told, IsFollowed, IsLookedAt, IsNear, IsPlace, IsStuck, Key, key_waits, least_here, length, List, MayChoose, nat_lt, nat_tests, no_piece, no_piece_first, None, NoPiece, not, Ok, Option, or_left, or_right, OutOfMemory, outside_key, Position, Problem, refl, Row, ScannerState, site_at_place, site_in, Some, subst, sym, true, ℕ, ◌-◌, ◌<◌, ◌∙◌, ◌≡◌, is_shown, IsThere, eqb-true, cases_Bool, inl, inr, go_on, Held, lexed, Read, Result, with_held, ◌>>=◌, begins_separation, begins_white_space, begins_with, begins_with_space_or_break, ends_spaces, glued, HasNoWhiteSpace, HasPassed, Holds, is_at_gap, is_blank, is_blank_or_end, is_break, is_breakz, is_nul, is_separation, peek, refused_as, skip_spaces, skip_yaml_whitespace, SkipTabs, space, spaces_are_passed, white_space_is_passed, Yes, ◌++◌, ◌∷◌, CommentNotSeparated, EndsAs}
+use Rattle.proof_scanner.proofs.Sound.Common.{same_flow, IsDeep, many_around}
 use Rattle.proof_scanner.specs.Failing.{followed}
-use Rattle.proof_scanner.proofs.Sound.Arrivals.{many_around}
 use Rattle.proof_scanner.proofs.Sound.WhiteSpaces.{white_of, past_white, past_white_space, white_exactly}
 use Rattle.proof_scanner.proofs.Cut.Faults.Shown as shown
 use Rattle.model_scanner.proofs.Holds as holds
@@ -181,10 +179,7 @@ module _ {text : List ℕ} {t : ScannerState} (a : Arrives text t) (some : is_em
 
 -- over blanks and a comment in a line; what is to be said of a comment that no blank parts from what stands before it
 pub space_told : (text : List ℕ) (tabs : SkipTabs) (more : List ℕ) (p : Position) → (begins_with 35 more ≡ true → Told text (At CommentNotSeparated p)) → (f : Fault) → space tabs more p ≡ Err f → Told text f
-space_told text tabs more p why f k = by f (refused_as k (spaces_are_passed tabs more p))
-  where
-    by : (g : Fault) → IsGlued p more g → Told text g
-    by g (glued begins) = why begins
+space_told text tabs more p why f k = elim (refused_as k (spaces_are_passed tabs more p)) as (λ g w. Told text g) [ glued begins ↦ why begins ]
 
 pub spaces_told : (text : List ℕ) (tabs : SkipTabs) (t : ScannerState) → (begins_with 35 t.rest ≡ true → Told text (At CommentNotSeparated t.held.position)) → Faults (Told text) (skip_spaces tabs t)
 unfolding skip_spaces

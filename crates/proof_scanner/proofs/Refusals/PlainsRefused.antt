@@ -5,7 +5,7 @@ use Rattle.proof_row.proofs.Plains.{plains}
 use Rattle.proof_scanner.proofs.Refusals.OtherRows.{StepAt, IsClearGapAfter}
 use Rattle.proof_scanner.proofs.Refusals.PiecesRefused.{Here, acct, whole_at, node_site_past, flow_is, node_site, node_stands, here_stood}
 use Rattle.proof_row.proofs.Runs.{joined, neither}
-use Rattle.proof_scanner.proofs.Refusals.Common.{break_append, last_first, last_whole, plain_scalar, At, same_innermost, no_comment}
+use Rattle.proof_scanner.proofs.Refusals.Common.{tab_among, break_append, last_first, last_whole, plain_scalar, At, same_innermost, no_comment}
 use Rattle.proof_scanner.proofs.Sound.PlainLines.{first_line, line_is, all_lines, feed_first, first_is, others_are}
 use Rattle.defs_text.specs.Classes as classes
 use Rattle.defs_token.specs.Account as pieces
@@ -72,10 +72,9 @@ lines_go column s (c ∷ before) t h = lines_go column (past s c) before t (line
 pub tab_line : (column k : ℕ) (before z : List ℕ) → stand_after after_blank before ≡ on_line k → nat_lt k column ≡ true → plain_lines_fit column (before ++ 9 ∷ z) ≡ true → is_blanks (first_line z) ≡ true
 unfolding is_break is_blank
 tab_line column k before z stands low fit =
-    let by : (n : ℕ) → column - k ≡ n → line_is k column (9 ∷ first_line z) ≡ true → is_blanks (first_line z) ≡ true = λ n e h. grind (arith, nat_tests, low) in
     let h : lines_from column (on_line k) (9 ∷ z) ≡ true = ap (λ s. lines_from column s (9 ∷ z)) (sym stands) ∙ lines_go column after_blank before (9 ∷ z) fit in
     let q : line_is k column (9 ∷ first_line z) ≡ true = ap (line_is k column) (sym (first_is column 9 z refl)) ∙ (and_parts (line_is k column (first_line (9 ∷ z))) (plain_lines_fit column (9 ∷ z)) h).0 in
-    by (column - k) refl q
+    grind (arith, nat_tests, low, q)
 
 blank_in_line : (c : ℕ) → is_blank c ≡ true → is_break c ≡ false
 unfolding is_blank is_break
@@ -130,10 +129,6 @@ breaks_in s (c ∷ q) h k = grind (arith, breaks_in (past s c) q)
 column_is : (j k : ℕ) (q : List ℕ) → is_gap q ≡ true → has_break q ≡ false → stand_after (on_line j) q ≡ on_line k → j + length q ≡ k
 column_is j k [] g n e = grind arith
 column_is j k (c ∷ q) g n e = grind (arith, column_is (suc j) k q)
-
-tab_among : (n : ℕ) (q blanks : List ℕ) → length q < n → has_tab_within n (q ++ 9 ∷ blanks) ≡ true
-tab_among (suc n) (c ∷ q) blanks h = grind (arith, tab_among n q blanks)
-tab_among a q blanks h = grind arith
 
 tab_in_last : (n k : ℕ) (s : Stand) (q blanks : List ℕ) → is_gap q ≡ true → is_blanks blanks ≡ true → k < n → has_break q ≡ true → stand_after s q ≡ on_line k → has_tab_within n (last_line (q ++ 9 ∷ blanks)) ≡ true
 tab_in_last n k s [] blanks g b low br e = absurd (cc br)

@@ -1,5 +1,5 @@
 -- Why the text after an opening quote is refused, told of the text from an element on.
-use Rattle.proof_scanner.proofs.Common.{past, [], after_own, and_false, ap, append_assoc, are_indented, arith, at_start, begins_further, begins_solid, begins_with, begun_with, blank, Bool, content, drop, Element, element_of, elements, escaped_break, false, further_lines_fit, has_more, is_document_marker, IsBadEscape, line_break, Lines, lines_fit, lines_of, LineStand, List, local, LocalOf, marked_from, nat_lt, nat_tests, not, past_element, past_elements, past_escaped, past_is, Position, position_after, position_append, Problem, refl, replicate, Some, Spelled, subst, suc, sym, take, take-append-drop, true, within, zero, ℕ, ◌&&◌, ◌++◌, ◌+◌, ◌==◌, ◌∙◌, ◌∷◌, ◌≡◌, eqb-true, or-false, after_chars, along, along_more, append-nil, break_further, digit_value, double_quoted_element, escape, escape_by, feed_is_no_marker, has_marker, hexadecimal, in_line_position, is_cr_lf, is_in_line, line_position, None, numeric_escape, Option, past_break, plain_element, position_past, same_blank, same_break, same_feed, single_quoted_element, ◌*◌, ◌≤◌, QuotedDocumentMarker, QuotedEnd, QuotedIndentation, TabAsIndentation, and_parts, drop-append-le, ends_before, inl, inr, length, length-take, Local, lookup, number_at, numbered, numeric_escapes, take-append-le, cases_Bool, ◌||◌, ◌⊎◌, EscapedCode, HexadecimalDigit, UnknownEscape, feed_past}
+use Rattle.proof_scanner.proofs.Common.{past, [], after_own, and_false, ap, append_assoc, arith, at_start, begins_further, begins_solid, begins_with, begun_with, blank, Bool, content, drop, Element, element_of, elements, escaped_break, false, further_lines_fit, has_more, is_document_marker, IsBadEscape, line_break, Lines, lines_fit, lines_of, LineStand, List, local, LocalOf, marked_from, nat_lt, nat_tests, not, past_element, past_elements, past_escaped, past_is, Position, position_after, position_append, Problem, refl, replicate, Some, Spelled, subst, suc, sym, take, take-append-drop, true, within, zero, ℕ, ◌&&◌, ◌++◌, ◌+◌, ◌==◌, ◌∙◌, ◌∷◌, ◌≡◌, eqb-true, or-false, after_chars, along, along_more, append-nil, break_further, digit_value, double_quoted_element, escape, escape_by, feed_is_no_marker, has_marker, hexadecimal, in_line_position, is_cr_lf, is_in_line, line_position, None, numeric_escape, Option, past_break, plain_element, position_past, same_blank, same_break, same_feed, single_quoted_element, ◌*◌, ◌≤◌, QuotedDocumentMarker, QuotedEnd, QuotedIndentation, TabAsIndentation, and_parts, drop-append-le, ends_before, inl, inr, length, length-take, Local, lookup, number_at, numbered, numeric_escapes, take-append-le, cases_Bool, ◌||◌, ◌⊎◌, EscapedCode, HexadecimalDigit, UnknownEscape, feed_past}
 use Rattle.proof_scanner.proofs.Sound.QuotedBreaks.{Kind, has_content, has_blank, has_line, has_escaped, fits_from, lines_from, lines_here, empty_here, KindOf, kind, is_white}
 use Rattle.proof_scanner.specs.NoPiece.{quote_of}
 use Rattle.yaml_chars.specs.Class.{is_break, is_blank}
@@ -60,13 +60,12 @@ line_marks (c ∷ w) body rest h = grind (arith, line_marks w body rest)
 
 -- ---- an element
 
-module _ (single : Bool) (c : ℕ) (b : List ℕ) (e : Spelled) (is : element_of single c b ≡ Some e) where
-  -- the position after it
-  abbrev pub after_it : Position → Position
-  after_it p = position_after p (c ∷ take e.further b) (drop e.further b)
+-- the position after it
+abbrev pub after_it : (c : ℕ) (b : List ℕ) → Spelled → Position → Position
+after_it c b e p = position_after p (c ∷ take e.further b) (drop e.further b)
 
-  pub kind_of : Kind single c b e
-  kind_of = subst (λ o. KindOf single c b o) is (kind single c b)
+pub kind_of : (single : Bool) (c : ℕ) (b : List ℕ) (e : Spelled) → element_of single c b ≡ Some e → Kind single c b e
+kind_of single c b e is = subst (λ o. KindOf single c b o) is (kind single c b)
 
 escape_in_line : (b : List ℕ) (code k : ℕ) → escape b ≡ Some (spelled (content code) k) → is_in_line (92 ∷ take k b) ≡ true
 unfolding escape
@@ -77,37 +76,30 @@ pub content_in_line : (single : Bool) (c : ℕ) (b : List ℕ) (code k : ℕ) �
 unfolding single_quoted_element double_quoted_element plain_element classes.is_break
 content_in_line single c b code k is = grind (arith, nat_tests, eqb-true, escape_in_line)
 
-pub content_after : (single : Bool) (c : ℕ) (b : List ℕ) (code k : ℕ) → (is : element_of single c b ≡ Some (spelled (content code) k)) → (p : Position) → after_it single c b (spelled (content code) k) is p ≡ along (c ∷ take k b) p
+pub content_after : (single : Bool) (c : ℕ) (b : List ℕ) (code k : ℕ) → element_of single c b ≡ Some (spelled (content code) k) → (p : Position) → after_it c b (spelled (content code) k) p ≡ along (c ∷ take k b) p
 content_after single c b code k is p = ap (λ l. position_after p l (drop k b)) (sym (append-nil (c ∷ take k b))) ∙ after_chars (c ∷ take k b) [] (drop k b) p (content_in_line single c b code k is)
 
 off_margin : (n m : ℕ) → n + 1 ≤ m → (m == 0) ≡ false
 off_margin n m h = grind (arith, nat_tests, h)
 
+at_margin : (x : Bool) (col : ℕ) (body rest : List ℕ) → col ≡ 0 → x ≡ marked_from 0 body rest → x ≡ marked_from col body rest
+at_margin x col body rest h f = f ∙ ap (λ n. marked_from n body rest) (sym h)
+
 -- Whether a marker begins a line of a text that begins with an element: one begins a line after it.
-pub marks_after : (single : Bool) (c : ℕ) (b : List ℕ) (e : Spelled) → (is : element_of single c b ≡ Some e) → (p : Position) (body rest : List ℕ) → has_marker (c ∷ (take e.further b ++ body)) rest ≡ marked_from (after_it single c b e is p).col body rest
+pub marks_after : (single : Bool) (c : ℕ) (b : List ℕ) (e : Spelled) → element_of single c b ≡ Some e → Kind single c b e → (p : Position) (body rest : List ℕ) → has_marker (c ∷ (take e.further b ++ body)) rest ≡ marked_from (after_it c b e p).col body rest
 unfolding is_break classes.is_break
-marks_after single c b e is p body rest = by e is (kind_of single c b e is)
-  where
-    within : (w : List ℕ) (col : ℕ) → is_in_line w ≡ true → (col == 0) ≡ false → has_marker (w ++ body) rest ≡ marked_from col body rest
-    within w col h f = line_marks w body rest h ∙ rw f refl
-
-    at_margin : (x : Bool) (col : ℕ) → col ≡ 0 → x ≡ marked_from 0 body rest → x ≡ marked_from col body rest
-    at_margin x col h f = f ∙ ap (λ n. marked_from n body rest) (sym h)
-
-    by : (e : Spelled) → (is : element_of single c b ≡ Some e) → Kind single c b e → has_marker (c ∷ (take e.further b ++ body)) rest ≡ marked_from (after_it single c b e is p).col body rest
-    by e is (has_content code k solid) = grind (arith, nat_tests, eqb-true, content_after, within, content_in_line, off_margin, along_more)
-    by e is (has_blank f g) = grind (arith, nat_tests, within, same_break, past_is, p, off_margin, eqb-true)
-    by e is (has_line f) = at_margin _ _ (break_column c b p f) (grind (arith, same_break, feed_is_no_marker, f))
-    by e is (has_escaped d a double same_c same_b f) = grind (arith, nat_tests, eqb-true, at_margin, break_column, past_is, same_break, feed_is_no_marker)
+marks_after single c b e is (has_content code k solid) p body rest = grind (arith, nat_tests, eqb-true, content_after, line_marks (c ∷ take k b), content_in_line, off_margin, along_more)
+marks_after single c b e is (has_blank f g) p body rest = grind (arith, nat_tests, same_break, past_is, p, off_margin, eqb-true)
+marks_after single c b e is (has_line f) p body rest = at_margin _ _ body rest (break_column c b p f) (grind (arith, same_break, feed_is_no_marker, f))
+marks_after single c b e is (has_escaped d a double same_c same_b f) p body rest = grind (arith, nat_tests, eqb-true, at_margin, break_column, past_is, same_break, feed_is_no_marker)
 
 -- ---- indented lines, element by element
 
 -- whether an element may stand in a column, in a line that began so
 abbrev pub stands : (least : ℕ) → LineStand → (column : ℕ) → Element → Bool
-stands least s k (content c) = not (begins_further s false && nat_lt k least)
 stands least s k (blank c) = not (begins_further s false && (c == 9) && nat_lt k least)
 stands least s k line_break = true
-stands least s k escaped_break = not (begins_further s false && nat_lt k least)
+stands least s k e = not (begins_further s false && nat_lt k least)
 
 -- the column after it, as far as it matters
 abbrev pub column_past : ℕ → Element → ℕ
@@ -206,17 +198,20 @@ abbrev pub is_marked : Position → List ℕ → Bool
 is_marked p text = (p.col == 0) && is_document_marker text
 
 module _ (single : Bool) (least : ℕ) (start : Position) where
-  -- What is wrong at a place, but for a document marker.
-  pub data Place (s : LineStand) (p : Position) (text : List ℕ) : Problem → Position → Type 0 where
-    by_end : text ≡ [] → Place s p text QuotedEnd start
-    by_escape : (next : List ℕ) (why : Problem) → single ≡ false → text ≡ 92 ∷ next → IsBadEscape next why → all_stand least s p.col (content 92 ∷ []) ≡ true → Place s p text why start
-    by_column : begins_solid text ≡ true → begins_further s (begins_with (quote_of single) text) ≡ true → nat_lt p.col least ≡ true → Place s p text QuotedIndentation start
-    by_tab : (next : List ℕ) → text ≡ 9 ∷ next → begins_further s false ≡ true → nat_lt p.col least ≡ true → Place s p text TabAsIndentation p
+  -- What is wrong at a place, but for a document marker: the text ends; an escape is none; a further line begins left of the column; or a TAB stands there.
+  abbrev pub Place : LineStand → Position → List ℕ → Problem → Position → Type 0
+  Place s p text why at =
+      ((text ≡ []) × (why ≡ QuotedEnd) × (at ≡ start)) ⊎
+      (((next : List ℕ) × (single ≡ false) × (text ≡ 92 ∷ next) × IsBadEscape next why × (all_stand least s p.col (content 92 ∷ []) ≡ true) × (element_of single 92 next ≡ None) × (why ≡ escape_problem next) × (at ≡ start)) ⊎
+      (((begins_solid text ≡ true) × (begins_further s (begins_with (quote_of single) text) ≡ true) × (nat_lt p.col least ≡ true) × (why ≡ QuotedIndentation) × (at ≡ start)) ⊎
+      ((next : List ℕ) × (text ≡ 9 ∷ next) × (begins_further s false ≡ true) × (nat_lt p.col least ≡ true) × (why ≡ TabAsIndentation) × (at ≡ p))))
+
+  pub by_escape : (s : LineStand) (p : Position) (next : List ℕ) (why : Problem) → single ≡ false → IsBadEscape next why → all_stand least s p.col (content 92 ∷ []) ≡ true → Place s p (92 ∷ next) why start
+  by_escape s p next why double bad may = inr (inl (next, double, refl, bad, may, none_here single next why double bad, sym (bad_is next why bad), refl))
 
   -- the same, or a marker
-  pub data Wrong (s : LineStand) (p : Position) (text : List ℕ) : Problem → Position → Type 0 where
-    by_marker : is_marked p text ≡ true → Wrong s p text QuotedDocumentMarker start
-    placed : (why : Problem) (at : Position) → is_marked p text ≡ false → Place s p text why at → Wrong s p text why at
+  abbrev pub Wrong : LineStand → Position → List ℕ → Problem → Position → Type 0
+  Wrong s p text why at = ((is_marked p text ≡ true) × (why ≡ QuotedDocumentMarker) × (at ≡ start)) ⊎ ((is_marked p text ≡ false) × Place s p text why at)
 
   -- The closing quote stands at a place, and may stand there; the text and the position after it.
   pub record Closes (s : LineStand) (p : Position) (text rest : List ℕ) (end : Position) : Type 0 where
@@ -227,7 +222,7 @@ module _ (single : Bool) (least : ℕ) (start : Position) where
   -- Elements that may stand, and no marker before them, lead to a place at which this holds.
   pub data Walk (E : LineStand → Position → List ℕ → Type 0) : LineStand → Position → List ℕ → Type 0 where
     arrived : {s : LineStand} {p : Position} {text : List ℕ} → E s p text → Walk E s p text
-    stepped : {s : LineStand} {p : Position} (c : ℕ) (b : List ℕ) (e : Spelled) (is : element_of single c b ≡ Some e) → stands least s p.col e.element ≡ true → is_marked p (c ∷ b) ≡ false → Walk E (past_element s e.element) (after_it single c b e is p) (drop e.further b) → Walk E s p (c ∷ b)
+    stepped : {s : LineStand} {p : Position} (c : ℕ) (b : List ℕ) (e : Spelled) (is : element_of single c b ≡ Some e) → stands least s p.col e.element ≡ true → is_marked p (c ∷ b) ≡ false → Walk E (past_element s e.element) (after_it c b e p) (drop e.further b) → Walk E s p (c ∷ b)
 
   -- what is wrong with a text first, and where a scalar ends
   abbrev pub Reason : LineStand → Position → List ℕ → Problem → Position → Type 0
@@ -249,48 +244,42 @@ module _ (single : Bool) (least : ℕ) (start : Position) where
 
   -- ---- an element before
 
-  module _ (c : ℕ) (b : List ℕ) (e : Spelled) (is : element_of single c b ≡ Some e) where
-    abbrev pub past_it : Position → Position
-    past_it p = after_it single c b e is p
+  -- the column after an element is that of its position, where it matters
+  columns_are : (c : ℕ) (b : List ℕ) (e : Spelled) → Kind single c b e → (s : LineStand) (p : Position) (fs : List Element) → all_stand least (past_element s e.element) (column_past p.col e.element) fs ≡ all_stand least (past_element s e.element) (after_it c b e p).col fs
+  unfolding is_break
+  columns_are c b e (has_content code k solid) s p fs = within_alike least _ _ fs
+  columns_are c b e (has_blank f g) s p fs = grind (arith, nat_tests, eqb-true, blank, past_is)
+  columns_are c b e (has_line f) s p fs = ap (λ k. all_stand least at_start k fs) (sym (break_column c b p f))
+  columns_are c b e (has_escaped d a double same_c same_b f) s p fs = ap (λ k. all_stand least past_escaped k fs) (sym (grind (arith, break_column, past_is, same_c, same_b, f)))
 
+  module _ (c : ℕ) (b : List ℕ) (e : Spelled) where
     abbrev before : List ℕ → List ℕ
     before body = c ∷ (take e.further b ++ body)
 
     cut : (body rest : List ℕ) → drop e.further b ≡ body ++ rest → c ∷ b ≡ before body ++ rest
     cut body rest h = ap (λ x. c ∷ x) (sym (take-append-drop e.further b) ∙ ap (λ x. take e.further b ++ x) h ∙ sym (append_assoc (take e.further b) body rest))
 
-    more : (body rest : List ℕ) (es : List Element) → drop e.further b ≡ body ++ rest → elements (element_of single) 0 body ≡ Some es → elements (element_of single) 0 (before body) ≡ Some (e.element ∷ es)
-    more body rest es h i = grind (arith, nat_tests, eqb-true, (subst (λ o. LocalOf (element_of single c) b o) is (local single c b)), after_own)
+    more : element_of single c b ≡ Some e → (body rest : List ℕ) (es : List Element) → drop e.further b ≡ body ++ rest → elements (element_of single) 0 body ≡ Some es → elements (element_of single) 0 (before body) ≡ Some (e.element ∷ es)
+    more is body rest es h i = grind (arith, nat_tests, eqb-true, (subst (λ o. LocalOf (element_of single c) b o) is (local single c b)), after_own)
 
-    pub place : (p : Position) (body rest : List ℕ) → drop e.further b ≡ body ++ rest → position_after p (before body) rest ≡ position_after (past_it p) body rest
+    place : (p : Position) (body rest : List ℕ) → drop e.further b ≡ body ++ rest → position_after p (before body) rest ≡ position_after (after_it c b e p) body rest
     place p body rest h = position_append p (c ∷ take e.further b) body rest ∙ ap (λ x. position_after (position_after p (c ∷ take e.further b) x) body rest) (sym h)
 
-    -- the column after it is that of its position, where it matters
-    pub columns_are : (s : LineStand) (p : Position) (fs : List Element) → all_stand least (past_element s e.element) (column_past p.col e.element) fs ≡ all_stand least (past_element s e.element) (past_it p).col fs
-    unfolding is_break
-    columns_are s p fs = by e is (kind_of single c b e is)
-      where
-        by : (e : Spelled) → (is : element_of single c b ≡ Some e) → Kind single c b e → all_stand least (past_element s e.element) (column_past p.col e.element) fs ≡ all_stand least (past_element s e.element) (after_it single c b e is p).col fs
-        by e is (has_content code k solid) = within_alike least _ _ fs
-        by e is (has_blank f g) = grind (arith, nat_tests, eqb-true, blank, past_is)
-        by e is (has_line f) = ap (λ k. all_stand least at_start k fs) (sym (break_column c b p f))
-        by e is (has_escaped d a double same_c same_b f) = ap (λ k. all_stand least past_escaped k fs) (sym (grind (arith, break_column, past_is, same_c, same_b, f)))
-
-    marks_grown : (p : Position) → is_marked p (c ∷ b) ≡ false → (body rest : List ℕ) → drop e.further b ≡ body ++ rest → marked_from p.col (before body) rest ≡ marked_from (past_it p).col body rest
-    marks_grown p none body rest h = grind (arith, cut, none, marks_after)
+    marks_grown : element_of single c b ≡ Some e → (p : Position) → is_marked p (c ∷ b) ≡ false → (body rest : List ℕ) → drop e.further b ≡ body ++ rest → marked_from p.col (before body) rest ≡ marked_from (after_it c b e p).col body rest
+    marks_grown is p none body rest h = let kind = kind_of single c b e is in grind (arith, cut, none, marks_after, kind)
 
   pub parted : (E : LineStand → Position → List ℕ → Type 0) (s : LineStand) (p : Position) (text : List ℕ) → Walk E s p text → Parted E s p text
   parted E s p text (arrived x) = record { body = []; rest = text; es = []; is_text = refl; are = refl; fits = λ last h. h; marks = or-false (is_marked p text); holds = x }
   parted E s p text (stepped c b e is fit none w) =
-      let x : Parted E (past_element s e.element) (past_it c b e is p) (drop e.further b) = parted E _ _ _ w in
-      let end : position_after p (before c b e is x.body) x.rest ≡ position_after (past_it c b e is p) x.body x.rest = place c b e is p x.body x.rest x.is_text in
+      let x : Parted E (past_element s e.element) (after_it c b e p) (drop e.further b) = parted E _ _ _ w in
+      let end : position_after p (before c b e x.body) x.rest ≡ position_after (after_it c b e p) x.body x.rest = place c b e p x.body x.rest x.is_text in
       record {
-        body = before c b e is x.body;
+        body = before c b e x.body;
         rest = x.rest;
         es = e.element ∷ x.es;
-        is_text = cut c b e is x.body x.rest x.is_text;
+        is_text = cut c b e x.body x.rest x.is_text;
         are = more c b e is x.body x.rest x.es x.is_text x.are;
-        fits = λ last h. rw fit (columns_are c b e is s p (x.es ++ last) ∙ x.fits last (ap (λ (q : Position). all_stand least (past_elements (past_element s e.element) x.es) q.col last) (sym end) ∙ h));
+        fits = λ last h. rw fit (columns_are c b e (kind_of single c b e is) s p (x.es ++ last) ∙ x.fits last (ap (λ (q : Position). all_stand least (past_elements (past_element s e.element) x.es) q.col last) (sym end) ∙ h));
         marks = marks_grown c b e is p none x.body x.rest x.is_text ∙ (x.marks ∙ ap (λ q. is_marked q x.rest) (sym end));
         holds = rw end x.holds;
       }
@@ -317,19 +306,19 @@ module _ (single : Bool) (least : ℕ) (start : Position) where
       let own : Local (element_of single c) b e = subst (λ o. LocalOf (element_of single c) b o) f.1 (local single c b) in
       let fits : e.further ≤ length b = let k = own.fits in omega (arith, k, length-take e.further b) in
       let is : element_of single c (b ++ r) ≡ Some e = own.onward r no_feed in
-      let q : Position = after_it single c (b ++ r) e is p in
+      let q : Position = after_it c (b ++ r) e p in
       let rest : drop e.further (b ++ r) ≡ drop e.further b ++ r = drop-append-le e.further b r fits in
       let whole : take e.further (b ++ r) ++ drop e.further b ≡ b = ap (λ x. x ++ drop e.further b) (take-append-le e.further b r fits) ∙ take-append-drop e.further b in
-      let at : position_after p (c ∷ b) r ≡ position_after q (drop e.further b) r = ap (λ x. position_after p (c ∷ x) r) (sym whole) ∙ place c (b ++ r) e is p (drop e.further b) r rest in
+      let at : position_after p (c ∷ b) r ≡ position_after q (drop e.further b) r = ap (λ x. position_after p (c ∷ x) r) (sym whole) ∙ place c (b ++ r) e p (drop e.further b) r rest in
       let parts = and_parts (stands least s p.col e.element) (all_stand least (past_element s e.element) (column_past p.col e.element) (f.2 ++ last)) (ap (λ x. all_stand least s p.col (x ++ last)) (sym f.4) ∙ fit) in
       let End : List Element → Position → Type 0 = λ x z. all_stand least (past_elements s x) z.col last ≡ true → is_marked z r ≡ false → k ≡ false → G (past_elements s x) z r in
       let later : End (e.element ∷ f.2) (position_after q (drop e.further b) r) = subst (λ z. End (e.element ∷ f.2) z) at (subst (λ x. End x (position_after p (c ∷ b) r)) f.4 end) in
       elim (cases_Bool (is_marked p (c ∷ (b ++ r)))) [
         | inl g ↦ arrived (marker s p (c ∷ (b ++ r)) g (sym m ∙ ap (λ x. x || has_marker (c ∷ b) r) g))
         | inr g ↦
-            let marks : marked_from q.col (drop e.further b) r ≡ k = sym (marks_after single c (b ++ r) e is p (drop e.further b) r) ∙ (ap (λ x. has_marker (c ∷ x) r) whole ∙ (sym (ap (λ x. x || has_marker (c ∷ b) r) g) ∙ m)) in
+            let marks : marked_from q.col (drop e.further b) r ≡ k = sym (marks_after single c (b ++ r) e is (kind_of single c (b ++ r) e is) p (drop e.further b) r) ∙ (ap (λ x. has_marker (c ∷ x) r) whole ∙ (sym (ap (λ x. x || has_marker (c ∷ b) r) g) ∙ m)) in
             stepped c (b ++ r) e is parts.0 g (subst (λ x. Walk G (past_element s e.element) q x) (sym rest)
-            (walk_of G last k r no_feed marker e.further b f.2 (past_element s e.element) q fits f.3 (sym (columns_are c (b ++ r) e is s p (f.2 ++ last)) ∙ parts.1) marks later))
+            (walk_of G last k r no_feed marker e.further b f.2 (past_element s e.element) q fits f.3 (sym (columns_are c (b ++ r) e (kind_of single c (b ++ r) e is) s p (f.2 ++ last)) ∙ parts.1) marks later))
       ]
 
   -- ---- two walks from one place
@@ -348,39 +337,23 @@ module _ (single : Bool) (least : ℕ) (start : Position) where
       let same : u ≡ v = cc (is, also) in
       meets E F R e f both _ _ _ w (subst (λ x. Walk F (past_element s x.element) (position_after p (c ∷ take x.further b) (drop x.further b)) (drop x.further b)) same z)
 
-  -- what is said so of a place
-  abbrev Said : LineStand → Position → List ℕ → Problem → Position → Type 0
-  Said s p text why at =
-      ((is_marked p text ≡ true) × (why ≡ QuotedDocumentMarker) × (at ≡ start)) ⊎
-      ((is_marked p text ≡ false) × (((text ≡ []) × (why ≡ QuotedEnd) × (at ≡ start)) ⊎
-      (((next : List ℕ) × (text ≡ 92 ∷ next) × (element_of single 92 next ≡ None) × (stands least s p.col (content 92) ≡ true) × (why ≡ escape_problem next) × (at ≡ start)) ⊎
-      (((begins_solid text ≡ true) × (begins_further s (begins_with (quote_of single) text) ≡ true) × (nat_lt p.col least ≡ true) × (why ≡ QuotedIndentation) × (at ≡ start)) ⊎
-      ((next : List ℕ) × (text ≡ 9 ∷ next) × (begins_further s false ≡ true) × (nat_lt p.col least ≡ true) × (why ≡ TabAsIndentation) × (at ≡ p))))))
-
-  said : (why : Problem) (at : Position) (s : LineStand) (p : Position) (text : List ℕ) → Wrong s p text why at → Said s p text why at
-  said why at s p text (by_marker h) = inl (h, refl, refl)
-  said why at s p text (placed _ _ none (by_end e)) = inr (none, inl (e, refl, refl))
-  said why at s p text (placed _ _ none (by_escape next _ double cut bad may)) = inr (none, inr (inl (next, cut, none_here single next why double bad, grind arith, sym (bad_is next why bad), refl)))
-  said why at s p text (placed _ _ none (by_column solid further low)) = inr (none, inr (inr (inl (solid, further, low, refl, refl))))
-  said why at s p text (placed _ _ none (by_tab next cut further low)) = inr (none, inr (inr (inr (next, cut, further, low, refl, refl))))
-
   wrong_stops : (why : Problem) (at : Position) → Stops (λ t q x. Wrong t q x why at)
   unfolding is_blank is_break
-  wrong_stops why at s p c b e is fit none x = by e is fit (kind_of single c b e is) (said why at s p (c ∷ b) x)
+  wrong_stops why at s p c b e is fit none x = by e is fit (kind_of single c b e is) x
     where
-      by : (e : Spelled) → element_of single c b ≡ Some e → stands least s p.col e.element ≡ true → Kind single c b e → Said s p (c ∷ b) why at → ⊥
+      by : (e : Spelled) → element_of single c b ≡ Some e → stands least s p.col e.element ≡ true → Kind single c b e → Wrong s p (c ∷ b) why at → ⊥
       by e is fit (has_content code k solid) x = grind (arith, nat_tests, eqb-true, none)
       by e is fit (has_blank f g) x = grind (arith, nat_tests, eqb-true, none, same_blank, same_break)
       by e is fit (has_line f) x = grind (arith, nat_tests, eqb-true, none, same_blank, same_break)
       by e is fit (has_escaped d a double same_c same_b f) x = grind (arith, nat_tests, none)
 
-  one_wrong : (why1 why2 : Problem) (at1 at2 : Position) (s : LineStand) (p : Position) (text : List ℕ) → Said s p text why1 at1 → Said s p text why2 at2 → (why1 ≡ why2) × (at1 ≡ at2)
+  one_wrong : (why1 why2 : Problem) (at1 at2 : Position) (s : LineStand) (p : Position) (text : List ℕ) → Wrong s p text why1 at1 → Wrong s p text why2 at2 → (why1 ≡ why2) × (at1 ≡ at2)
   unfolding classes.is_blank classes.is_break
   one_wrong why1 why2 at1 at2 a p text x y = grind (arith, nat_tests)
 
   -- What is wrong first with a text is one thing at one position.
   pub one_reason : (s : LineStand) (p : Position) (text : List ℕ) (why1 why2 : Problem) (at1 at2 : Position) → Reason s p text why1 at1 → Reason s p text why2 at2 → (why1 ≡ why2) × (at1 ≡ at2)
-  one_reason s p text why1 why2 at1 at2 = meets _ _ _ (wrong_stops why1 at1) (wrong_stops why2 at2) (λ s p text x y. one_wrong why1 why2 at1 at2 s p text (said why1 at1 s p text x) (said why2 at2 s p text y)) s p text
+  one_reason s p text why1 why2 at1 at2 = meets _ _ _ (wrong_stops why1 at1) (wrong_stops why2 at2) (one_wrong why1 why2 at1 at2) s p text
 
   -- A marker begins a line here, or the closing quote stands here and may.
   abbrev Ends : List ℕ → LineStand → Position → List ℕ → Type 0
@@ -390,13 +363,13 @@ module _ (single : Bool) (least : ℕ) (start : Position) where
   unfolding single_quoted_element double_quoted_element classes.is_nul
   ends_stop next ends s p c b e is fit none x = grind (arith, nat_tests, eqb-true, ends_before)
 
-  no_end : (next : List ℕ) (why : Problem) (at : Position) → (why ≡ QuotedDocumentMarker → ⊥) → (s : LineStand) (p : Position) (text : List ℕ) → Said s p text why at → Ends next s p text → ⊥
+  no_end : (next : List ℕ) (why : Problem) (at : Position) → (why ≡ QuotedDocumentMarker → ⊥) → (s : LineStand) (p : Position) (text : List ℕ) → Wrong s p text why at → Ends next s p text → ⊥
   no_end next why at unlike a p text x y = grind (arith, nat_tests)
 
   -- Nothing but a marker is wrong where a body stands whose lines are indented, and its closing quote.
   pub not_closed : (s : LineStand) (p : Position) (body next : List ℕ) (es : List Element) → ends_before single next ≡ true → elements (element_of single) 0 body ≡ Some es → all_stand least s p.col (es ++ before_quote (past_elements s es)) ≡ true
       → (why : Problem) (at : Position) → (why ≡ QuotedDocumentMarker → ⊥) → Reason s p (body ++ quote_of single ∷ next) why at → ⊥
   not_closed s p body next es ends are fits why at unlike x =
-      meets _ (Ends next) ⊥ (wrong_stops why at) (ends_stop next ends) (λ s p text x. no_end next why at unlike s p text (said why at s p text x)) s p _ x
+      meets _ (Ends next) ⊥ (wrong_stops why at) (ends_stop next ends) (no_end next why at unlike) s p _ x
       (walk_of (Ends next) (before_quote (past_elements s es)) (marked_from p.col body (quote_of single ∷ next)) (quote_of single ∷ next) (grind arith) (λ t q y h i. inl h) 0 body es s p (omega arith) are fits refl
       (λ fit free k. inr (record { is_quote = refl; fit = fit; end_is = refl })))

@@ -4,7 +4,7 @@ use Rattle.proof_lexers.specs.QuotedScan as scans
 use Rattle.proof_scanner.proofs.Refusals.Common.{Faults, IsDeep, IsWhy, LiesDeep, QuotedAs, Told, Spaced, either, fault, followed_stuck, goes, in_turn, looked_at, none_begins, piece_of, saved_is, solid_past, some_chars, spaces_skipped, spaces_told, stuck_by, unglued, Checked, awaits_by, blocks_by, in_line, least_by, least_is, mapped, quoted_checked, same_has_break, stuck}
 use Rattle.proof_scanner.proofs.Sound.QuotedBreaks.{same_limit, has_elements, body_between}
 use Rattle.proof_scanner.proofs.Refusals.AfterQuoted.{check_passes, unglued as not_glued}
-use Rattle.proof_scanner.proofs.Refusals.QuotedReasons.{not_closed, after_quote_at, all_stand, indented_are, is_marked, by_end, by_escape, by_column, by_tab, by_marker, placed, Wrong, Reason, Parted, parted, lines_close}
+use Rattle.proof_scanner.proofs.Refusals.QuotedReasons.{not_closed, after_quote_at, all_stand, indented_are, is_marked, Wrong, Reason, Parted, parted, lines_close}
 use Rattle.proof_scanner.specs.NoPiece as none
 use Rattle.proof_scanner.specs.QuotedLines as lines
 use Rattle.proof_scanner.proofs.Refusals.QuotedLines.{is_of_lines, refused, reads, whole_ends}
@@ -175,27 +175,27 @@ module _ {text : List ℕ} {t : ScannerState} (a : Arrives text t) (some : is_em
           marks b h = rw (off_margin here.col 0) at (x.marks ∙ h)
 
           of : (why : Problem) (at : Position) → At why at ≡ f → Reason single least here within (past here) more why at → Wrong single least here (past_elements within x.es) (position_after (past here) x.body x.rest) x.rest why at → IsWhy text why at
-          of why at is w (by_marker h) =
-              none_begins a some lies QuotedDocumentMarker _
-              (none.unquoted single more QuotedDocumentMarker e (none_there (ap is_of_lines (sym is))) (none.by_marker x.body x.rest x.is_text (x.es, x.are) (marks true h)))
-              ((and_parts ((position_after (past here) x.body x.rest).col == 0) (is_document_marker x.rest) h).1, indented)
-          of why at is w (placed _ _ free (by_end ends)) =
+          of why at is w (inl h) =
+              rw (h.1, h.2) (none_begins a some lies QuotedDocumentMarker _
+              (none.unquoted single more QuotedDocumentMarker e (none_there (ap is_of_lines (sym is) ∙ rw h.1 refl)) (none.by_marker x.body x.rest x.is_text (x.es, x.are) (marks true h.0)))
+              ((and_parts ((position_after (past here) x.body x.rest).col == 0) (is_document_marker x.rest) h.0).1, indented))
+          of why at is w (inr (free, inl (ends, why_is, at_is))) =
               let all : more ≡ x.body = x.is_text ∙ (ap (λ r. x.body ++ r) ends ∙ append-nil x.body) in
-              none_begins a some lies QuotedEnd _
-              (none.unquoted single more QuotedEnd e (none_there (ap is_of_lines (sym is))) (none.by_end (x.es, subst (λ b. elements (element_of single) 0 b ≡ Some x.es) (sym all) x.are)))
-              (ap (λ b. has_marker b []) all ∙ (ap (λ r. has_marker x.body r) (sym ends) ∙ marks false free), indented)
-          of why at is w (placed _ _ free (by_escape next _ double cut bad may)) =
-              none_begins a some lies why _
-              (none.unquoted single more why e (none_there (ap is_of_lines (sym is) ∙ not_of_lines next why here bad)) (none.by_escape x.body next why double (x.is_text ∙ ap (λ r. x.body ++ r) cut) (x.es, x.are) bad))
-              (rw (← cut) (marks false free), indented_are least within (past here).col (x.es ++ content 92 ∷ []) ∙ x.fits (content 92 ∷ []) may)
-          of why at is w (placed _ _ free (by_column solid further low)) =
-              lines_stuck single QuotedIndentation here (none_fits why at (λ k. absurd (cc k)) w)
+              rw (why_is, at_is) (none_begins a some lies QuotedEnd _
+              (none.unquoted single more QuotedEnd e (none_there (ap is_of_lines (sym is) ∙ rw why_is refl)) (none.by_end (x.es, subst (λ b. elements (element_of single) 0 b ≡ Some x.es) (sym all) x.are)))
+              (ap (λ b. has_marker b []) all ∙ (ap (λ r. has_marker x.body r) (sym ends) ∙ marks false free), indented))
+          of why at is w (inr (free, inr (inl (next, double, cut, bad, may, lacks, is_problem, at_is)))) =
+              rw at_is (none_begins a some lies why _
+              (none.unquoted single more why e (none_there (ap is_of_lines (sym is) ∙ not_of_lines next why at bad)) (none.by_escape x.body next why double (x.is_text ∙ ap (λ r. x.body ++ r) cut) (x.es, x.are) bad))
+              (rw (← cut) (marks false free), indented_are least within (past here).col (x.es ++ content 92 ∷ []) ∙ x.fits (content 92 ∷ []) may))
+          of why at is w (inr (free, inr (inr (inl (solid, further, low, why_is, at_is))))) =
+              rw (why_is, at_is) (lines_stuck single QuotedIndentation here (none_fits why at (λ k. absurd (cc (k, why_is))) w)
               (lines.by_column x.body x.rest x.es (e ∙ ap (λ r. none.quote_of single ∷ r) x.is_text) x.are solid further (ap (λ (q : Position). nat_lt q.col least) (after_quote_at single here x.body x.rest) ∙ low))
-              (marks false free, indented)
-          of why at is w (placed _ _ free (by_tab next cut further low)) =
+              (marks false free, indented))
+          of why at is w (inr (free, inr (inr (inr (next, cut, further, low, why_is, at_is))))) =
               let same_place : position_after (past here) x.body x.rest ≡ position_after here (none.quote_of single ∷ x.body) (tab ∷ next) = sym (after_quote_at single here x.body x.rest) ∙ ap (λ r. position_after here (none.quote_of single ∷ x.body) r) cut in
-              rw same_place
-              (lines_stuck single TabAsIndentation (position_after here (none.quote_of single ∷ x.body) (tab ∷ next)) (none_fits why at (λ k. absurd (cc k)) w)
+              rw (why_is, at_is ∙ same_place)
+              (lines_stuck single TabAsIndentation (position_after here (none.quote_of single ∷ x.body) (tab ∷ next)) (none_fits why at (λ k. absurd (cc (k, why_is))) w)
               (lines.by_tab x.body next x.es (e ∙ ap (λ r. none.quote_of single ∷ r) (x.is_text ∙ ap (λ r. x.body ++ r) cut)) x.are further (ap (λ (q : Position). nat_lt q.col least) (sym same_place) ∙ low))
               (rw (← cut) (marks false free), indented))
 

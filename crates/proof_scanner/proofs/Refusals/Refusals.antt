@@ -105,14 +105,13 @@ known_on text nul t u (there {u = v} going e run) k = known_on text nul v u run 
 
 -- What a refusal says of the text.
 pub refusal_told : (text : List ℕ) (f : Fault) → has_no_nul text ≡ true → IsRefused text f → Told text f
-refusal_told text f nul r = elim k.fares [
-  | begins b ↦ absurd (cc (sym (first_fetch text) ∙ (ap fetch (sym b) ∙ r.refused)))
-  | goes s ↦ fault_is f (fetch_told text nul r.last s k.near) r.refused
-  | over g n m ↦ absurd (cc (g, r.going))
-]
-  where
-    k : Known text r.last
-    k = known_on text nul (start text) r.last r.run (record { fares = begins refl; near = λ o k e. absurd (cc e) })
+refusal_told text f nul r =
+    let k : Known text r.last = known_on text nul (start text) r.last r.run (record { fares = begins refl; near = λ o k e. absurd (cc e) }) in
+    elim k.fares [
+      | begins b ↦ absurd (cc (sym (first_fetch text) ∙ (ap fetch (sym b) ∙ r.refused)))
+      | goes s ↦ fault_is f (fetch_told text nul r.last s k.near) r.refused
+      | over g n m ↦ absurd (cc (g, r.going))
+    ]
 
 pub refused_texts_are_stuck : RefusedTextsAreStuck
 refused_texts_are_stuck text why at nul r told = (refusal_told text (At why at) nul r (kind told)).is_stuck

@@ -1,7 +1,6 @@
 -- The block collections that end where a piece begins: the levels that go on are those of the row, and each end has its token.
-use Rattle.proof_scanner.proofs.Common.{end_level, [], if◌then◌else◌, ap, append-nil, append_assoc, AreLevels, arith, Arrives, before_by, before_past, begins_free_line, begins_separation, begins_token, block_end, blocks, Bool, chained, columns, ends_at, ends_here, false, Fault, free, has_open_level, Holds, Indent, is_adjacent, is_at_comment_or_end, is_deeper, is_empty, is_indented_by_spaces, IsLine, IsLineHere, IsNear, Key, length, Levels, Line, line_past_separation, List, not, not-false, not_ended, on_held, Option, outside_key, Position, put, refl, replicate, Result, ScannerState, site_here, skip_to_next_token, Some, stale, Stands, sym, taken, Token, tried, true, try_held, unroll_indent, unrolled, with_levels, ℕ, ◌&&◌, ◌++◌, ◌+◌, ◌-◌, ◌==◌, ◌>>=◌, ◌∙◌, ◌∷◌, ◌≡◌, ◌≤◌, both_hold, length-append, ArrivesAmong}
-use Rattle.proof_scanner.proofs.Sound.Steps.{exact, shorter, stale_stands, unrolled_in_flow, unrolled_outside}
-use Rattle.proof_scanner.proofs.Sound.Rolled.{all_close, deeper_is}
+use Rattle.proof_scanner.proofs.Common.{cases_Bool, inl, inr, end_level, [], if◌then◌else◌, ap, append-nil, append_assoc, AreLevels, arith, Arrives, before_by, before_past, begins_free_line, begins_separation, begins_token, block_end, blocks, Bool, chained, columns, ends_at, ends_here, false, Fault, free, has_open_level, Holds, Indent, is_adjacent, is_at_comment_or_end, is_deeper, is_empty, is_indented_by_spaces, IsLine, IsLineHere, IsNear, Key, length, Levels, Line, line_past_separation, List, not, not-false, not_ended, on_held, Option, outside_key, Position, put, refl, replicate, Result, ScannerState, site_here, skip_to_next_token, Some, stale, Stands, sym, taken, Token, tried, true, try_held, unroll_indent, unrolled, with_levels, ℕ, ◌&&◌, ◌++◌, ◌+◌, ◌-◌, ◌==◌, ◌>>=◌, ◌∙◌, ◌∷◌, ◌≡◌, ◌≤◌, both_hold, length-append, ArrivesAmong}
+use Rattle.proof_scanner.proofs.Sound.Steps.{exact, shorter, stale_stands, unrolled_in_flow, unrolled_outside, all_close, deeper_is}
 use Rattle.proof_scanner.proofs.Sound.ToToken.{passed_stands}
 use Rattle.proof_row.proofs.Inserted.{before_again}
 
@@ -81,20 +80,16 @@ arrives_with text v s solid near u blocks awaits levels tokens = record {
 
 -- Where the next piece begins the block collections that are deeper end.
 pub arrives_now : (text : List ℕ) (v : ScannerState) → Stands text v → begins_separation v.rest ≡ false → HasNearKey v → Arrives text (on_held (λ s. unroll_indent (s.position.col + 1) s) v)
-arrives_now text v s solid near = by (is_empty v.held.flow) refl
-  where
-    p : Position
-    p = v.held.position
-
-    by : (out : Bool) → is_empty v.held.flow ≡ out → Arrives text (on_held (λ s. unroll_indent (s.position.col + 1) s) v)
-    by false e =
-        rw (unrolled_in_flow (p.col + 1) v.held e)
-        (arrives_with text v s solid near (record { indent = v.held.indent; indents = v.held.indents; tokens = v.held.tokens }) (grind arith) (grind arith) s.are_levels (grind (arith, append-nil)))
-    by true e =
-        let u : Levels = unrolled (p.col + 1) p v.held.indent v.held.indents v.held.tokens in
-        let z : Ended p s.base.site.blocks s.base.site.awaits v.held.tokens u = rw (s.blocks_are, s.awaits_is) (levels_end p v.held.indent v.held.indents v.held.tokens s.are_levels) in
-        rw (unrolled_outside (p.col + 1) v.held e)
-        (arrives_with text v s solid near u (grind (arith, z)) (grind (arith, z)) z.are_levels (grind (arith, z)))
+arrives_now text v s solid near = let p : Position = v.held.position in elim (cases_Bool (is_empty v.held.flow)) [
+  | inr e ↦
+      rw (unrolled_in_flow (p.col + 1) v.held e)
+      (arrives_with text v s solid near (record { indent = v.held.indent; indents = v.held.indents; tokens = v.held.tokens }) (grind arith) (grind arith) s.are_levels (grind (arith, append-nil)))
+  | inl e ↦
+      let u : Levels = unrolled (p.col + 1) p v.held.indent v.held.indents v.held.tokens in
+      let z : Ended p s.base.site.blocks s.base.site.awaits v.held.tokens u = rw (s.blocks_are, s.awaits_is) (levels_end p v.held.indent v.held.indents v.held.tokens s.are_levels) in
+      rw (unrolled_outside (p.col + 1) v.held e)
+      (arrives_with text v s solid near u (grind (arith, z)) (grind (arith, z)) z.are_levels (grind (arith, z)))
+]
 
 -- where a piece begins, after stale keys
 pub stale_arrives : (text : List ℕ) (u : ScannerState) → Stands text u → begins_separation u.rest ≡ false →

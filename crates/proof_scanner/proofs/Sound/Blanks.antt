@@ -43,8 +43,7 @@ pub line_rest_cut : (a : List ℕ) → a ≡ blanks_and_comment a ++ past_blanks
 line_rest_cut a = span_cut is_blank a ∙ (ap (λ r. leading is_blank a ++ r) (comment_cut (after is_blank a)) ∙ sym (append_assoc (leading is_blank a) (comment_of (after is_blank a)) (past_comment (after is_blank a))))
   where
     comment_cut : (b : List ℕ) → b ≡ comment_of b ++ past_comment b
-    comment_cut [] = refl
-    comment_cut (c ∷ b) = grind (arith, span_cut is_on_line (c ∷ b))
+    comment_cut b = grind (arith, span_cut is_on_line)
 
 comment_fills : (a : List ℕ) → is_separation true (leading is_on_line a) (after is_on_line a) ≡ true
 comment_fills [] = refl

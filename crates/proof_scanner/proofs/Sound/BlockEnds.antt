@@ -1,5 +1,5 @@
 -- What stands after a block scalar that the scanner reads: it stands clear of the scalar.
-use Rattle.proof_scanner.proofs.Common.{AreLines, Block, BlockRead, BlockStyle, Break, IsBlockRead, Lined, List, None, Ok, Option, Position, Read, Some, [], after_line, after_spell, and_parts, ap, are_empty, arith, block, block_may_end, block_read, collection_of, eqb-true, false, first_content, first_empty, first_header, has_no_nul, indicator_of, innermost, is_at_end, is_empty_line, is_literal_style, is_shallow, is_tabbed, leading_spaces, least_column, lined, nat_tests, past_spaces, position_after, position_past, read_as, read_block, read_lines, read_may_end, refl, slice_index, space_past, spell, split, split_spell, texts, true, whole_block, ℕ, ◌++◌, ◌+◌, ◌==◌, ◌∙◌, ◌∷◌, ◌≡◌, lines_front}
+use Rattle.proof_scanner.proofs.Common.{AreLines, Block, BlockRead, BlockStyle, Break, Lined, List, None, Ok, Option, Position, Read, Some, [], after_line, after_spell, and_parts, ap, are_empty, arith, block, block_may_end, block_read, collection_of, eqb-true, false, first_content, first_empty, first_header, has_no_nul, indicator_of, innermost, is_at_end, is_empty_line, is_literal_style, is_shallow, is_tabbed, leading_spaces, least_column, lined, nat_tests, past_spaces, position_after, position_past, read_as, read_block, read_lines, read_may_end, refl, slice_index, space_past, spell, split, split_spell, texts, true, whole_block, ℕ, ◌++◌, ◌+◌, ◌==◌, ◌∙◌, ◌∷◌, ◌≡◌, lines_front}
 use Rattle.proof_lexers.specs.BlockScan.{read}
 use Rattle.proof_lexers.proofs.Blocks.Ends.{scans_end}
 use Rattle.proof_scanner.proofs.Cut.Pieces.Blocks.{piece_has_line}
@@ -92,8 +92,7 @@ pub record BlockAs (style : BlockStyle) (indent : ℕ) (p : Position) (text : Li
   pub is : r ≡ read_block p scalar piece next
 
 pub block_as : (style : BlockStyle) (indent : ℕ) (more : List ℕ) (p : Position) (r : Read Block) → has_no_nul more ≡ true → block (is_literal_style style) indent (indicator_of style ∷ more) p ≡ Ok r → BlockAs style indent p (indicator_of style ∷ more) r
-block_as style indent more p r none e = by r (read_as e (scans_end style indent more p (some_chars more none)))
-  where
-    by : (x : Read Block) → IsBlockRead style indent p more x → BlockAs style indent p (indicator_of style ∷ more) x
-    by x (whole_block piece next b it (read free clear same)) =
-        record { piece = piece; next = next; scalar = b; is_text = it.is_text; is_read = it.is_read; style_is = it.is_style; may_end = λ bs l. block_clear indent p b piece next bs l it.is_read free clear; is = same }
+block_as style indent more p r none e = elim (read_as e (scans_end style indent more p (some_chars more none))) [
+  | whole_block piece next b it (read free clear same) ↦
+      record { piece = piece; next = next; scalar = b; is_text = it.is_text; is_read = it.is_read; style_is = it.is_style; may_end = λ bs l. block_clear indent p b piece next bs l it.is_read free clear; is = same }
+]

@@ -1,9 +1,8 @@
 -- What the model reads after a colon: where a TAB stands next, the blanks and a comment; else nothing.
-use Rattle.proof_scanner.proofs.Common.{arith, Bool, Held, Holds, List, Ok, ScannerState, Yes, [], after, begins_with, begins_with_alpha, blanks_and_comment, check_after_tab, check_value_space, checked, colon_may_precede, eqb-true, false, has_no_break, if◌then◌else◌, is_blank, is_separation, lexed, or_parts, pair_position, past_blanks_and_comment, past_comment, peek, refl, same_alpha, space, tab, true, went, ℕ, ◌++◌, ◌==◌, ◌||◌, ◌∙◌, ◌≡◌}
+use Rattle.proof_scanner.proofs.Common.{cases_Bool, inl, inr, arith, Held, Holds, List, ScannerState, [], after, begins_with, begins_with_alpha, blanks_and_comment, check_after_tab, check_value_space, checked, colon_may_precede, eqb-true, false, has_no_break, if◌then◌else◌, is_blank, is_separation, or_parts, pair_position, past_blanks_and_comment, past_comment, peek, refl, same_alpha, tab, true, went, ℕ, ◌++◌, ◌==◌, ◌||◌, ◌∙◌, ◌≡◌}
 use Rattle.yaml_chars.specs.Class.{is_alpha}
 use Rattle.defs_text.specs.Classes as classes
-use Rattle.proof_scanner.proofs.Sound.Blanks.{line_rest_cut, line_rest_fills, line_rest_in_line, past_rest, rest_read}
-use Rattle.proof_scanner.proofs.Cut.Dispatch.{begins_here}
+use Rattle.proof_scanner.proofs.Sound.Steps.{line_rest_cut, line_rest_fills, line_rest_in_line, past_rest, rest_read, begins_here}
 
 -- what is read after a colon, and the text after that
 abbrev pub colon_gap : List ℕ → List ℕ
@@ -29,12 +28,7 @@ past_colon more h = record { rest = past_gap more; held = record h { position = 
 
 pub colon_spaced : (more : List ℕ) (h : Held) → Holds (λ u. (u ≡ past_colon more h) × (colon_may_precede more ≡ true)) (check_value_space (record { rest = more; held = h }))
 unfolding check_value_space check_after_tab
-colon_spaced more h = by (begins_with tab more) refl
-  where
-    t : ScannerState
-    t = record { rest = more; held = h }
-
-    by : (b : Bool) → begins_with tab more ≡ b → Holds (λ u. (u ≡ past_colon more h) × (colon_may_precede more ≡ true)) (if peek more == 9 then lexed (space Yes more h.position) h check_after_tab else Ok t)
-    by true e =
-        rw (begins_here 9 more refl ∙ e) (rest_read t check_after_tab _ (λ _. checked _ _ (λ f. went {x = past_rest t} (grind (arith, no_letter (after is_blank more))))))
-    by false e = rw (begins_here 9 more refl ∙ e) (went {x = t} (grind arith))
+colon_spaced more h = let t : ScannerState = record { rest = more; held = h } in elim (cases_Bool (begins_with tab more)) [
+  | inl e ↦ rw (begins_here 9 more refl ∙ e) (rest_read t check_after_tab _ (λ _. checked _ _ (λ f. went {x = past_rest t} (grind (arith, no_letter (after is_blank more))))))
+  | inr e ↦ rw (begins_here 9 more refl ∙ e) (went {x = t} (grind arith))
+]

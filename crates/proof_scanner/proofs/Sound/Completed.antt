@@ -13,11 +13,8 @@ leads_past o ws w next a b h written stands = grind arith
 
 -- over a step that may stand
 pub begins_past : (text after : List ℕ) (a b : Account) (w : Step) (next : List ℕ) → after ≡ w.separation ++ (w.piece ++ next) → IsWritten a w next → account_past a w next ≡ Some b → Begins text after a → Begins text next b
-begins_past text after a b w next cut written stands g = record {
-  steps = g.steps ++ w ∷ [];
-  spells = spelled_append g.steps (w ∷ []) next ∙ ap (λ x. spelled g.steps x) (sym cut) ∙ g.spells;
-  leads = leads_past (Some first_account) g.steps w next a b (rw (sym cut) g.leads) written stands;
-}
+begins_past text after a b w next cut written stands g =
+    search (spelled_append g.steps (w ∷ []) next ∙ ap (λ x. spelled g.steps x) (sym cut) ∙ g.spells, leads_past (Some first_account) g.steps w next a b (subst (λ x. Leads (Some first_account) g.steps x a) cut g.leads) written stands)
 
 -- over a step that may stand, but for the key
 pub but_for_key_past : (text after : List ℕ) (begin : Position) (a b : Account) (w : Step) (next : List ℕ) → after ≡ w.separation ++ (w.piece ++ next) → IsWritten a w next → account_past a w next ≡ Some b → BeginsButForKey text after begin a → BeginsButForKey text next begin b

@@ -1,10 +1,9 @@
 -- Document markers and directives: what holds where they begin holds between two fetches after them.
-use Rattle.proof_scanner.proofs.Common.{[], and_false, and_parts, ap, append-nil, append_assoc, AreLevels, arith, Arrives, before_by, begin_line, begins_free_line, begins_line, begins_with, blanks_and_comment, Bool, check_document_end, columns, Directive, directive_of, directives_end, either, Entry, eqb-true, false, fetch_directive, fetch_document_end, fetch_document_marker, first_break, FlowLevel, gives_marker, has_break, has_no_break, has_no_nul, has_open_level, Held, Holds, is_at_gap, is_break, is_breakz, is_closed, is_empty, is_indented_by_spaces, is_renewed, is_required, is_separation, IsDirectiveRead, IsPiece, IsReadOn, Key, List, may_precede, no_nul_after, None, on_held, Option, or_true, other, past, past_blanks_and_comment, past_line_rest, peek, Position, position_after, position_append, previous_by, push, put, read, read_as, refl, refused, remove_implicit_key, replicate-append-replicate, ScannerState, seen, settled, Site, site_in, skip_indicator, Some, subst, sym, taken, Tok, token_of, top_key, true, unroll_indent, went, whole_directive, with_top, ℕ, ◌++◌, ◌∙◌, ◌∷◌, ◌≡◌, ◌≤◌, if◌then◌else◌}
-use Rattle.proof_scanner.proofs.Sound.Steps.{exactly, held_exactly, Onward, adjacent_kept, by_sides, ArrivesBy, at_end_of, goes_inside, is_done, key_gone, line_rest_cut, line_rest_fills, line_rest_in_line, read_outside, Reads, rest_skipped, same_in_line, shorter, some_rest, three_past, tokens_before, unrolled_in_flow, with_entries, same_has_break, with_sides, ended_outside, all_ended, IsToken}
+use Rattle.proof_scanner.proofs.Common.{[], and_false, and_parts, ap, append-nil, append_assoc, AreLevels, arith, Arrives, before_by, begin_line, begins_free_line, begins_line, begins_with, blanks_and_comment, Bool, check_document_end, columns, Directive, directive_of, directives_end, either, Entry, eqb-true, false, fetch_directive, fetch_document_end, fetch_document_marker, first_break, FlowLevel, gives_marker, has_break, has_no_break, has_no_nul, has_open_level, Held, Holds, is_at_gap, is_break, is_breakz, is_closed, is_empty, is_indented_by_spaces, is_renewed, is_required, is_separation, IsPiece, IsReadOn, Key, List, may_precede, no_nul_after, None, on_held, Option, or_true, other, past, past_blanks_and_comment, past_line_rest, peek, Position, position_after, position_append, previous_by, push, put, read, read_as, refl, refused, remove_implicit_key, replicate-append-replicate, ScannerState, seen, settled, Site, site_in, skip_indicator, Some, subst, sym, taken, Tok, token_of, top_key, true, unroll_indent, went, whole_directive, with_top, ℕ, ◌++◌, ◌∙◌, ◌∷◌, ◌≡◌, ◌≤◌, if◌then◌else◌}
+use Rattle.proof_scanner.proofs.Sound.Steps.{exactly, held_exactly, Onward, adjacent_kept, by_sides, ArrivesBy, at_end_of, goes_inside, is_done, key_gone, line_rest_cut, line_rest_fills, line_rest_in_line, read_outside, Reads, rest_skipped, same_in_line, shorter, some_rest, three_past, tokens_before, unrolled_in_flow, with_entries, same_has_break, with_sides, ended_outside, all_ended, IsToken, unroll_keeps}
 use Rattle.defs_token.specs.Account.{Account as PieceAccount}
 use Rattle.model_scanner.specs.Directive.{directive}
 use Rattle.proof_lexers.specs.DirectiveEnds.{ends_line, next_line}
-use Rattle.proof_scanner.proofs.Cut.Documents.{unroll_keeps}
 use Rattle.proof_scanner.proofs.Cut.Pieces.Directives.{break_cut, break_is_separation, piece_of}
 use Rattle.model_scanner.specs.Machine as machine
 
@@ -63,25 +62,21 @@ line_begun s u e = rw e (grind (arith, refused, went))
 
 line_stands : (text : List ℕ) (t : ScannerState) (d : Read) (a : ArrivesBy text t [] (None ∷ []) []) → IsRead t d → t.held.flow ≡ [] → with_top None t.held.keys ≡ None ∷ [] → Onward text t.rest (line_past t (begun_from (all_ended t.held)) d)
 line_stands text t d a r flow keys =
+    let x : Site = site_in false gives_marker t.held.position a.site in
     read_outside text t (line_past t (begun_from (all_ended t.held)) d) a d.piece (next_of d) d.gap d.tok (record { line = taken; blocks = [] }) x (ap (λ k. site_in false k t.held.position a.site) r.act)
     (line_reads t d (begun_from (all_ended t.held)) _ r refl refl refl (r.awaits false x.blocks x.awaits (next_of d)) refl a.was_adjacent (refl, refl, refl)) (grind (arith, r))
     (grind (arith, append_assoc, append-nil, r, r.is_piece (seen (with_entries a.site a.line []) x a.separation) r.at_margin refl, a.is_indented (some_rest t.rest d.piece (next_of d) r.cut r.is_solid), eqb-true, shorter, replicate-append-replicate))
-  where
-    x : Site
-    x = site_in false gives_marker t.held.position a.site
 
 -- ---- in flow
 
 line_goes : (text : List ℕ) (t : ScannerState) (d : Read) (f : FlowLevel) (fs : List FlowLevel) (k : Option Key) (ks : List (Option Key)) (e : Entry) (es : List Entry) (a : ArrivesBy text t (f ∷ fs) (k ∷ ks) (e ∷ es)) → IsRead t d → t.held.flow ≡ f ∷ fs → with_top None t.held.keys ≡ None ∷ ks →
     Onward text t.rest (line_past t (begun_from t.held) d)
 line_goes text t d f fs k ks e es a r flow keys =
+    let x : Site = site_in true gives_marker t.held.position a.site in
     goes_inside text t (line_past t (begun_from t.held) d) f f fs k ks e (record { kind = e.kind; pair = e.pair; had = settled }) es a d.piece (next_of d) d.tok d.gap
     (line_reads t d (begun_from t.held) _ r refl refl a.blocks_are (r.awaits true a.site.blocks a.site.awaits (next_of d) ∙ a.awaits_is) a.are_levels a.was_adjacent (refl, refl, refl))
     (let piece = r.is_piece (seen (with_entries a.site a.line (e ∷ es)) x a.separation) r.at_margin refl in
     let indented = a.is_indented (some_rest t.rest d.piece (next_of d) r.cut r.is_solid) in grind (arith, append-nil, r, tokens_before, piece, indented))
-  where
-    x : Site
-    x = site_in true gives_marker t.held.position a.site
 
 -- ---- both
 
@@ -141,8 +136,6 @@ unfolding fetch_directive
 directive_keeps text more t a e col =
     let h : Held = unroll_indent 0 t.held in
     exactly _ (held_exactly t (line_begun t.held h refl)) (λ optional. read (begun_from h) (directive t.rest h.position) _ (λ x is. went
-    (by optional x (read_as (ap (λ p. directive (37 ∷ more) p) (sym (unroll_keeps 0 t.held).0) ∙ (ap (λ r. directive r h.position) (sym e) ∙ is)) (directives_end more t.held.position)))))
-  where
-    by : is_required (top_key (unroll_indent 0 t.held).keys) ≡ false → (x : machine.Read Tok) → IsDirectiveRead t.held.position more x → Onward text t.rest (after_it t x (begun_from (unroll_indent 0 t.held)))
-    by none x (whole_directive line next d cut no_break ends is) =
-        line_keeps text t (directive_read line next d t.held.position) (ap is_empty e) a (directive_is_read t line next d (e ∙ ap (λ l. 37 ∷ l) cut) no_break ends is col) none
+    (elim (read_as (ap (λ p. directive (37 ∷ more) p) (sym (unroll_keeps 0 t.held).0) ∙ (ap (λ r. directive r h.position) (sym e) ∙ is)) (directives_end more t.held.position)) as (λ y w. Onward text t.rest (after_it t y (begun_from h))) [
+      | whole_directive line next d cut no_break ends is ↦ line_keeps text t (directive_read line next d t.held.position) (ap is_empty e) a (directive_is_read t line next d (e ∙ ap (λ l. 37 ∷ l) cut) no_break ends is col) optional
+    ])))

@@ -1,8 +1,7 @@
 -- Each fetch what holds between two fetches, or ends the stream with a row of the text, if the function of each token it.
 use Rattle.proof_scanner.proofs.Common.{Arrives, FetchKeeps, Holds, IsAtEnd, IsPositionIn, IsRead, List, ScannerState, Stands, [], ap, before_by, before_past, chained, either, false, fetch, fetch_content, fetch_here, fetch_next, first_position, has_no_nul, held_of, inl, inr, is_adjacent, is_empty, next_line, peek, position_after, refused, stale, sym, true, try_held, weakened, ℕ, ◌==◌, ◌>>=◌, ◌∙◌, ◌≡◌, ◌⊎◌, append-nil, length, ◌≤◌, tried, over, arith, goes}
 use Rattle.model_scanner.specs.State.{after}
-use Rattle.proof_scanner.proofs.Sound.Steps.{Onward, content_holds, goes_on_here, keys_only, no_end, stale_stands, stream_ended, token_holds, whole_text}
-use Rattle.proof_scanner.proofs.Sound.Stales.{arrives_cut, cut_position}
+use Rattle.proof_scanner.proofs.Sound.Steps.{Onward, content_holds, goes_on_here, keys_only, no_end, stale_stands, stream_ended, token_holds, whole_text, arrives_cut, cut_position}
 use Rattle.proof_scanner.proofs.Sound.Arriving.{arrived}
 use Rattle.proof_scanner.proofs.Sound.BlockScalars.{block_keeps}
 use Rattle.proof_scanner.proofs.Sound.FlowMarks.{closing_bracket, closing_brace, comma_keeps, closing_keeps, opening_keeps, opening_bracket, opening_brace}

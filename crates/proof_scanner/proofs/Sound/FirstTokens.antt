@@ -1,5 +1,5 @@
 -- The first of a text's tokens are a cut of a beginning of it.
-use Rattle.proof_scanner.proofs.Common.{zero, IsPiece, [], ap, arith, begins, end_token, Fares, first_position, has_no_nul, inl, inr, IsCut, IsCutOfBeginning, IsCutUpTo, IsRow, IsWhere, List, None, Option, over, Position, Reaches, refl, rows_are_cuts, ScannerState, Some, start, start_token, stream_end, sym, Tok, Token, tokens_of, true, up_to_nul, Written, ℕ, ◌++◌, ◌∙◌, ◌∷◌, ◌≡◌, ◌⊎◌, goes, append-nil, drop, first_token, length, length-append, subst, suc, take, take-append-le, ◌≤◌}
+use Rattle.proof_scanner.proofs.Common.{zero, IsPiece, [], ap, arith, begins, end_token, first_position, has_no_nul, inl, inr, IsCut, IsCutOfBeginning, IsCutUpTo, IsRow, IsWhere, List, None, Option, over, Position, Reaches, refl, rows_are_cuts, ScannerState, Some, start, start_token, stream_end, sym, Tok, Token, tokens_of, true, up_to_nul, Written, ℕ, ◌++◌, ◌∙◌, ◌∷◌, ◌≡◌, ◌⊎◌, goes, append-nil, drop, first_token, length, length-append, subst, suc, take, take-append-le, ◌≤◌}
 use Rattle.defs_token.specs.Account.{Account, first_account}
 use Rattle.defs_token.specs.Cut.{account_at, account_past, spelled}
 use Rattle.proof_scanner.specs.Laws.{TokensAreACut}
@@ -35,18 +35,18 @@ row_first (suc n) a (w ∷ ws) f last r =
 begun_by : (text : List ℕ) (begin : Position) (ws : List Written) (after : List ℕ) (last : Option Tok) (n : ℕ) → spelled ws after ≡ up_to_nul text →
     IsRow first_account ws after last → IsCutOfBeginning (take n (start_token begin ∷ tokens_of ws)) text
 begun_by text begin ws after last zero is_text row = inl refl
-begun_by text begin ws after last (suc n) is_text row = inr (record {
-  begin = begin;
-  row = take n ws;
-  after = spelled (drop n ws) after;
-  are_tokens = ap (λ ts. start_token begin ∷ ts) (tokens_first n ws);
-  is_text = spelled_first n ws after ∙ is_text;
-  is_row = row_first n first_account ws after last row;
-})
+begun_by text begin ws after last (suc n) is_text row =
+    inr (search (ap (λ ts. start_token begin ∷ ts) (tokens_first n ws), spelled_first n ws after ∙ is_text, row_first n first_account ws after last row))
 
 -- Of a run, the first tokens are a cut of the whole text, up to the stream's end, or of a beginning of it.
 pub first_tokens_are_cut : (text : List ℕ) (given more : List Token) (t : ScannerState) → has_no_nul text ≡ true → Reaches (start text) t → t.held.tokens ≡ given ++ more → IsCut given text ⊎ IsCutOfBeginning given text
-first_tokens_are_cut text given more t nul run e = by (reached fetch_keeps text nul (start text) t run (begins refl))
+first_tokens_are_cut text given more t nul run e = elim (reached fetch_keeps text nul (start text) t run (begins refl)) [
+  | begins f ↦ inr (so_many [] (ap (λ y. take (length given) y.held.tokens) (sym f)) (inl (take-nil (length given))))
+  | goes s ↦
+      let c : IsCutUpTo text (s.separation ++ t.rest) s.base t.held.tokens = stands_cut text t s in
+      inr (so_many _ (ap (take (length given)) (sym c.are_tokens)) (begun_by text first_position c.row (s.separation ++ t.rest) None (length given) c.is_text (c.is_row.is_row None)))
+  | over f r n ↦ ended more e (rows_are_cuts text t.held.tokens r)
+]
   where
     so_many : (ts : List Token) → take (length given) ts ≡ take (length given) t.held.tokens → IsCutOfBeginning (take (length given) ts) text → IsCutOfBeginning given text
     so_many ts f h = subst (λ us. IsCutOfBeginning us text) (f ∙ ap (take (length given)) e ∙ take-append_seam given more) h
@@ -59,13 +59,6 @@ first_tokens_are_cut text given more t nul run e = by (reached fetch_keeps text 
         inr (so_many xs (sym (ap (take (length given)) c.are_tokens ∙ take-append-le (length given) xs (end_token c.end ∷ []) few))
         (begun_by text c.begin c.row c.separation (Some stream_end) (length given) c.is_text c.is_row))
 
-    by : Fares text t → IsCut given text ⊎ IsCutOfBeginning given text
-    by (begins f) = inr (so_many [] (ap (λ y. take (length given) y.held.tokens) (sym f)) (inl (take-nil (length given))))
-    by (goes s) =
-        let c : IsCutUpTo text (s.separation ++ t.rest) s.base t.held.tokens = stands_cut text t s in
-        inr (so_many _ (ap (take (length given)) (sym c.are_tokens)) (begun_by text first_position c.row (s.separation ++ t.rest) None (length given) c.is_text (c.is_row.is_row None)))
-    by (over f r n) = ended more e (rows_are_cuts text t.held.tokens r)
-
 -- The tokens that the model gives a text are a cut of it.
 pub tokens_are_cut : TokensAreACut
 tokens_are_cut text ts nul h = rows_are_cuts text ts (tokens_are_of_a_row text ts nul h)
@@ -73,11 +66,10 @@ tokens_are_cut text ts nul h = rows_are_cuts text ts (tokens_are_of_a_row text t
 -- ---- where a run has come to in a text, and whether it met the stream's start
 
 pub run_is_where : (text : List ℕ) (t : ScannerState) → has_no_nul text ≡ true → Reaches (start text) t → IsWhere text t
-run_is_where text t nul run = by (reached fetch_keeps text nul (start text) t run (begins refl))
-  where
-    by : Fares text t → IsWhere text t
-    by (begins e) = grind (arith, over)
-    by (goes s) =
-        let c : IsCutUpTo text (s.separation ++ t.rest) s.base t.held.tokens = stands_cut text t s in
-        grind (arith, s, c, cut_position text s.separation t.rest s.base t.held.tokens t.held.position (whole_text text nul) s.position_is c)
-    by (over f r n) = grind (arith, rows_are_cuts)
+run_is_where text t nul run = elim (reached fetch_keeps text nul (start text) t run (begins refl)) [
+  | begins e ↦ grind (arith, over)
+  | goes s ↦
+      let c : IsCutUpTo text (s.separation ++ t.rest) s.base t.held.tokens = stands_cut text t s in
+      grind (arith, s, c, cut_position text s.separation t.rest s.base t.held.tokens t.held.position (whole_text text nul) s.position_is c)
+  | over f r n ↦ grind (arith, rows_are_cuts)
+]

@@ -1,11 +1,10 @@
 -- Commas and closing brackets: what holds where they begin holds between two fetches after them. Outside flow they close nothing.
 use Rattle.proof_scanner.proofs.Common.{[], adjacent_in_flow, another, ap, append_assoc, arith, Arrives, before_by, before_past, begin_flow, begins_with, blanks_and_comment, Bool, Collection, end_entry, end_flow, ends_spaces, entries_by, Entry, eqb-true, false, fetch_flow_collection_end, fetch_flow_collection_start, fetch_flow_entry, first_entry, flow_collection, flow_end, flow_level, flow_start, FlowLevel, free, gives_closing, gives_comma, gives_node, has_no_nul, Held, Holds, if◌then◌else◌, increase_flow_level, Indent, is_blank, is_empty, is_required, IsAdjacent, IsPairOf, Key, length, level_of, Line, List, map, Mapping, nat_le, nat_lt, no_nul_after, no_pair, None, not, on_held, Option, other, pair_end, past, past_blanks_and_comment, past_line_rest, Position, position_after, position_in_line, Previous, previous_by, push, put, refl, refused, remove_implicit_key, roll_one_col_indent, ScannerState, seen, Site, site_here, site_in, Some, subst, suc, sym, taken, Tok, Token, top_key, true, went, with_top, Yes, ℕ, ◌++◌, ◌∙◌, ◌∷◌, ◌≡◌, ◌⊎◌, kind_of, length-map, inr, is_break, append-nil, IsPiece, has_room, is_pair_at, inl, begins_token, collection, decrease_flow_level, end_flow_pair, is_adjacent, is_separation, nat_tests, pop, token, ◌+◌, ◌==◌, Keyed}
-use Rattle.proof_scanner.proofs.Sound.Steps.{exactly, held_exactly, Onward, adjacent_kept, ArrivesBy, by_sides, deep_for, indicator_end, indicator_passed, is_clear, IsDeep, IsRead, IsToken, key_gone, keyless, keyless_tokens, keys_along, line_rest_cut, line_rest_fills, line_rest_in_line, low_enough, many_around, node_read, numbered_then, past_it, past_rest_is_clear, past_step, quiet_before, read_outside, reads_before_none, reads_in_line, same_has_break, saved_is, saved_keys, site_of, site_then, steps_in_flow, tokens_before, with_entries, goes_inside, line_taken, Reads, OpensLevel, opens_level, blanks_alone}
+use Rattle.proof_scanner.proofs.Sound.Steps.{exactly, held_exactly, Onward, adjacent_kept, ArrivesBy, by_sides, deep_for, indicator_end, indicator_passed, is_clear, IsDeep, IsRead, IsToken, key_gone, keyless, keyless_tokens, keys_along, line_rest_cut, line_rest_fills, line_rest_in_line, low_enough, many_around, node_read, numbered_then, past_it, past_rest_is_clear, past_step, quiet_before, read_outside, reads_before_none, reads_in_line, same_has_break, saved_is, saved_keys, site_of, site_then, steps_in_flow, tokens_before, with_entries, goes_inside, line_taken, Reads, OpensLevel, opens_level, blanks_alone, same_number}
 use Rattle.defs_token.specs.Account.{Account as PieceAccount}
 use Rattle.model_scanner.specs.State.{after}
 use Rattle.model_scanner.specs.declared.level.FlowLevel.TheVariants.{Entry as InEntry, Pair as InPair}
 use Rattle.proof_lexers.specs.PlainEnds as plains
-use Rattle.proof_scanner.proofs.Cut.Stoods.{same_number}
 
 -- ---- what the model leaves where an entry or a collection ends
 
@@ -83,14 +82,12 @@ stray_past closes t tok more = record {
 pub stray_at : (text more : List ℕ) (closes : Bool) (tok : Tok) (c : ℕ) → IsCloser closes tok c → (t : ScannerState) (a : ArrivesBy text t [] (None ∷ []) []) → with_top None t.held.keys ≡ None ∷ [] → t.rest ≡ c ∷ more → begins_with 35 more ≡ false →
     Onward text t.rest (stray_past closes t tok more)
 stray_at text more closes tok c k t a keys e hash =
+    let at : Site = site_here false t.held.position a.site in
     read_outside text t (stray_past closes t tok more) a (c ∷ []) more (blanks_and_comment more) tok (record { line = line_then closes; blocks = at.blocks }) at (ap (λ x. site_in false x t.held.position a.site) k.act ∙ (grind arith))
     (reads_in_line t (stray_past closes t tok more) _ (c ∷ []) more (blanks_and_comment more) refl e (line_rest_cut more) (line_rest_fills more) (line_rest_in_line more) (indicator_end t.held.position c more k.in_line) refl (is_previous closes k.previous)
     a.blocks_are (k.awaits false at.blocks at.awaits more ∙ a.awaits_is) a.are_levels (λ some. absurd (cc some)) (adjacent_kept t (stray_past closes t tok more) other (c ∷ []) more (blanks_and_comment more) refl (indicator_end t.held.position c more k.in_line) a.was_adjacent refl refl).1 (refl, refl))
     (grind (arith, quiet_before (previous_by tok) t.held.position (blanks_and_comment more) [] (is_previous closes k.previous) (line_rest_in_line more)))
     (grind (arith, append_assoc, append-nil, k, a.is_indented (ap is_empty e), k.piece (seen (with_entries a.site a.line []) at a.separation) more None refl))
-  where
-    at : Site
-    at = site_here false t.held.position a.site
 
 -- ---- a comma in flow: the entry ends, and with it a single pair
 

@@ -1,6 +1,6 @@
 -- The last line of a text as the text grows, and the column after it.
 use Rattle.std.proofs.Math.Seq.{take-nil}
-use Rattle.proof_scanner.proofs.Common.{[], and_parts, ap, arith, Bool, eqb-true, false, has_break, has_no_break, has_tab_within, if◌then◌else◌, is_at_line_end, is_break, is_empty, is_one_of, is_separation, last_line, length, List, nat_lt, nat_tests, not, not-true, or-true, Position, position_after, position_past, refl, split, suc, take, take-append-le, true, ℕ, ◌&&◌, ◌++◌, ◌+◌, ◌-◌, ◌==◌, ◌||◌, ◌∙◌, ◌∷◌, ◌≡◌, ◌≤◌, ◌⊎◌}
+use Rattle.proof_scanner.proofs.Common.{[], and_parts, ap, arith, Bool, eqb-true, false, has_break, has_no_break, has_tab_within, if◌then◌else◌, is_at_line_end, is_break, is_empty, is_one_of, is_separation, last_line, length, List, nat_lt, nat_tests, not, not-true, or-true, Position, position_after, position_past, refl, split, suc, take, take-append-le, true, ℕ, ◌&&◌, ◌++◌, ◌+◌, ◌<◌, ◌-◌, ◌==◌, ◌||◌, ◌∙◌, ◌∷◌, ◌≡◌, ◌≤◌, ◌⊎◌}
 
 -- ---- breaks in a text and one character more
 
@@ -57,6 +57,11 @@ no_comment_in_last g rest h ends = (both g).0 h
     both (c ∷ g) = grind (arith, nat_tests, last_first, or-true, eqb-true, both g)
 
 -- ---- TABs in its first columns
+
+-- one after fewer characters stands in them
+pub tab_among : (n : ℕ) (l r : List ℕ) → length l < n → has_tab_within n (l ++ 9 ∷ r) ≡ true
+tab_among (suc n) (c ∷ l) r h = grind (arith, tab_among n l r)
+tab_among a l r h = grind arith
 
 -- a character other than a TAB, or one after these columns, adds none
 pub tab_within_more : (n : ℕ) (l : List ℕ) (c : ℕ) → ((9 == c) ≡ false) ⊎ (n ≤ length l) → has_tab_within n l ≡ false → has_tab_within n (l ++ c ∷ []) ≡ false

@@ -58,10 +58,8 @@ module _ (text : List ℕ) (t : ScannerState) (k : Option Key) (a : ArrivesBy te
   pub keyless_completes : (strict : Bool) (after : Outside) → Goes strict false a.line a.line_here after → MayChoose strict false k t.held.position t.rest →
       SoFar strict text next (outer_then after) (λ ws last. a.tokens ++ tokens_then a.site x piece tok next a.line_here)
   keyless_completes strict after n may =
+      let tokens : (l m : Line) → line_past_separation false (begins_free_line a.site.before a.separation) l ≡ Some m → (ws : List Step) (last : List ℕ) → spelled ws last ≡ next →
+      a.tokens ++ tokens_of_step (Outer a.site l) (outer_step false) ws last ≡ a.tokens ++ tokens_then a.site x piece tok next m = λ l m line_is ws last h. grind arith in
       outer_completes strict false a.line a.line_here after (λ ws last. a.tokens) (λ ws last. a.tokens ++ tokens_then a.site x piece tok next a.line_here) n
       (λ ws last h. tokens a.line a.line_here a.is_line ws last h)
       (none_completes strict text (a.separation ++ t.rest) (with_entries a.site a.line []) (k ∷ []) a.tokens a.no_key refl (a.completes strict false [] may))
-    where
-      tokens : (l m : Line) → line_past_separation false (begins_free_line a.site.before a.separation) l ≡ Some m → (ws : List Step) (last : List ℕ) → spelled ws last ≡ next →
-          a.tokens ++ tokens_of_step (Outer a.site l) (outer_step false) ws last ≡ a.tokens ++ tokens_then a.site x piece tok next m
-      tokens l m line_is ws last h = grind arith

@@ -1,11 +1,10 @@
 -- Plain scalars: what holds between two fetches holds after them.
-use Rattle.proof_scanner.proofs.Common.{Arrives, Bool, Context, Entry, FlowLevel, HasNoTabs, Holds, IsPiece, IsPlainRead, Key, Levels, List, None, Ok, Option, Plain, Position, ScannerState, Site, Some, Style, Tok, [], allow_key, and_parts, ap, arith, before_by, before_past, begins_separation, begins_solid, begins_white, collection_of, comes_plain, ends_with_content, eqb-true, false, fetch_plain_scalar, has_break, has_no_nul, in_flow, innermost, innermost_column, is_adjacent, is_break, is_deep_enough, is_empty, is_gap, is_indented, is_no_comment, is_one_of, is_white, is_whole_plain, leading, least_column, map, nat_tests, not, other, plain_value, position_after, position_append, read, read_as, refl, scans_end, seen, true, unroll_non_block_indents, went, whole_plain, without_open, ℕ, ◌++◌, ◌==◌, ◌∙◌, ◌∷◌, ◌≡◌, ◌≤◌, after_plain, go_on, on_held, push, with_levels}
+use Rattle.proof_scanner.proofs.Common.{Arrives, Bool, Context, Entry, FlowLevel, HasNoTabs, Holds, IsPiece, Key, Levels, List, None, Ok, Option, Plain, Position, ScannerState, Site, Some, Style, Tok, [], allow_key, and_parts, ap, arith, before_by, before_past, begins_separation, begins_solid, begins_white, collection_of, comes_plain, ends_with_content, eqb-true, false, fetch_plain_scalar, has_break, has_no_nul, in_flow, innermost, innermost_column, is_adjacent, is_break, is_deep_enough, is_empty, is_gap, is_indented, is_no_comment, is_one_of, is_white, is_whole_plain, leading, least_column, map, nat_tests, not, other, plain_value, position_after, position_append, read, read_as, refl, scans_end, seen, true, unroll_non_block_indents, went, whole_plain, without_open, ℕ, ◌++◌, ◌==◌, ◌∙◌, ◌∷◌, ◌≡◌, ◌≤◌, after_plain, go_on, on_held, push, with_levels}
 use Rattle.defs_token.specs.Account.{Account as PieceAccount}
 use Rattle.model_scanner.specs.Machine as machine
 use Rattle.model_scanner.specs.Plain.{plain}
 use Rattle.proof_lexers.specs.PlainEnds as plains
-use Rattle.proof_scanner.proofs.Sound.Steps.{AreClosed, ArrivesBy, IsDeep, IsRead, Onward, adjacent_kept, begins_as_read, ends_in_line, gap_is_separation, less_or, node_read, not_before_after, on_one_line, same_has_break, saved_is, saved_keys, site_of, site_then, white_is_no_hash, with_entries, without_is}
-use Rattle.proof_scanner.proofs.Cut.Positions.{no_break_on_line}
+use Rattle.proof_scanner.proofs.Sound.Steps.{AreClosed, ArrivesBy, IsDeep, IsRead, Onward, adjacent_kept, begins_as_read, ends_in_line, gap_is_separation, less_or, node_read, not_before_after, on_one_line, same_has_break, saved_is, saved_keys, site_of, site_then, white_is_no_hash, with_entries, without_is, no_break_on_line}
 use Rattle.proof_scanner.proofs.Sound.PlainLines.{PlainFits, plain_fits}
 
 -- ---- what was read
@@ -24,12 +23,11 @@ pub record PlainAs (ctx : Context) (p : Position) (text : List ℕ) (x : machine
   fits : PlainFits ctx p piece gap x.rest
 
 plain_as : (ctx : Context) (p : Position) (text : List ℕ) (x : machine.Read Plain) → has_no_nul text ≡ true → begins_solid text ≡ true → is_indented ctx p ≡ true → plain ctx text p ≡ Ok x → PlainAs ctx p text x
-plain_as ctx p text x none begins indented e = by x (read_as e (scans_end ctx text p none begins indented)) e
-  where
-    by : (y : machine.Read Plain) → IsPlainRead ctx p text y → plain ctx text p ≡ Ok y → PlainAs ctx p text y
-    by y (whole_plain piece gap rest value cut whole white ends value_is) k =
-        let fits = plain_fits ctx p text piece gap (plains.after_plain p piece gap rest value) begins cut k in
-        search (cut, whole, white, ends, value_is, same_has_break gap, position_append p piece gap rest, fits)
+plain_as ctx p text x none begins indented e = (elim (read_as e (scans_end ctx text p none begins indented)) as (λ y w. plain ctx text p ≡ Ok y → PlainAs ctx p text y) [
+  | whole_plain piece gap rest value cut whole white ends value_is ↦ λ k.
+      let fits = plain_fits ctx p text piece gap (plains.after_plain p piece gap rest value) begins cut k in
+      search (cut, whole, white, ends, value_is, same_has_break gap, position_append p piece gap rest, fits)
+]) e
 
 -- ---- its piece and its gap
 

@@ -1,10 +1,9 @@
 -- Anchors, aliases and tags: what holds between two fetches holds after them.
-use Rattle.proof_scanner.proofs.Common.{Arrives, Entry, FlowLevel, Holds, Key, List, NameKind, None, Option, Position, ScannerState, Site, Tok, [], anchor_name, anchor_token, another, arith, false, fetch_anchor, fetch_tag, gives_node, in_flow, is_empty, mark_of, node_start, not, on_held, push, read, refl, seen, true, unled, went, ℕ, ◌∙◌, ◌∷◌, ◌≡◌, allow_key}
+use Rattle.proof_scanner.proofs.Common.{Arrives, Holds, List, NameKind, None, Position, ScannerState, Site, Tok, [], anchor_name, anchor_token, another, arith, false, fetch_anchor, fetch_tag, gives_node, in_flow, is_empty, mark_of, node_start, not, on_held, push, read, refl, seen, true, unled, went, ℕ, ◌∙◌, ◌∷◌, ◌≡◌, allow_key}
 use Rattle.model_scanner.specs.Tag as tags
-use Rattle.proof_scanner.proofs.Sound.Steps.{Onward, IsToken, ArrivesBy, deep_for, IsDeep, IsRead, node_read, reads_before_none, same_flow, saved_is, site_of, site_then, with_entries}
+use Rattle.proof_scanner.proofs.Sound.Steps.{Onward, IsToken, deep_for, IsDeep, node_read, reads_before_none, same_flow, saved_is, site_of, site_then, with_entries, saved_keys}
 use Rattle.proof_scanner.proofs.Cut.Pieces.Names.{IsProperty, name_property}
 use Rattle.proof_scanner.proofs.Cut.Pieces.Tags.{tag_property}
-use Rattle.proof_scanner.proofs.Sound.Common.{saved_keys}
 
 -- ---- properties
 
@@ -12,18 +11,13 @@ use Rattle.proof_scanner.proofs.Sound.Common.{saved_keys}
 property_stands : (text : List ℕ) (t : ScannerState) (tok : Tok) (rest : List ℕ) (end : Position) → IsProperty (in_flow t.held) tok t.held.position t.rest rest end →
     IsToken tok gives_node [] another (λ _ _. true) (λ _ _ _. true) (λ _ _ b. b) → IsDeep t.held → Arrives text t →
     Onward text t.rest (on_held (λ s. push t.held.position tok (unled s)) (record { rest = rest; held = record (node_start t.held) { position = end } }))
-property_stands text t tok rest end r k deep arrives = rw (saved_is t.held) (node_read text t u None tok (r.first ∷ r.more) [] deep arrives is_read)
-  where
-    u : ScannerState
-    u = on_held (λ s. push t.held.position tok (unled s)) (record { rest = rest; held = record (allow_key false (record t.held { keys = saved_keys t.held })) { position = end } })
-
-    is_read : (fs : List FlowLevel) (ks : List (Option Key)) (es : List Entry) → t.held.flow ≡ fs → (a : ArrivesBy text t fs ks es) →
-        IsRead t u None fs a.site a.line es a.separation tok (r.first ∷ r.more) []
-    is_read fs ks es flow a =
-        let x : Site = site_of t fs a.site in
-        let reads = reads_before_none t u (site_then t fs a.site (r.first ∷ r.more) tok rest) (r.first ∷ r.more) rest [] refl r.cut refl refl refl refl r.end_is refl k.previous
-        a.blocks_are (k.awaits (not (is_empty fs)) x.blocks x.awaits rest ∙ a.awaits_is) a.are_levels a.was_adjacent (refl, refl, refl) in
-        grind (arith, reads, k, deep_for, same_flow, r.is_piece (seen (with_entries a.site a.line es) x a.separation) None refl, r.in_line)
+property_stands text t tok rest end r k deep arrives =
+    let u : ScannerState = on_held (λ s. push t.held.position tok (unled s)) (record { rest = rest; held = record (allow_key false (record t.held { keys = saved_keys t.held })) { position = end } }) in
+    rw (saved_is t.held) (node_read text t u None tok (r.first ∷ r.more) [] deep arrives (λ fs ks es flow a.
+    let x : Site = site_of t fs a.site in
+    let reads = reads_before_none t u (site_then t fs a.site (r.first ∷ r.more) tok rest) (r.first ∷ r.more) rest [] refl r.cut refl refl refl refl r.end_is refl k.previous
+    a.blocks_are (k.awaits (not (is_empty fs)) x.blocks x.awaits rest ∙ a.awaits_is) a.are_levels a.was_adjacent (refl, refl, refl) in
+    grind (arith, reads, k, deep_for, same_flow, r.is_piece (seen (with_entries a.site a.line es) x a.separation) None refl, r.in_line)))
 
 -- ---- anchors, aliases and tags
 

@@ -111,6 +111,10 @@ question_outside : (text more : List ℕ) (t : ScannerState) → ArrivesBy text 
     is_at_gap more ≡ true → IsDeep t.held → Holds (Onward text t.rest) (fetch_key (with_sides t [] (None ∷ [])))
 unfolding fetch_key begin_key
 question_outside text more t a e gap deep =
+    let p : Position = t.held.position in
+    let v : ScannerState = with_sides t [] (None ∷ []) in
+    let r : RollsTo p.col None (token p Tok.block_mapping_start) v.held (roll_indent p.col None Tok.block_mapping_start p v.held) =
+    rolls_to p.col None Tok.block_mapping_start p v.held refl a.are_levels (first_not_right p.col t.held.indent t.held.indents a.are_levels deep) in
     let z : ScannerState = record v { held = roll_indent p.col None Tok.block_mapping_start p v.held } in
     exactly _ (held_exactly v (checked (not t.held.key_allowed) _ (λ f. went (refl, not-false t.held.key_allowed f)))) (λ allowed.
     exactly _ (held_exactly z (key_removed z.held)) (λ _.
@@ -120,15 +124,6 @@ question_outside text more t a e gap deep =
     r.are_levels a.was_adjacent (refl, refl, refl))
     (grind (arith, or_true))
     (grind (arith, append_assoc, append-nil, line_free, a.is_indented (ap is_empty e))))))))
-  where
-    p : Position
-    p = t.held.position
-
-    v : ScannerState
-    v = with_sides t [] (None ∷ [])
-
-    r : RollsTo p.col None (token p Tok.block_mapping_start) v.held (roll_indent p.col None Tok.block_mapping_start p v.held)
-    r = rolls_to p.col None Tok.block_mapping_start p v.held refl a.are_levels (first_not_right p.col t.held.indent t.held.indents a.are_levels deep)
 
 -- the flow level after a piece that begins a pair, by the level of such a pair in a sequence
 abbrev pub pair_level : (pair : FlowLevel) → FlowLevel → FlowLevel
@@ -141,14 +136,12 @@ question_inside : (text more : List ℕ) (t : ScannerState) (f : FlowLevel) (fs 
     Holds (Onward text t.rest) (fetch_key (with_sides t (f ∷ fs) (k ∷ ks)))
 unfolding fetch_key begin_key is_break
 question_inside text more t f fs k ks e es a cut gap deep =
+    let levels : keyed (f ∷ fs) ≡ pair_level Keyed f ∷ fs = grind arith in
     let z : ScannerState = with_sides t (keyed (f ∷ fs)) (k ∷ ks) in
     exactly _ (held_exactly z (key_removed z.held)) (λ _. question_read more _ t.held.position _ (ap after cut) gap (λ begins apart fills.
     goes_inside text (with_sides t (f ∷ fs) (k ∷ ks)) _ f (pair_level Keyed f) fs k ks e (record { kind = e.kind; pair = pair_past (takes_pair e.kind e.pair) gives_question e.pair; had = settled }) es a (63 ∷ []) more Tok.key (white_of false more)
     (question_reads (with_sides t (f ∷ fs) (k ∷ ks)) _ more _ cut refl fills refl refl refl refl a.blocks_are a.awaits_is a.are_levels a.was_adjacent (refl, refl, refl))
     (let low = low_enough text (with_sides t (f ∷ fs) (k ∷ ks)) f fs (k ∷ ks) (e ∷ es) a deep in grind (arith, append-nil, levels, tokens_before, a.is_indented (ap is_empty cut), low))))
-  where
-    levels : keyed (f ∷ fs) ≡ pair_level Keyed f ∷ fs
-    levels = grind arith
 
 -- A `?` before a space or a break is read as in the row.
 pub key_keeps : (text more : List ℕ) (t : ScannerState) → Arrives text t → t.rest ≡ 63 ∷ more → is_at_gap more ≡ true → IsDeep t.held → Holds (Onward text t.rest) (fetch_key t)

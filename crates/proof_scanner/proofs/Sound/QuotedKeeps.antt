@@ -3,8 +3,7 @@ use Rattle.proof_scanner.proofs.Common.{Arrives, Bool, Entry, FlowLevel, HasNoTa
 use Rattle.model_scanner.specs.Machine as machine
 use Rattle.proof_lexers.specs.PlainEnds as plains
 pub use Rattle.proof_scanner.proofs.Cut.Pieces.Quoted.{QuotedAs, piece_of, quoted_as}
-use Rattle.proof_scanner.proofs.Sound.Steps.{ArrivesBy, Checked, Cleared, Exact, IsAt, IsDeep, IsRead, IsToken, Onward, break_append, deep_for, ends_in_line, exact, least_is, node_read, not_before_after, on_one_line, quoted_checked, same_has_break, saved_is, saved_keys, separation_append, site_of, site_then, skip_clears, some_levels, unbroken}
-use Rattle.proof_scanner.proofs.Cut.Stoods.{adjacent_quoted}
+use Rattle.proof_scanner.proofs.Sound.Steps.{ArrivesBy, Checked, Cleared, Exact, IsAt, IsDeep, IsRead, IsToken, Onward, break_append, deep_for, ends_in_line, exact, least_is, node_read, not_before_after, on_one_line, quoted_checked, same_has_break, saved_is, saved_keys, separation_append, site_of, site_then, skip_clears, some_levels, unbroken, adjacent_quoted}
 use Rattle.proof_lexers.proofs.Bridges.{or_false}
 
 -- a quote is no break
@@ -115,10 +114,10 @@ module _ (text : List ℕ) (quotes : Quotes) (t : ScannerState) (a : Arrives tex
 pub quoted_keeps : (text : List ℕ) (quotes : Quotes) (t : ScannerState) (more : List ℕ) → t.rest ≡ quote_of (are_single quotes) ∷ more → IsDeep t.held → Arrives text t → Holds (Onward text t.rest) (fetch_flow_scalar quotes t)
 unfolding fetch_flow_scalar
 quoted_keeps text quotes t more e deep a =
+    let read_as : (x : machine.Read (List ℕ)) → quoted (are_single quotes) (context t.held) t.rest t.held.position ≡ Ok x → QuotedAs (are_single quotes) (context t.held) t.held.position t.rest x = λ x i.
+    rw e (quoted_as quotes (context t.held) t.held.position more x ((and_parts (not (is_nul (quote_of (are_single quotes)))) (has_no_nul more) (subst (λ r. has_no_nul r ≡ true) e a.is_clean)).1) (subst (λ r. quoted (are_single quotes) (context t.held) r t.held.position ≡ Ok x) e i)) in
     rw (saved_is t.held)
     (read (allow_key false (record t.held { keys = saved_keys t.held })) (quoted (are_single quotes) (context t.held) t.rest t.held.position) _
-    (λ x i. (chained (quoted_checked t.held.position (piece_of (are_single quotes) (read_as x i).body) (closed text quotes t a deep x (read_as x i)) (in_line (are_single quotes) (read_as x i).body) (no_nul_after (piece_of (are_single quotes) (read_as x i).body) x.rest (subst (λ r. has_no_nul r ≡ true) (read_as x i).cut a.is_clean)) (read_as x i).end_is)
-    (λ v c. chained (both_hold (exact v) (skipped text quotes t a deep x (read_as x i) v c)) (λ w z. went (node text quotes t a deep x (read_as x i) v c w z.0 z.1))))))
-  where
-    read_as : (x : machine.Read (List ℕ)) → quoted (are_single quotes) (context t.held) t.rest t.held.position ≡ Ok x → QuotedAs (are_single quotes) (context t.held) t.held.position t.rest x
-    read_as x i = rw e (quoted_as quotes (context t.held) t.held.position more x ((and_parts (not (is_nul (quote_of (are_single quotes)))) (has_no_nul more) (subst (λ r. has_no_nul r ≡ true) e a.is_clean)).1) (subst (λ r. quoted (are_single quotes) (context t.held) r t.held.position ≡ Ok x) e i))
+    (λ x i. let q : QuotedAs (are_single quotes) (context t.held) t.held.position t.rest x = read_as x i in
+    chained (quoted_checked t.held.position (piece_of (are_single quotes) q.body) (closed text quotes t a deep x q) (in_line (are_single quotes) q.body) (no_nul_after (piece_of (are_single quotes) q.body) x.rest (subst (λ r. has_no_nul r ≡ true) q.cut a.is_clean)) q.end_is)
+    (λ v c. chained (both_hold (exact v) (skipped text quotes t a deep x q v c)) (λ w z. went (node text quotes t a deep x q v c w z.0 z.1)))))

@@ -81,15 +81,13 @@ module _ (before : Previous) (least : ℕ) where
     between_by : (g a : List ℕ) (c : ℕ) (s : Held) → is_break c ≡ false → IsLeast s → IsPassed Tabbed between g s (c ∷ a) → Tells a → Q g (c ∷ a) s (skip between (c ∷ a) s)
     unfolding skip
     between_by g a c s e l h ih =
+        let at : (c == 35) ≡ false → IsAt g s = λ f. grind (arith, no_end c a e f) in
         let hash : Held = record (moved s) { leading = false } in
         let tabbed = ih tab_line (g ++ c ∷ []) (moved s) l in
         let next = ih between (g ++ c ∷ []) (moved s) l in
         let noted = ih comment (g ++ c ∷ []) hash l in
         let on = w.further g a c s hash in
         rw e (grind (arith, eqb-true, and_parts (c == 9) (is_before_indent s), at, w.tab g c s e, w.arrives g a c s, at_blank g c s, same_break c, no_hash c, w.further g a c s (moved s), on, tabbed, next, noted))
-      where
-        at : (c == 35) ≡ false → IsAt g s
-        at f = grind (arith, no_end c a e f)
 
     comment_by : (g a : List ℕ) (c : ℕ) (s : Held) → is_break c ≡ false → IsLeast s → Tells a → Q g (c ∷ a) s (skip comment (c ∷ a) s)
     unfolding skip

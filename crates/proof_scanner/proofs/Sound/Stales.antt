@@ -1,11 +1,9 @@
 -- Keys that are too far back are dropped: what holds between two fetches still holds, without them.
 use Rattle.proof_scanner.proofs.Common.{[], Account, ap, append_assoc, AreEntries, arith, Arrives, Bool, drop_stale, either, Entry, false, first_position, FlowLevel, Held, Holds, in_flow, is_empty, is_far, is_renewed, IsCarriedOn, IsCutUpTo, IsNear, IsPositionIn, Key, length, List, MayChoose, None, not-false, Option, Position, position_after, position_append, refl, refused, ScannerState, SoFar, Some, stale, Stands, StandsWith, subst, suc, sym, Token, true, up_to_nul, went, ℕ, ◌++◌, ◌∙◌, ◌∷◌, ◌≡◌}
 use Rattle.proof_scanner.proofs.Known.Steps.{known_far}
-use Rattle.proof_scanner.proofs.Sound.Common.{may_be_no_key, stands_by, with_entries}
+use Rattle.proof_scanner.proofs.Sound.Common.{may_be_no_key, stands_by, with_entries, row_position, spelled_before, entries_no_key, none_completes}
 use Rattle.defs_token.specs.Account.{first_account}
 use Rattle.defs_token.specs.Cut.{spelled}
-use Rattle.proof_scanner.proofs.Cut.Positions.{row_position, spelled_before}
-use Rattle.proof_scanner.proofs.Sound.StreamEnds.{entries_no_key, none_completes}
 
 -- outside flow there is one open key or none, and no entry
 pub no_entries : (allowed again : Bool) (fs : List FlowLevel) (ks : List (Option Key)) (es : List Entry) → is_empty fs ≡ true → AreEntries allowed again fs ks es → es ≡ []
@@ -64,8 +62,7 @@ arrives_cut text t a =
 
 -- the position after a separation that was read after a cut
 pub cut_position : (text separation rest : List ℕ) (a : Account) (ts : List Token) (p : Position) → up_to_nul text ≡ text → p ≡ position_after a.site.position separation rest → IsCutUpTo text (separation ++ rest) a ts → IsPositionIn text rest p
-cut_position text separation rest a ts p whole e c = record {
-  before = spelled c.row [] ++ separation;
-  is_text = sym whole ∙ sym c.is_text ∙ spelled_before c.row (separation ++ rest) ∙ sym (append_assoc (spelled c.row []) separation rest);
-  is_position = e ∙ ap (λ q. position_after q separation rest) (sym (ap (λ b. b.position) c.is_row.past) ∙ row_position first_account c.row (separation ++ rest)) ∙ sym (position_append first_position (spelled c.row []) separation rest);
-}
+cut_position text separation rest a ts p whole e c = search (
+  sym whole ∙ sym c.is_text ∙ spelled_before c.row (separation ++ rest) ∙ sym (append_assoc (spelled c.row []) separation rest),
+  e ∙ ap (λ q. position_after q separation rest) (sym (ap (λ b. b.position) c.is_row.past) ∙ row_position first_account c.row (separation ++ rest)) ∙ sym (position_append first_position (spelled c.row []) separation rest),
+)

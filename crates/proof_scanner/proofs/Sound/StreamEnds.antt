@@ -66,9 +66,10 @@ below : (m i : ℕ) (ds : List Indent) → AreCollections i ds → i ≤ suc m �
 below m i [] a h = tt
 below m i (d ∷ ds) a h = rw a.0 (omega (arith, h), below m d.indent ds a.2 (omega (arith, h, a.1)))
 
-first_going_on : (col : ℕ) (bs : List ℕ) → IsNotRight (innermost (not_ended col bs)) col
-first_going_on col [] = tt
-first_going_on col (n ∷ ns) = grind (arith, first_going_on col ns)
+-- collections that go on are not right of a column
+pub first_stays : (col : ℕ) (bs : List ℕ) → IsNotRight (innermost (not_ended col bs)) col
+first_stays col [] = tt
+first_stays col (n ∷ ns) = grind (arith, first_stays col ns)
 
 levels_below : (col i : ℕ) (ds : List Indent) → AreLevels i ds → IsNotRight (innermost (columns i ds)) col → NoneDeeper col (columns i ds)
 levels_below col i [] a f = tt
@@ -92,7 +93,7 @@ ends_split end (n ∷ ns) h = by (nat_lt end.col n) refl (λ k. ends_split end n
 -- the same by the levels of indentation that the scanner holds
 pub ends_by_levels : (end : Position) (bs : List ℕ) (i : ℕ) (ds : List Indent) → AreLevels i ds → not_ended end.col bs ≡ columns i ds →
     ends_with_stream end bs ≡ ends_at end bs (not_ended end.col bs) ++ ends_of (length (columns i ds)) (stream_position end)
-ends_by_levels end bs i ds a e = rw (sym e) (ends_split end bs (rw e (levels_below end.col i ds a (rw (sym e) (first_going_on end.col bs)))))
+ends_by_levels end bs i ds a e = rw (sym e) (ends_split end bs (rw e (levels_below end.col i ds a (rw (sym e) (first_stays end.col bs)))))
 
 -- ---- the stream's end
 
@@ -128,8 +129,7 @@ same_flow allowed again a ks es b = grind arith
 
 last_tokens : (h : Held) (ts : List Token) (x : Site) (es : List Entry) → is_empty h.flow ≡ is_empty es → AreLevels h.indent h.indents → h.tokens ≡ ts ++ ends_here (not (is_empty h.flow)) h.position x.blocks →
     (site_here (not (is_empty h.flow)) h.position x).blocks ≡ columns h.indent h.indents → (ended_at (unroll_indent 0 (at_stream_end h))).tokens ≡ ts ++ tokens_at_end h.position x.blocks es
-last_tokens h ts x [] e levels tokens blocks = grind (arith, ended_outside, append_assoc, ends_by_levels, ends_here, columns)
-last_tokens h ts x (y ∷ es) e levels tokens blocks = grind (arith, unrolled_in_flow, not-true, append-nil)
+last_tokens h ts x a e levels tokens blocks = grind (arith, ended_outside, append_assoc, ends_by_levels, ends_here, columns, unrolled_in_flow, not-true, append-nil)
 
 -- At the text's end the stream ends, unless a key must still come to its colon, and the tokens are those of a row of the text.
 pub stream_ended : (text : List ℕ) (t : ScannerState) → Arrives text t → t.rest ≡ [] →

@@ -2,8 +2,7 @@
 use Rattle.proof_scanner.proofs.Common.{Site, AreEntries, BeginsButForKey, Bool, HasNoTabs, Holds, IsAdjacent, IsLine, IsLive, IsOpenHere, IsOpenOutside, IsReadOn, IsTakenBy, Key, KnowsKey, Line, List, None, Option, Position, Previous, ScannerState, SoFar, Some, Stands, [], after_separation, ap, append_assoc, append_cancel_right, arith, before_by, before_past, begins_free_line, begins_separation, between, both_hold, chosen, false, follows_plain, has_no_nul, in_flow, is_at_comment_or_end, is_empty, is_indented_by_spaces, is_one_of, is_separation, least_column, not, or-false, outside_key, plain_scalar, position_after, position_append, refl, skip_to_next_token, subst, sym, tokens_up_to, true, weakened, went, ℕ, ◌&&◌, ◌++◌, ◌==◌, ◌||◌, ◌∙◌, ◌∷◌, ◌≡◌, ◌≤◌, IsCarriedOn, IsLeading, MayChoose, cases_Bool, inl, inr}
 use Rattle.proof_lexers.specs.PlainEnds as plain_ends
 use Rattle.proof_lexers.proofs.Separation.EachSeparation.{no_nul_after}
-use Rattle.proof_scanner.proofs.Sound.Steps.{Cleared, Exact, IsAt, IsIn, Spaced, column_after, exact, free_line_append, goes_on, index_after, known_past, last_whole, least_is, live_before_it, may_before, no_comment_in_last, not_before_after, read_on_append, renewed_alike, same_has_break, separation_append, skip_clears, skip_stays, stands_by, unbroken}
-use Rattle.proof_scanner.proofs.Cut.Stoods.{before_both, adjacent_filled}
+use Rattle.proof_scanner.proofs.Sound.Steps.{Cleared, Exact, IsAt, IsIn, Spaced, column_after, exact, free_line_append, goes_on, index_after, known_past, last_whole, least_is, live_before_it, may_before, no_comment_in_last, not_before_after, read_on_append, renewed_alike, same_has_break, separation_append, skip_clears, skip_stays, stands_by, unbroken, before_both, adjacent_filled}
 
 -- ---- where the way begins
 

@@ -2,11 +2,10 @@
 use Rattle.proof_scanner.proofs.Common.{ValueNotAllowed, [], if◌then◌else◌, Account, allow_key, another, ap, append-nil, append_assoc, AreLevels, arith, Arrives, At, before_by, before_past, begin_keyless_mapping, begin_keyless_value, begin_pair, begins_free_line, Bool, chained, check_value_space, checked, chosen, colon_may_precede, columns, ends_at, entries_by, Entry, entry_by, false, Fault, fetch_value, first_account, FlowLevel, gives_colon, has_open_level, Held, Holds, in_flow, Indent, innermost, insert, insert_key, is_adjacent, is_break, is_deeper, is_empty, is_near, is_value, is_value_indicator, IsEntryOf, IsLive, IsNotRight, Key, length, length-append, Line, List, None, not, not-false, not_ended, Ok, on_held, opened, opens_pair, Option, Outside, outside_key, pair_past, pair_position, paired, past, placed, pop, Position, position_after, push, put, put_key, refl, Result, roll_indent, roll_one_col_indent, ScannerState, settled, Site, site_here, Some, spelled, Step, subst, suc, sym, taken, takes_pair, Tok, Token, token, tokens_at, tokens_of_step, tokens_up_to, top_key, tried, true, try_held, waits, went, with_held, with_keys, ℕ, ◌++◌, ◌==◌, ◌>>=◌, ◌||◌, ◌∙◌, ◌∷◌, ◌≡◌, ◌≤◌, KeysBefore, keys_before, line_grows, AreNumbered, is_required, in_block}
 use Rattle.model_scanner.specs.declared.level.FlowLevel.TheVariants.{Pair as InPair}
 use Rattle.model_scanner.specs.Block.{value_of}
-use Rattle.proof_scanner.proofs.Sound.Steps.{exactly, held_exactly, Onward, among, by_sides, with_sides, ArrivesBy, begun_after, ends_outside, first_not_right, goes_inside, goes_of, IsDeep, key_longer, keyless, keys_along, line_free, line_taken, low_enough, no_waiting, not_before_after, not_before_then, numbered_around, numbered_more, Outer, outer_completes, outer_then, past_indicator, past_step, read_outside, Reads, reads_before_none, rolls_to, RollsTo, steps_in_flow, tokens_before, value_is, weaker, with_entries, with_start, line_rest_in_line, same_in_line, OpensLevel, opens_level}
+use Rattle.proof_scanner.proofs.Sound.Steps.{exactly, held_exactly, Onward, among, by_sides, with_sides, ArrivesBy, begun_after, ends_outside, first_not_right, goes_inside, goes_of, IsDeep, key_longer, keyless, keys_along, line_free, line_taken, low_enough, no_waiting, not_before_after, not_before_then, numbered_around, numbered_more, Outer, outer_completes, outer_then, past_indicator, past_step, read_outside, Reads, reads_before_none, rolls_to, RollsTo, steps_in_flow, tokens_before, value_is, weaker, with_entries, with_start, line_rest_in_line, same_in_line, OpensLevel, opens_level, keys_own}
 use Rattle.proof_scanner.proofs.Sound.ColonSpaces.{colon_gap, colon_spaced, gap_is, past_gap}
 use Rattle.proof_scanner.proofs.Sound.Questions.{pair_level}
 use Rattle.model_scanner.specs.State.{after}
-use Rattle.proof_scanner.proofs.Sound.Common.{keys_own}
 
 -- ---- where a colon is an indicator
 
@@ -44,29 +43,20 @@ pub keyless_outside : (text more : List ℕ) (t : ScannerState) (a : ArrivesBy t
     Holds (Onward text t.rest) (value_by more t [] (None ∷ []))
 unfolding begin_keyless_value begin_keyless_mapping
 keyless_outside text more t a e apart ind deep =
+    let p : Position = t.held.position in
+    let h : Held = at_value more t [] (None ∷ []) in
+    -- the level of a mapping, if one begins
+    let m : RollsTo p.col None (token p Tok.block_mapping_start) h (roll_indent p.col None Tok.block_mapping_start p h) =
+    rolls_to p.col None Tok.block_mapping_start p h refl a.are_levels (first_not_right p.col t.held.indent t.held.indents a.are_levels deep) in
+    let rolled : Held = record h { indents = m.indents; indent = m.indent; tokens = with_start Tok.block_mapping_start t } in
+    -- and one that no collection opens
+    let l : OpensLevel rolled (roll_one_col_indent rolled) = opens_level rolled m.are_levels in
     exactly _ (held_exactly (record { rest = past_gap more; held = h })
     (exactly _ (checked (not t.held.key_allowed) (At ValueNotAllowed p) (λ f. went (m.is_held, not-false t.held.key_allowed f))) (λ allowed. went (ap (λ v. allow_key (not (in_flow v)) v) l.is_held, allowed)))) (λ allowed. went
     (read_outside text t _ a (58 ∷ []) more (colon_gap more) Tok.value (begun_after p a.site.blocks) _ refl
     (colon_reads t more l.indents l.indent (with_start Tok.block_mapping_start t) true [] (None ∷ []) _ e refl refl
     (ap (opened p.col) a.blocks_are ∙ sym (l.columns_are ∙ m.columns_are)) (sym (l.awaits ∙ ap (λ bs. not (is_empty bs)) m.columns_are ∙ (grind arith))) l.are_levels a.was_adjacent)
     (grind arith) (grind (arith, append_assoc, append-nil, line_free, a.is_indented (ap is_empty e)))))
-  where
-    p : Position
-    p = t.held.position
-
-    h : Held
-    h = at_value more t [] (None ∷ [])
-
-    -- the level of a mapping, if one begins
-    m : RollsTo p.col None (token p Tok.block_mapping_start) h (roll_indent p.col None Tok.block_mapping_start p h)
-    m = rolls_to p.col None Tok.block_mapping_start p h refl a.are_levels (first_not_right p.col t.held.indent t.held.indents a.are_levels deep)
-
-    rolled : Held
-    rolled = record h { indents = m.indents; indent = m.indent; tokens = with_start Tok.block_mapping_start t }
-
-    -- and one that no collection opens
-    l : OpensLevel rolled (roll_one_col_indent rolled)
-    l = opens_level rolled m.are_levels
 
 -- ---- in flow
 
@@ -82,16 +72,14 @@ pub keyless_inside : (text more : List ℕ) (t : ScannerState) (f : FlowLevel) (
     is_value_indicator true (is_adjacent (before_past (before_by a.site.before) a.separation)) more ≡ true → IsDeep t.held → Holds (Onward text t.rest) (value_by more t (f ∷ fs) (None ∷ ks))
 unfolding begin_keyless_value begin_keyless_mapping is_break roll_one_col_indent in_block
 keyless_inside text more t f fs ks e es a cut apart ind deep =
+    -- the tokens with the start of a single pair, if one begins
+    let ts : List Token = (if opens_pair (f ∷ fs) then t.held.tokens ++ token (pair_position (past t.held.position) more) Tok.flow_mapping_start ∷ [] else t.held.tokens) in
     chained {P = λ w. w ≡ record { rest = past_gap more; held = (record t.held { flow = pair_level InPair f ∷ fs; keys = None ∷ ks; position = pair_position (past t.held.position) more; leading = false; key_allowed = false; tokens = ts }) }}
     (tried (record { rest = past_gap more; held = at_value more t (f ∷ fs) (None ∷ ks) }) _ (grind (arith, went)) (λ s d. ap (λ y. record { rest = past_gap more; held = y }) d)) (λ w d.
     went (subst (λ z. Onward text t.rest (on_held (push t.held.position Tok.value) z)) (sym d)
     (goes_inside text t _ f (pair_level InPair f) fs None ks e (valued_entry e) es a (58 ∷ []) more Tok.value (colon_gap more)
     (colon_reads t more t.held.indents t.held.indent ts false (pair_level InPair f ∷ fs) (None ∷ ks) _ cut refl refl a.blocks_are a.awaits_is a.are_levels a.was_adjacent)
     (grind (arith, append_assoc, past_indicator, single_is, tokens_before, a.is_indented (ap is_empty cut), low_enough text t f fs (None ∷ ks) (e ∷ es) a deep)))))
-  where
-    -- the tokens with the start of a single pair, if one begins
-    ts : List Token
-    ts = (if opens_pair (f ∷ fs) then t.held.tokens ++ token (pair_position (past t.held.position) more) Tok.flow_mapping_start ∷ [] else t.held.tokens)
 
 -- ---- a colon that ends the key that is open, outside flow: what holds where it begins holds between two fetches after it
 

@@ -1,9 +1,8 @@
 -- Spaces, breaks and comments after a `?`: what the model reads there is all of them, and no TAB is among them but in comments.
-use Rattle.proof_scanner.proofs.Sound.QuotedEnds.{always}
-use Rattle.proof_scanner.proofs.Common.{WhitespaceExpected, At, Bool, Err, HasPassed, Held, Holds, List, ScannerState, [], after_separation, and_false, and_parts, ap, append_cancel_right, arith, begins_white_space, begins_with, begins_with_space_or_break, both_hold, eqb-true, false, has_break, has_no_break, has_tab_before_piece, if◌then◌else◌, inr, is_at_gap, is_blank, is_blank_or_end, is_break, is_nul, is_one_of, is_separation, last_line, no_break_hash, not, or_true, refl, refused, same_break, skip_yaml_whitespace, slice_index, sym, true, weakened, went, white, ℕ, ◌++◌, ◌==◌, ◌||◌, ◌∙◌, ◌∷◌, ◌≡◌, ◌⊎◌, white_space_is_passed}
+use Rattle.proof_scanner.proofs.Sound.Steps.{always, last_first}
+use Rattle.proof_scanner.proofs.Common.{WhitespaceExpected, At, Bool, Err, Held, Holds, List, ScannerState, [], after_separation, and_false, and_parts, ap, append_cancel_right, arith, begins_white_space, begins_with, begins_with_space_or_break, both_hold, eqb-true, false, has_break, has_no_break, has_tab_before_piece, if◌then◌else◌, inr, is_at_gap, is_blank, is_blank_or_end, is_break, is_nul, is_one_of, is_separation, last_line, no_break_hash, not, or_true, refl, refused, same_break, skip_yaml_whitespace, slice_index, sym, true, weakened, went, white, ℕ, ◌++◌, ◌==◌, ◌||◌, ◌∙◌, ◌∷◌, ◌≡◌, ◌⊎◌, white_space_is_passed}
 use Rattle.model_scanner.specs.Space.{at_break}
 use Rattle.proof_scanner.proofs.Cut.Passes.{read_holds}
-use Rattle.proof_scanner.proofs.Sound.LastLines.{last_first}
 
 -- whether a character outside comments belongs to it
 abbrev pub goes_over : ℕ → Bool
@@ -73,14 +72,11 @@ past_white_space t = after_separation t.held (t.held.leading || has_break (white
 -- They are a separation, and all of them are read.
 pub white_exactly : (t : ScannerState) → Holds (λ u. (u ≡ past_white_space t) × (is_separation false (white_of false t.rest) (past_white false t.rest) ≡ true)) (skip_yaml_whitespace t)
 unfolding skip_yaml_whitespace
-white_exactly t = weakened exactly (both_hold (read_holds (white_space_is_passed t.held t.rest)) (white_read false false t.rest t.held))
-  where
-    exactly : (u : ScannerState) → HasPassed begins_white_space t.held t.rest u × IsPastWhite false t.held.leading t.rest u → (u ≡ past_white_space t) × (is_separation false (white_of false t.rest) (past_white false t.rest) ≡ true)
-    exactly u q =
-        let p = q.0 in
-        let k = q.1 in
-        let same : p.separation ≡ white_of false t.rest = append_cancel_right p.separation (white_of false t.rest) u.rest (sym p.cut ∙ (white_cut false t.rest ∙ ap (λ r. white_of false t.rest ++ r) (sym k.0))) in
-        grind (arith, p, k, same)
+white_exactly t = weakened (λ u q.
+    let p = q.0 in
+    let k = q.1 in
+    let same : p.separation ≡ white_of false t.rest = append_cancel_right p.separation (white_of false t.rest) u.rest (sym p.cut ∙ (white_cut false t.rest ∙ ap (λ r. white_of false t.rest ++ r) (sym k.0))) in
+    grind (arith, p, k, same)) (both_hold (read_holds (white_space_is_passed t.held t.rest)) (white_read false false t.rest t.held))
 
 -- no TAB is among them but in comments
 pub no_tab_in : (in_comment : Bool) (a : List ℕ) → has_tab_before_piece in_comment (white_of in_comment a) ≡ false

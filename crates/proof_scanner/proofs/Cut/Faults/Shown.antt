@@ -41,18 +41,14 @@ module _ (text : List ℕ) (t : ScannerState) (a : Arrives text t) where
 
   -- where a piece begins is a position after a row of pieces
   spot : (rest : List ℕ) → t.rest ≡ rest → IsSpot text rest now
-  spot rest e = rw (sym e) (record {
-    row = c.row;
-    separation = a.separation;
-    is_text = c.is_text;
-    is_row = c.is_row.is_row None;
-    is_filled = a.is_filled;
-    is_account = ap (λ b. account_past_separation b a.separation t.rest) c.is_row.past ∙
-        ap (λ p. account_by p (before_past (before_by a.base.site.before) a.separation) (somes (with_key a.base.site.blocks a.base.line)) (levels_in a.base.entries)) (sym a.position_is);
-  })
-    where
-      c : IsCutUpTo text (a.separation ++ t.rest) a.base a.tokens
-      c = arrives_cut text t a
+  spot rest e = let c : IsCutUpTo text (a.separation ++ t.rest) a.base a.tokens = arrives_cut text t a in
+      rw (sym e) (search (
+        c.is_text,
+        c.is_row.is_row None,
+        a.is_filled,
+        ap (λ b. account_past_separation b a.separation t.rest) c.is_row.past ∙
+            ap (λ p. account_by p (before_past (before_by a.base.site.before) a.separation) (somes (with_key a.base.site.blocks a.base.line)) (levels_in a.base.entries)) (sym a.position_is),
+      ))
 
   quoted_stands : (single : Bool) (more : List ℕ) (why : Problem) → t.rest ≡ none.quote_of single ∷ more → none.IsNotQuoted single more why → IsThere text (At why t.held.position)
   quoted_stands single more why e (none.by_marker body rest cut has marks) = marked_quote now single body rest (spot _ (e ∙ ap (λ r. none.quote_of single ∷ r) cut)) has marks

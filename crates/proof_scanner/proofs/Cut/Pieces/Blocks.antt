@@ -1,5 +1,5 @@
 -- What the scan of a block scalar reads is its piece.
-use Rattle.proof_scanner.proofs.Common.{cases_Bool, [], and_false, ap, arith, begins_with, Block, block, block_position, block_read, BlockIsRead, BlockRead, BlockStyle, collection_column, collection_of, false, folded, further_position, has_no_nul, if◌then◌else◌, indicator_of, inl, inr, is_at_end, is_blank, is_empty, is_literal_style, is_nul, is_past, is_separation, IsBlockRead, IsPiece, List, literal, nat_lt, nat_tests, Ok, Option, past_spaces, Position, position_after, position_past, Read, read_as, ReadAs, refl, scalar, Some, split, Style, subst, Tok, true, whole_block, without_spaces, ℕ, ◌++◌, ◌<◌, ◌==◌, ◌∙◌, ◌∷◌, ◌≡◌, ◌⊎◌, further_is_no_break, line_grows, eqb-true}
+use Rattle.proof_scanner.proofs.Common.{cases_Bool, [], and_false, ap, arith, begins_with, Block, block, block_position, block_read, BlockIsRead, BlockRead, BlockStyle, collection_column, collection_of, false, folded, further_position, has_no_nul, if◌then◌else◌, indicator_of, inl, inr, is_at_end, is_blank, is_empty, is_literal_style, is_nul, is_past, is_separation, IsPiece, List, literal, nat_lt, nat_tests, Ok, Option, past_spaces, Position, position_after, position_past, Read, read_as, ReadAs, refl, scalar, Some, split, Style, subst, Tok, true, whole_block, without_spaces, ℕ, ◌++◌, ◌<◌, ◌==◌, ◌∙◌, ◌∷◌, ◌≡◌, ◌⊎◌, further_is_no_break, line_grows, eqb-true}
 use Rattle.model_scanner.specs.declared.kind.BlockStyle.TheVariants.{Literal, Folded}
 use Rattle.defs_text.specs.Classes.{space}
 use Rattle.defs_token.specs.Account.{Account, is_in_flow}
@@ -82,12 +82,9 @@ module _ (a : Account) (indent : ℕ) (outside : is_in_flow a ≡ false) (column
 
   by_style : (style : BlockStyle) (more : List ℕ) (r : Read Block) → has_no_nul (indicator_of style ∷ more) ≡ true → has_no_nul more ≡ true → block (is_literal_style style) indent (indicator_of style ∷ more) a.position ≡ Ok r
       → ReadAs a (indicator_of style ∷ more) (token_of style r.value.text) r.value.position r.rest r.position × IsBelow a.position r.position r.rest
-  by_style style more r all nul e = by r (read_as e (scans_end style indent more a.position (some_chars more nul)))
-    where
-      by : (x : Read Block) → IsBlockRead style indent a.position more x → ReadAs a (indicator_of style ∷ more) (token_of style x.value.text) x.value.position x.rest x.position × IsBelow a.position x.position x.rest
-      by x (whole_block piece next b it (read free deep same)) =
-          let none : has_no_nul next ≡ true = no_nul_after piece next (subst (λ l. has_no_nul l ≡ true) it.is_text all) in
-          rw same (found style (indicator_of style ∷ more) piece next b none it.is_text it.is_read it.is_style)
+  by_style style more r all nul e = elim (read_as e (scans_end style indent more a.position (some_chars more nul))) [
+    | whole_block piece next b it (read free deep same) ↦ rw same (found style (indicator_of style ∷ more) piece next b (no_nul_after piece next (subst (λ l. has_no_nul l ≡ true) it.is_text all)) it.is_text it.is_read it.is_style)
+  ]
 
 -- a block scalar that was read is the piece of its token, and after it spaces were passed
 pub block_is_read : BlockIsRead

@@ -1,5 +1,5 @@
 -- What the scan of a tag reads is its piece.
-use Rattle.proof_scanner.proofs.Common.{[], after, all_leading, ap, begins_with_mark, Bool, codes, eqb-true, false, has_no_break, is_alpha, is_break, is_decimal_digit, is_letter, is_same, is_tag, is_uri, IsTagRead, leading, List, Ok, Position, position_in_line, Read, read_as, refl, shorthand, Some, span_cut, sym, Tag, tag_of_class, TagIsRead, tags_end, Tok, true, verbatim, whole_tag, written_tag, ℕ, ◌++◌, ◌∙◌, ◌∷◌, ◌≡◌, arith, nat_tests}
+use Rattle.proof_scanner.proofs.Common.{[], after, all_leading, ap, begins_with_mark, Bool, codes, eqb-true, false, has_no_break, is_alpha, is_break, is_decimal_digit, is_letter, is_same, is_tag, is_uri, leading, List, Ok, Position, position_in_line, Read, read_as, refl, shorthand, Some, span_cut, sym, Tag, tag_of_class, TagIsRead, tags_end, Tok, true, verbatim, whole_tag, written_tag, ℕ, ◌++◌, ◌∙◌, ◌∷◌, ◌≡◌, arith, nat_tests}
 use Rattle.defs_text.specs.Tags.{named}
 use Rattle.model_scanner.specs.Tag as models
 use Rattle.proof_scanner.proofs.Cut.Pieces.Separations.{no_break_append}
@@ -21,9 +21,8 @@ of_class class none handle t g h = grind (arith, all_in_line)
 
 closed_in_line : (t : List ℕ) → is_same t (codes ">") ≡ true → has_no_break t ≡ true
 unfolding is_break
-closed_in_line [] h = cc
 closed_in_line (c ∷ []) h = grind arith
-closed_in_line (c ∷ d ∷ t) h = grind arith
+closed_in_line t h = grind arith
 
 verbatim_in_line : (t : List ℕ) (g : Tag) → verbatim t ≡ Some g → has_no_break t ≡ true
 unfolding is_uri is_decimal_digit is_letter
@@ -48,11 +47,9 @@ written_in_line (c ∷ t) g h = grind (arith, eqb-true, verbatim_in_line t g, sh
 -- ---- the piece
 
 pub tag_property : (fl : Bool) (p : Position) (text more : List ℕ) → text ≡ 33 ∷ more → (x : Read models.Tag) → models.tag fl text p ≡ Ok x → IsProperty fl (Tok.tag x.value.handle x.value.suffix) p text x.rest x.position
-tag_property fl p text more e x k = by x (read_as (ap (λ r. models.tag fl r p) (sym e) ∙ k) (tags_end fl more p))
-  where
-    by : (y : Read models.Tag) → IsTagRead fl p more y → IsProperty fl (Tok.tag y.value.handle y.value.suffix) p text y.rest y.position
-    by y (whole_tag piece rest handle suffix cut is follows) =
-        let line : has_no_break (33 ∷ piece) ≡ true = written_in_line piece (record { handle = handle; suffix = suffix }) is in grind (arith, line, position_in_line)
+tag_property fl p text more e x k = elim (read_as (ap (λ r. models.tag fl r p) (sym e) ∙ k) (tags_end fl more p)) as (λ y w. IsProperty fl (Tok.tag y.value.handle y.value.suffix) p text y.rest y.position) [
+  | whole_tag piece rest handle suffix cut is follows ↦ let line : has_no_break (33 ∷ piece) ≡ true = written_in_line piece (record { handle = handle; suffix = suffix }) is in grind (arith, line, position_in_line)
+]
 
 -- a tag that was read is the piece of its token
 pub tag_is_read : TagIsRead
