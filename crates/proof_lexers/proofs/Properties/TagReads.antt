@@ -1,12 +1,12 @@
 -- Each tag is read as it is written: a text begins with one tag at most, and is refused only where it begins with none.
-use Rattle.proof_lexers.proofs.Common.{[], after, after_tag, Fault, Position, Read, all_of, and_parts, ap, append_assoc, at_start, Bool, cases_Bool, codes, decoded, eqb-true, Err, false, inl, inr, is_empty, is_nul, is_same, IsTagRefusal, leading, leading_none, List, local_goes_on, local_octets, may_follow, no_suffix, None, Ok, Problem, reads, refl, refuses, Result, Some, sym, suffix_goes_on, suffix_octets, tag_of_class, TagsAreRead, true, uri_character, UriFault, verbatim_goes_on, verbatim_octets, whole_tag, written_tag, ℕ, ◌++◌, ◌==◌, ◌∙◌, ◌∷◌, ◌≡◌, arith, is_blank_or_end, is_decimal_digit, is_letter, all_leading, before_end, begins_in, leading_all, span_cut}
+use Rattle.proof_lexers.proofs.Common.{[], after, after_tag, Fault, Position, Read, all_of, and_parts, ap, append_assoc, at_start, Bool, cases_Bool, codes, decoded, eqb-true, Err, false, inl, inr, is_empty, is_nul, is_same, IsTagRefusal, leading, leading_none, List, local_goes_on, local_octets, may_follow, no_suffix, None, Ok, Problem, reads, refl, refuses, Result, Some, sym, suffix_goes_on, suffix_octets, tag_of_class, TagsAreRead, true, UriFault, verbatim_goes_on, verbatim_octets, whole_tag, written_tag, ℕ, ◌++◌, ◌==◌, ◌∙◌, ◌∷◌, ◌≡◌, arith, is_blank_or_end, is_decimal_digit, is_letter, all_leading, before_end, begins_in, leading_all, span_cut}
 use Rattle.proof_lexers.specs.TagEnds.{unclosed}
 use Rattle.defs_text.specs.Classes as classes
 use Rattle.defs_text.specs.Tags as defs
 use Rattle.model_scanner.specs.Tag.{Tag}
 use Rattle.proof_lexers.proofs.Directives.Lines.{same_text}
 use Rattle.proof_row.proofs.TagEnds.{alpha_goes_on, goes_on, tag_goes_on, tags}
-use Rattle.proof_lexers.proofs.Properties.Tags.{alpha_starts, close_is_no_uri, tags_end}
+use Rattle.proof_lexers.proofs.Properties.Tags.{close_is_no_uri, decoded_word, tags_end}
 
 -- what may follow a tag is of no class of characters that a tag goes on with
 follower : (class : ℕ → Bool) → ((c : ℕ) → class c ≡ true → goes_on c ≡ true) → (flow : Bool) (rest : List ℕ) → may_follow flow rest ≡ true
@@ -17,11 +17,6 @@ follower class f flow (c ∷ r) h = grind (arith, f c)
 -- a tag whose suffix is written so
 of_class : (class : ℕ → Bool) (h t : List ℕ) (g : defs.Tag) → tag_of_class class h t ≡ Some g → (all_of class t ≡ true) × (decoded t ≡ Ok g.suffix) × (g.handle ≡ h)
 of_class class h t g e = grind arith
-
-word_fails : (name r : List ℕ) (f : UriFault) → all_of classes.is_alpha name ≡ true → decoded r ≡ Err f → decoded (name ++ r) ≡ Err f
-unfolding uri_character
-word_fails [] r f h e = e
-word_fails (c ∷ name) r f h e = let q = and_parts (classes.is_alpha c) (all_of classes.is_alpha name) h in rw ((alpha_starts c q.0).1, word_fails name r f q.1 e) refl
 
 tags_after : (a b : List ℕ) → all_of classes.is_tag (a ++ b) ≡ true → all_of classes.is_tag b ≡ true
 tags_after [] b h = h
@@ -77,7 +72,7 @@ module _ (flow : Bool) (rest : List ℕ) (follows : may_follow flow rest ≡ tru
       by : (d : Result (List ℕ) UriFault) → decoded m ≡ d
           → (leading classes.is_tag (m ++ rest) ≡ m) × (after classes.is_tag (m ++ rest) ≡ rest) → Begins (a ++ rest)
       by (Ok cs) i z = local_tag (m ++ rest) cs e f (let no = ends_at 33 refl in grind (arith, no)) (rw z.0 i) z.1
-      by (Err j) i z = absurd (cc (k.1, cut, word_fails (leading classes.is_alpha a) m j (all_leading classes.is_alpha a) i))
+      by (Err j) i z = absurd (cc (k.1, cut, decoded_word (leading classes.is_alpha a) m (all_leading classes.is_alpha a), i))
 
   tag_begins : (a : List ℕ) (g : defs.Tag) → written_tag (33 ∷ a) ≡ Some g → Begins (a ++ rest)
   unfolding is_blank_or_end classes.is_blank classes.is_break is_nul classes.is_flow
