@@ -33,12 +33,10 @@ module _ (ctx : Context) (start : Position) where
   -- a blank at the start of a line, where a TAB that stands too far left is as a space unless a token follows
   line_blank : (c : ℕ) (a : List ℕ) (p : Position) (t : Folded) → is_break c ≡ false → is_blank c ≡ true → t.leading ≡ true → scan_in ctx start tabs a (past p) t ≡ (if token_ahead a then Err (At PlainTab start) else scan_in ctx start between a (past p) t)
       → scan_in ctx start between (c ∷ a) p t ≡ (if (c == 9) && nat_lt p.col ctx.indent && token_ahead a then Err (At PlainTab start) else scan_in ctx start between a (past p) t)
-  line_blank c a p t e f lead after = by ((c == 9) && nat_lt p.col ctx.indent) refl
-    where
-      by : (left : Bool) → ((c == 9) && nat_lt p.col ctx.indent) ≡ left
-          → scan_in ctx start between (c ∷ a) p t ≡ (if (c == 9) && nat_lt p.col ctx.indent && token_ahead a then Err (At PlainTab start) else scan_in ctx start between a (past p) t)
-      by true h = let b : (t.leading && (c == 9) && nat_lt p.col ctx.indent) ≡ true = rw lead h in rw (e, f, b, after, h) refl
-      by false h = let b : (t.leading && (c == 9) && nat_lt p.col ctx.indent) ≡ false = rw lead h in rw (e, f, b, lead, h) refl
+  line_blank c a p t e f lead after = elim (cases_Bool ((c == 9) && nat_lt p.col ctx.indent)) [
+    | inl h ↦ let b : (t.leading && (c == 9) && nat_lt p.col ctx.indent) ≡ true = rw lead h in rw (e, f, b, after, h) refl
+    | inr h ↦ let b : (t.leading && (c == 9) && nat_lt p.col ctx.indent) ≡ false = rw lead h in rw (e, f, b, lead, h) refl
+  ]
 
   -- What a scan does after a TAB at the start of a line: it refuses a token after blanks, and else the TAB is as a space.
   after_tab : (a : List ℕ) (p : Position) (t : Folded) → t.leading ≡ true → scan_in ctx start tabs a p t ≡ (if token_ahead a then Err (At PlainTab start) else scan_in ctx start between a p t)
