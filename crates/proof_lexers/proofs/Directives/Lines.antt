@@ -1,5 +1,5 @@
 -- Directives are read as their lines say, and no other text is.
-use Rattle.proof_lexers.proofs.Common.{[], is_empty, after, after_declaration, after_major, after_value, after_version, and_then, ap, append-nil, append_assoc, arith, At, begins_prefix, begins_with, blanks, by_comment, by_declaration, by_name, by_octets, by_version, cases_Bool, cases_Option, codes, declaration_by, decoded, Directive, directive, directive_of, DirectivesAreRead, DirectivesEndAsTheirTextSays, eqb-true, Err, false, Fault, first_break, further, handle_and_rest, has_no_break, if◌then◌else◌, inl, inr, is_alpha, is_alphanumeric, is_at_gap, is_blank, is_flow, is_handle, is_rest_of_line, is_same, is_tag, is_uri, is_uri_mark, IsDirectiveRefusal, IsNoDeclaration, IsNoVersion, kind, leading, length, length-append, List, long_major, long_minor, name, next_line, no_major, no_minor, no_name, no_point, no_prefix, None, not-false, not-true, number, number_of, Ok, open_name, past, Position, prefix, prefix_after, Problem, problem_of, Read, reads, refl, refuses, reserved, Result, skip_while, slice_index, Some, suc, sym, tag, tag_declaration, tag_value, token_of, true, unknown, UriFault, value, version, version_of, version_value, with_minor, with_prefix, ℕ, ◌++◌, ◌+◌, ◌==◌, ◌||◌, ◌∙◌, ◌∷◌, ◌≡◌, nat_tests, CommentNotSeparated, DirectiveEnd, DirectiveName, DirectiveNameEnd, GlobalTagCharacter, TagDirectiveEnd, TagDirectiveHandle, TagStart, VersionDot, VersionNumber, VersionTooLong, is_blank_or_end, is_nul, is_decimal_digit, is_letter, same_blank, same_alpha, same_tag, same_place, before_end, skipped, span_cut}
+use Rattle.proof_lexers.proofs.Common.{[], is_empty, after, after_declaration, after_major, after_value, after_version, and_then, ap, append-nil, append_assoc, arith, At, begins_prefix, begins_with, blanks, by_comment, by_declaration, by_name, by_octets, by_version, cases_Bool, cases_Option, codes, declaration_by, decoded, Directive, directive, directive_break, directive_of, DirectivesAreRead, DirectivesEndAsTheirTextSays, eqb-true, Err, false, Fault, first_break, further, handle_and_rest, has_no_break, if◌then◌else◌, inl, inr, is_alpha, is_alphanumeric, is_at_gap, is_blank, is_flow, is_handle, is_rest_of_line, is_same, is_tag, is_uri, is_uri_mark, IsDirectiveRefusal, IsNoDeclaration, IsNoVersion, kind, leading, length, length-append, line_end, List, long_major, long_minor, name, next_line, no_major, no_minor, no_name, no_point, no_prefix, None, not-false, not-true, number, number_of, Ok, open_name, past, Position, prefix, prefix_after, Problem, problem_of, Read, reads, refl, refuses, reserved, Result, skip_while, slice_index, Some, suc, sym, tag, tag_declaration, tag_value, token_of, true, unknown, UriFault, value, version, version_of, version_value, with_minor, with_prefix, ℕ, ◌++◌, ◌+◌, ◌==◌, ◌||◌, ◌∙◌, ◌∷◌, ◌≡◌, nat_tests, CommentNotSeparated, DirectiveEnd, DirectiveName, DirectiveNameEnd, GlobalTagCharacter, TagDirectiveEnd, TagDirectiveHandle, TagStart, VersionDot, VersionNumber, VersionTooLong, is_blank_or_end, is_nul, is_decimal_digit, is_letter, same_blank, same_alpha, same_tag, same_place, before_end, skipped, span_cut}
 use Rattle.defs_token.specs.Token.{Tok}
 use Rattle.defs_text.specs.Classes as classes
 use Rattle.defs_text.specs.Directives as defs
@@ -7,8 +7,9 @@ use Rattle.model_scanner.specs.Directive.{after_name}
 use Rattle.proof_lexers.specs.DirectiveEnds.{ends_line, after_line, no_mark, goes_on, IsVersionBefore, whole_directive, no_directive}
 use Rattle.proof_lexers.proofs.Separation.Positions.{position_append, position_in_line}
 use Rattle.proof_lexers.proofs.Properties.Uris.{uris_are_read}
-use Rattle.proof_lexers.proofs.RestOfLine.{first_line, in_line, line_skipped, no_break_after, none_at_end}
-use Rattle.proof_lexers.proofs.Directives.Values.{ended, comment, text, line_ends, spells_name, kind_is, gap_is, number_by, number_is, not_at_end, handle_sees}
+use Rattle.proof_lexers.proofs.RestOfLine as rest_of_lines
+use Rattle.proof_lexers.proofs.RestOfLine.{first_line, glued, in_line, line_skipped, no_break_after, none_at_end, rest_of_line}
+use Rattle.proof_lexers.proofs.Directives.Values.{break_read, spells_name, kind_is, gap_is, number_by, number_is, not_at_end, handle_sees}
 use Rattle.proof_lexers.proofs.Directives.Values as values
 
 pub same_text : (a b : List ℕ) → is_same a b ≡ true → a ≡ b
@@ -39,11 +40,11 @@ module _ (start : Position) (l n : List ℕ) (line : has_no_break l ≡ true) (e
   finish : (before m : List ℕ) (d : Directive) (p : Position) → l ≡ before ++ m → p ≡ further (suc (length before)) start → directive_of (37 ∷ l) ≡ (if is_rest_of_line m then Some d else None)
       → ((k : List ℕ) → m ≡ 35 ∷ k → IsDirectiveRefusal start l (At CommentNotSeparated (further (suc (length before)) start)))
       → (is_rest_of_line m ≡ false → begins_with 35 m ≡ false → IsDirectiveRefusal start l (At DirectiveEnd start)) → Told start l n (after_value start (record { rest = m ++ n; position = p; value = token_of d }))
-  unfolding classes.is_break
-  finish before m d p cut position says by_hash by_other = elim (line_ends start p m n (no_break_after before m (ap has_no_break (sym cut) ∙ line)) ends) [
-    | ended is e ↦ rw e (is_directive d (says ∙ rw is refl) (ap (λ q. Ok (record { rest = next_line n; position = q; value = token_of d })) (grind (arith, nat_tests, length-append, further, first_break, same_place, position_in_line, position_append))))
-    | comment begins none e ↦ rw (e, position) (fails (At CommentNotSeparated (further (suc (length before)) start)) (says ∙ rw none refl) (grind (arith, by_hash, begins)) refl)
-    | text none begins e ↦ rw e (fails (At DirectiveEnd start) (says ∙ rw none refl) (by_other none begins) refl)
+  unfolding line_end directive_break classes.is_break
+  finish before m d p cut position says by_hash by_other = elim (rest_of_line m n p (no_break_after before m (ap has_no_break (sym cut) ∙ line)) ends) [
+    | rest_of_lines.ends w is e ↦ rw (e, break_read start (further (length m) p) n ends) (is_directive d (says ∙ rw is refl) (ap (λ q. Ok (record { rest = next_line n; position = q; value = token_of d })) (grind (arith, nat_tests, length-append, further, first_break, same_place, position_in_line, position_append))))
+    | glued k so none e ↦ rw (e, position) (fails (At CommentNotSeparated (further (suc (length before)) start)) (says ∙ rw none refl) (by_hash k so) refl)
+    | rest_of_lines.goes_on c more q w none begins solid e ↦ rw (e, solid) (fails (At DirectiveEnd start) (says ∙ rw none refl) (by_other none begins) refl)
   ]
 
   -- ---- words
