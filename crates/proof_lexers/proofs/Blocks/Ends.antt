@@ -1,5 +1,5 @@
 -- Each piece that is a block scalar is read as it, and each scan of one ends as its text says.
-use Rattle.proof_lexers.proofs.Common.{[], ap, append-nil, arith, begins_with, block, block_read, BlockRead, cases_Bool, cases_Option, inl, inr, BlockScansEndAsTheirTextSays, BlockStyle, body, collection_of, column_by, ends_line, EndsAs, false, first_line, further_text, header, header_of, indicator_of, is_at_end, is_further_text, is_in_line, is_literal_style, is_some, IsHeaderRead, IsHeaderRefusal, IsRead, leading_spaces, linebreak, List, list_all, None, Option, past, Position, Read, read_body, read_lines, read_split, reads, refl, refuses, Row, rows_of, Some, starts_with_tab, subst, sym, tab, true, unbroken, value_before_end, value_before_text, whole_header, ℕ, ◌++◌, ◌==◌, ◌∙◌, ◌∷◌, ◌≡◌, and_parts, BlockPiecesAreRead, Body, Bool, further_is_no_break, indent_from, input_ends, is_single, is_tabbed, not, not-true, row_of, slice_index, Split, split, ◌&&◌, if◌then◌else◌, nat_tests, is_nul}
+use Rattle.proof_lexers.proofs.Common.{[], ap, append-nil, arith, begins_with, block, block_read, BlockRead, cases_Bool, cases_Option, inl, inr, BlockScansEndAsTheirTextSays, BlockStyle, body, collection_of, column_by, ends_line, EndsAs, false, first_line, further_text, header, header_of, indicator_of, is_at_end, is_further_text, is_in_line, is_literal_style, is_some, IsHeaderRead, IsHeaderRefusal, IsRead, leading_spaces, linebreak, List, list_all, None, Option, past, Position, Read, read_body, read_lines, read_split, reads, refl, refuses, Row, rows_of, Some, starts_with_tab, subst, sym, tab, true, unbroken, value_before_end, value_before_text, whole_header, ℕ, ◌++◌, ◌==◌, ◌∙◌, ◌∷◌, ◌≡◌, and_parts, BlockPiecesAreRead, Body, Bool, further_is_no_break, indent_from, input_ends, is_single, is_tabbed, not, not-true, row_of, slice_index, Split, split, ◌&&◌, nat_tests, is_nul}
 use Rattle.defs_text.specs.BlockScalar as defs
 use Rattle.proof_lexers.specs.BlockEnds.{IsBlockPiece, IsBlockRead, IsBlockRefusal, whole_block, after_piece, bad_header}
 use Rattle.proof_lexers.proofs.Ends.{ends_also}
@@ -10,9 +10,7 @@ use Rattle.proof_lexers.proofs.Blocks.Columns.{first_before, first_left, same_co
 use Rattle.proof_lexers.proofs.Blocks.Values.{of_line, stops, ends, walked, further_outside}
 use Rattle.proof_lexers.proofs.Blocks.Scans.{style_inner, start, after, block_is, tab_fails, before_further, before_the_end, header_alone_is_read}
 use Rattle.proof_lexers.proofs.Blocks.First.{least_is}
-use Rattle.defs_token.specs.BlockPiece.{with_value}
 use Rattle.proof_lexers.specs.BlockScan.{tabbed}
-use Rattle.defs_text.specs.BlockScalar.{value_at_end, value_at_text}
 
 -- ---- a TAB after the header
 
@@ -57,10 +55,6 @@ module _ (indent : ℕ) (p : Position) (next : List ℕ) where
     tabless : starts_with_tab ls ≡ false
     further : is_further_text column next ≡ true
     value : record { style = h.style; column = column; text = value_before_text h rows } ≡ b
-
-  before : (h : defs.Header) (column : ℕ) (ls : List (List ℕ)) (b : BlockRead)
-      → (if is_further_text column next then with_value h column (if starts_with_tab ls then None else value_at_text h (rows_of column ls)) else None) ≡ Some b → Before h column ls b
-  before h column ls b e = grind arith
 
   module _ (h : defs.Header) (line : List ℕ) (k : Break) (ls : List Line) (b : BlockRead) (is : header_of (indicator_of h.style ∷ line) ≡ Some h) (inner : is_in_line line ≡ true)
       (fits : Fits k (spell ls [])) (are : AreLines ls []) (not_end : is_at_end next ≡ false) (z : Before h (column_by h.digit (collection_of indent) (texts ls)) (texts ls) b) where
@@ -146,7 +140,9 @@ module _ (indent : ℕ) (p : Position) (b : BlockRead) where
   read_to_text : (w : List ℕ) (k : Break) (ls : List Line) (next : List ℕ) → Headed w → Fits k (spell ls []) → AreLines ls [] → is_at_end next ≡ false
       → read_body (header_of w) (collection_of indent) (body (texts ls) further_text) next ≡ Some b → Read_as (w ++ put k (spell ls [])) next
   read_to_text _ k ls next (heads h line is inner) fits are some e =
-      further_read indent p next h line k ls b is inner fits are some (before indent p next h _ (texts ls) b (rw (is, some) at e))
+      let told = rw (is, some) at e in
+      let z : Before indent p next h (column_by h.digit (collection_of indent) (texts ls)) (texts ls) b = grind (arith, told) in
+      further_read indent p next h line k ls b is inner fits are some z
 
   read_of_lines : (ls : List Line) (last next : List ℕ) → AreLines ls last → is_in_line last ≡ true → list_all is_some next ≡ true → (t : Bool) → is_at_end next ≡ t
       → read_lines (collection_of indent) (texts ls) last next t ≡ Some b → Read_as (spell ls last) next

@@ -6,7 +6,7 @@ use Rattle.defs_text.specs.BlockScalar as defs
 use Rattle.std.proofs.lemmas.List.Folds.{list_all-append}
 use Rattle.proof_lexers.proofs.Along.{along_append}
 use Rattle.proof_lexers.proofs.RestOfLine as rest_of_lines
-use Rattle.proof_lexers.proofs.RestOfLine.{along_further, in_line_is, Rest, glued, goes_on, rest_of_line}
+use Rattle.proof_lexers.proofs.RestOfLine.{along_further, in_line_is, glued, goes_on, rest_of_line}
 use Rattle.proof_lexers.proofs.Blocks.Margins.{after_break, Break, Fits, put}
 
 -- what stands at a line's end is no indicator

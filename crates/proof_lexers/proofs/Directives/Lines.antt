@@ -9,7 +9,7 @@ use Rattle.proof_lexers.proofs.Separation.Positions.{position_append, position_i
 use Rattle.proof_lexers.proofs.Properties.Uris.{uris_are_read}
 use Rattle.proof_lexers.proofs.RestOfLine as rest_of_lines
 use Rattle.proof_lexers.proofs.RestOfLine.{first_line, glued, in_line, line_skipped, no_break_after, none_at_end, rest_of_line}
-use Rattle.proof_lexers.proofs.Directives.Values.{break_read, spells_name, kind_is, gap_is, number_by, number_is, not_at_end, handle_sees}
+use Rattle.proof_lexers.proofs.Directives.Values.{break_read, spells_name, kind_is, gap_is, number_is, not_at_end, handle_sees}
 use Rattle.proof_lexers.proofs.Directives.Values as values
 
 pub same_text : (a b : List ℕ) → is_same a b ≡ true → a ≡ b
