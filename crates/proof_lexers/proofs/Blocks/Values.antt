@@ -1,5 +1,5 @@
 -- What rows leave in the model's buffers is the text that the definitions give them; where content is found after rows, and what ends them.
-use Rattle.proof_lexers.proofs.Common.{[], ap, append-nil, append_assoc, arith, between, between_lines, BlockStyle, Bool, breaks, chomping_of, clip, content_row, empty_after, empty_row, empty_text, false, has_content, if◌then◌else◌, is_literal_style, keep, length, Lines, List, nothing_before_end, nothing_before_text, refl, Row, starts_blank, strip, suc, sym, tail, text_after, text_of, true, with_content, zero, ℕ, ◌++◌, ◌+◌, ◌||◌, ◌∙◌, ◌∷◌, ◌≡◌, indent_from, is_further_text, is_in_line, is_some, list_all, None, Option, Position, row_of, rows_of, Some, ◌≤◌, and_parts, cases_Bool, eqb-true, inl, inr, is_break, is_outside, lt-ltb, nat_lt, ne_eqb, not, not-true, Ok, past, past_spaces, without_spaces, ◌&&◌, ◌==◌, are_marks, is_nul, same_break, same_marker}
+use Rattle.proof_lexers.proofs.Common.{[], ap, append-nil, append_assoc, arith, between, between_lines, BlockStyle, Bool, breaks, chomping_of, content_row, empty_after, empty_row, empty_text, false, has_content, if◌then◌else◌, is_literal_style, keep, length, Lines, List, nothing_before_end, nothing_before_text, refl, Row, starts_blank, suc, sym, tail, text_after, text_of, true, with_content, zero, ℕ, ◌++◌, ◌+◌, ◌||◌, ◌∙◌, ◌∷◌, ◌≡◌, indent_from, is_further_text, is_in_line, is_some, list_all, None, Option, Position, row_of, rows_of, Some, ◌≤◌, and_parts, cases_Bool, eqb-true, inl, inr, is_break, is_outside, lt-ltb, nat_lt, ne_eqb, not, not-true, Ok, past, past_spaces, without_spaces, ◌&&◌, ◌==◌, are_marks, is_nul, same_break, same_marker}
 use Rattle.defs_text.specs.BlockScalar as defs
 use Rattle.proof_lexers.proofs.Fold.{more_breaks}
 use Rattle.proof_lexers.proofs.Blocks.Rows.{after_line, after_lines, after_row, after_rows, AreLines, at, Break, break_ends, empty_passes, first_of, first_row, front, is_content, Line, no_content, put, scan, spell, starts, texts, through}
@@ -54,11 +54,9 @@ added b = (if b then 1 else 0)
 
 tail_is : (ch : defs.Chomping) (unbroken : Bool) (x : Lines) (n : ℕ) → x.breaks ≡ breaks n → x.broken ≡ true → tail (chomping_of ch) unbroken x ≡ defs.tail ch (added unbroken) n
 unfolding tail
-tail_is strip unbroken x n e f = refl
-tail_is clip true x n e f = rw f refl
-tail_is clip false x n e f = rw f refl
 tail_is keep true x n e f = let two : suc (suc n) ≡ suc 1 + n = omega arith in rw (f, e) (ap breaks two)
 tail_is keep false x n e f = let one : suc n ≡ suc 0 + n = omega arith in rw (f, e) (ap breaks one)
+tail_is ch unbroken x n e f = grind arith
 
 -- lines with content
 pub content_value : (h : defs.Header) (unbroken : Bool) (rs : List Row) → has_content rs ≡ true
