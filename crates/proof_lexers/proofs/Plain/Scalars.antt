@@ -12,7 +12,7 @@ use Rattle.proof_lexers.proofs.Plain.Values.{no_markers, value_is}
 use Rattle.defs_text.specs.Classes as classes
 use Rattle.proof_lexers.proofs.Separation.Separations.{no_hash}
 
-feed_breaks : (c : ℕ) → c ≡ 10 → is_break c ≡ true
+feed_breaks : (c : ℕ) → (c == 10) ≡ true → is_break c ≡ true
 unfolding is_break
 feed_breaks c h = rw h refl
 
@@ -73,7 +73,7 @@ module _ (ctx : Context) (start : Position) where
 
       no_tab : ((c == 9) && nat_lt p.col ctx.indent && token_ahead a) ≡ false → NoTab ctx start c a (on_line column)
       no_tab h k i l less = grind arith
-  at_blank c a s p t e f ih (at_feed column b cut) = absurd (cc (feed_breaks c (cc cut), e))
+  at_blank c a s p t e f ih (at_feed column feed) = absurd (cc (feed_breaks c feed, e))
 
   inside_ends : (c : ℕ) (a : List ℕ) → (c == 0) ≡ false → can_be_plain ctx.flow c (slice_index a 0) ≡ not (ends_plain ctx.flow (collection_of ctx.indent) defs.inside (c ∷ a))
   unfolding is_nul
@@ -89,7 +89,7 @@ module _ (ctx : Context) (start : Position) where
       ])
   at_content c a s p t nul white solid ih (after_blanks lead off deep) = after_gap ctx start c a after_blank p t white solid nul refl refl (no_line ctx c a p off deep) ih
   at_content c a s p t nul white solid ih (at_line column is lead) = after_gap ctx start c a (on_line column) p t white solid nul refl refl (line_is ctx c column a ∙ ap (λ k. at_marker k (c ∷ a) || is_shallow ctx k) is) ih
-  at_content c a s p t nul white solid ih (at_feed column b cut) = absurd (cc (feed_breaks c (cc cut), solid))
+  at_content c a s p t nul white solid ih (at_feed column feed) = absurd (cc (feed_breaks c feed, solid))
 
   step : (c : ℕ) (a : List ℕ) → (c == 0) ≡ false → Scans ctx start a → Scans ctx start (c ∷ a)
   step c a nul ih s p t stands = elim (cases_Bool (is_break c)) [
@@ -101,7 +101,7 @@ module _ (ctx : Context) (start : Position) where
   ]
 
   none : Scans ctx start []
-  none s p t (at_feed column b cut) = cc
+  none s p t (at_feed column feed) = cc
   none s p t _ = found_here ctx start [] _ p t _ refl refl refl
 
   pub scans : (a : List ℕ) → has_no_nul a ≡ true → Scans ctx start a

@@ -67,7 +67,7 @@ module _ (ctx : Context) (start : Position) where
     in_line : (text : List ℕ) → t ≡ in_text text → (p.col == 0) ≡ false → is_shallow ctx p.col ≡ false → IsStanding a p t defs.inside
     after_blanks : t.leading ≡ false → (p.col == 0) ≡ false → is_shallow ctx p.col ≡ false → IsStanding a p t after_blank
     at_line : (column : ℕ) → column ≡ p.col → t.leading ≡ true → IsStanding a p t (on_line column)
-    at_feed : (column : ℕ) (b : List ℕ) → a ≡ 10 ∷ b → IsStanding a p t (on_line column)
+    at_feed : (column : ℕ) → (slice_index a 0 == 10) ≡ true → IsStanding a p t (on_line column)
 
   -- from each such position a scan finds the scalar's end, or is refused
   abbrev pub Scans : List ℕ → Type 0
@@ -100,18 +100,13 @@ module _ (ctx : Context) (start : Position) where
       let x = at_breaks c a s p t e in
       elim (cases_Bool (is_cr_lf c a)) [
         | inl f ↦
-            let z = feeds a f in
             let g : is_before_line_feed c a ≡ true = sym (same_feed c a) ∙ f in
-            went c a s (on_line 0) p (past p) t t _ (rw white refl) other (rw breaks refl) (in_line_position c a p (rw g (and_false (classes.is_break c)))) (rw (breaks, g) refl) ih (at_feed 0 z.0 z.1) (rw f at x)
+            went c a s (on_line 0) p (past p) t t _ (rw white refl) other (rw breaks refl) (in_line_position c a p (rw g (and_false (classes.is_break c)))) (rw (breaks, g) refl) ih (at_feed 0 (and_parts (c == 13) (slice_index a 0 == 10) f).1) (rw f at x)
         | inr f ↦
             let g : is_before_line_feed c a ≡ false = sym (same_feed c a) ∙ f in
             went c a s (on_line 0) p (past_break p) t (with_break t) _ (rw white refl) other (rw breaks refl) (line_position c a p (rw (breaks, g) refl)) (rw (breaks, g) refl) ih
             (at_line 0 refl (elim (cases_Bool t.leading) [ inl e ↦ rw e refl | inr e ↦ rw e refl ])) (rw f at x)
       ]
-    where
-      feeds : (b : List ℕ) → is_cr_lf c b ≡ true → (d : List ℕ) × (b ≡ 10 ∷ d)
-      feeds [] h = let no : false ≡ true = sym (and_false (c == 13)) ∙ h in cc
-      feeds (d ∷ b) h = let q = and_parts (c == 13) (d == 10) h in (b, ap (λ k. k ∷ b) (eqb-true d 10 q.1))
 
   -- ---- blanks
 
