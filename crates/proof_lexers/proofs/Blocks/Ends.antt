@@ -1,5 +1,5 @@
 -- Each piece that is a block scalar is read as it, and each scan of one ends as its text says.
-use Rattle.proof_lexers.proofs.Common.{[], ap, append-nil, arith, begins_with, block, block_read, BlockRead, cases_Bool, cases_Option, inl, inr, BlockScansEndAsTheirTextSays, BlockStyle, body, collection_of, column_by, ends_line, EndsAs, false, first_line, further_text, header, header_of, indicator_of, is_at_end, is_further_text, is_in_line, is_literal_style, is_some, IsHeaderRead, IsHeaderRefusal, IsRead, leading_spaces, linebreak, List, list_all, None, Option, past, Position, Read, read_body, read_lines, read_split, reads, refl, refuses, Row, rows_of, Some, starts_with_tab, subst, sym, tab, true, unbroken, value_before_end, value_before_text, whole_header, ℕ, ◌++◌, ◌==◌, ◌∙◌, ◌∷◌, ◌≡◌, and_parts, BlockPiecesAreRead, Body, Bool, further_is_no_break, indent_from, input_ends, is_single, is_tabbed, not, not-true, row_of, slice_index, Split, split, ◌&&◌, nat_tests, is_nul}
+use Rattle.proof_lexers.proofs.Common.{[], ap, append-nil, arith, begins_with, block, block_read, BlockRead, cases_Bool, cases_Option, inl, inr, BlockScansEndAsTheirTextSays, BlockStyle, body, collection_of, column_by, ends_line, EndsAs, false, first_line, further_text, header, header_of, indicator_of, is_at_end, is_further_text, is_in_line, is_literal_style, is_some, IsHeaderRead, IsHeaderRefusal, IsRead, leading_spaces, linebreak, List, list_all, None, Option, or_parts, past, Position, Read, read_body, read_lines, read_split, reads, refl, refuses, Row, rows_of, Some, starts_with_tab, subst, sym, tab, true, unbroken, value_before_end, value_before_text, whole_header, ℕ, ◌++◌, ◌==◌, ◌||◌, ◌∙◌, ◌∷◌, ◌≡◌, and_parts, BlockPiecesAreRead, Body, Bool, further_is_no_break, indent_from, input_ends, is_single, is_tabbed, not, not-true, row_of, slice_index, Split, split, ◌&&◌, nat_tests, is_nul}
 use Rattle.defs_text.specs.BlockScalar as defs
 use Rattle.proof_lexers.specs.BlockEnds.{IsBlockPiece, IsBlockRead, IsBlockRefusal, whole_block, after_piece, bad_header}
 use Rattle.proof_lexers.proofs.Ends.{ends_also}
@@ -20,6 +20,10 @@ tab_line b a k ls = grind (arith, nat_tests)
 pub tab_whole : (ls : List Line) (e : List ℕ) → begins_with tab (spell ls e) ≡ starts_with_tab (texts ls ++ e ∷ [])
 tab_whole [] e = grind arith
 tab_whole (l ∷ ls) e = tab_line l.text (spell ls e) l.by (texts ls ++ e ∷ [])
+
+tab_lines : (line : List ℕ) (ls : List Line) (next : List ℕ) → begins_with tab (spell ls next) ≡ (starts_with_tab (texts ls) || (is_single (line ∷ texts ls) && begins_with tab next))
+tab_lines line [] next = refl
+tab_lines line (l ∷ ls) next = grind (arith, tab_line)
 
 -- ---- further text begins with no line feed, and is not the end
 
@@ -66,11 +70,7 @@ module _ (indent : ℕ) (p : Position) (next : List ℕ) where
 
     tabbed_is : is_tabbed (indicator_of h.style ∷ (line ++ put k (spell ls []))) next ≡ begins_with tab (spell ls next)
     tabbed_is =
-        ap (λ (s : Split). is_single s.complete && begins_with tab next) (split_spell (record { text = indicator_of h.style ∷ line; by = k } ∷ ls) [] (style_inner h.style line inner, fits, are) refl) ∙ of_lines ls z.tabless
-      where
-        of_lines : (ls : List Line) → starts_with_tab (texts ls) ≡ false → (is_single ((indicator_of h.style ∷ line) ∷ texts ls) && begins_with tab next) ≡ begins_with tab (spell ls next)
-        of_lines [] free = refl
-        of_lines (l ∷ ls) free = sym free ∙ sym (tab_line l.text (spell ls next) l.by (texts ls))
+        ap (λ (s : Split). is_single s.complete && begins_with tab next) (split_spell (record { text = indicator_of h.style ∷ line; by = k } ∷ ls) [] (style_inner h.style line inner, fits, are) refl) ∙ sym (rw z.tabless at (tab_lines (indicator_of h.style ∷ line) ls next))
 
     further_read : IsRead indent p b (indicator_of h.style ∷ (line ++ put k (spell ls []))) next (block (is_literal_style b.style) indent ((indicator_of h.style ∷ (line ++ put k (spell ls []))) ++ next) p)
     further_read =
@@ -218,16 +218,13 @@ module _ (style : BlockStyle) (indent : ℕ) (p : Position) where
         let column_is : column ≡ column_by h.digit (collection_of indent) (texts (own ++ ns) ++ last ∷ []) = ap (λ x. column_by h.digit (collection_of indent) (texts x ++ last ∷ [])) split_at in
         let same : column ≡ column_by h.digit (collection_of indent) (texts own) = column_is ∙ part_column h.digit indent own ns last parts.1 last_inner (rw (← column_is) further) in
         let fits_own : Fits k (spell own []) = fits_before k own (spell ns last) [] (fits_next k [] refl) (rw (← joined) fits) in
-        let tab_free = tab_of own (spell ns last) (rw (← joined) tabless) in
+        let still = sym (tab_lines (indicator_of style ∷ line) own (spell ns last)) ∙ rw (← joined) tabless in
+        let tab_free = (or_parts (starts_with_tab (texts own)) (is_single ((indicator_of style ∷ line) ∷ texts own) && begins_with tab (spell ns last)) still).0 in
         let lines = split_spell (record { text = indicator_of style ∷ line; by = k } ∷ own) [] (style_inner style line inner, fits_own, are_before own (spell ns last) [] (λ k. fits_next k [] refl) parts.0) refl in
         found (line ++ put k (spell ls last)) (indicator_of style ∷ (line ++ put k (spell own []))) (spell ns last) line (value_before_text h rs) h (column_by h.digit (collection_of indent) (texts own)) is
         (ap (λ a. indicator_of style ∷ (line ++ put k a)) joined ∙ sym (spell_more (record { text = indicator_of style ∷ line; by = k } ∷ own) [] (spell ns last))) some_next_text
         (ap (λ s. read_split (collection_of indent) s (spell ns last)) lines ∙ ap (λ t. read_lines (collection_of indent) ((indicator_of style ∷ line) ∷ texts own) [] (spell ns last) t) not_end
         ∙ ap (λ o. read_body o (collection_of indent) (body (texts own) further_text) (spell ns last)) is ∙ rw (not_end, ← same, further, tab_free, rows) refl)
-      where
-        tab_of : (own : List Line) (next : List ℕ) → begins_with tab (spell own next) ≡ false → starts_with_tab (texts own) ≡ false
-        tab_of [] next e = refl
-        tab_of (l ∷ own) next e = sym (tab_line l.text (spell own next) l.by (texts own)) ∙ e
 
     with_lines : Ends (line ++ put k (spell ls last))
     with_lines = elim (walked column ls last are last_inner some) [

@@ -2,7 +2,7 @@
 use Rattle.proof_lexers.proofs.Common.{[], ap, append-nil, append_assoc, arith, between, between_lines, BlockStyle, Bool, breaks, chomping_of, content_row, empty_after, empty_row, empty_text, false, has_content, if◌then◌else◌, is_literal_style, keep, length, Lines, List, nothing_before_end, nothing_before_text, refl, Row, starts_blank, suc, sym, tail, text_after, text_of, true, with_content, zero, ℕ, ◌++◌, ◌+◌, ◌||◌, ◌∙◌, ◌∷◌, ◌≡◌, indent_from, is_further_text, is_in_line, is_some, list_all, None, Option, Position, row_of, rows_of, Some, ◌≤◌, and_parts, cases_Bool, eqb-true, inl, inr, is_break, is_outside, lt-ltb, nat_lt, ne_eqb, not, not-true, Ok, past, past_spaces, without_spaces, ◌&&◌, ◌==◌, are_marks, is_nul, same_break, same_marker}
 use Rattle.defs_text.specs.BlockScalar as defs
 use Rattle.proof_lexers.proofs.Fold.{more_breaks}
-use Rattle.proof_lexers.proofs.Blocks.Rows.{after_line, after_lines, after_row, after_rows, AreLines, at, Break, break_ends, empty_passes, first_of, first_row, front, is_content, Line, no_content, put, scan, spell, starts, texts, through}
+use Rattle.proof_lexers.proofs.Blocks.Rows.{after_line, after_lines, after_row, after_rows, AreLines, at, break_ends, empty_passes, first_of, first_row, front, is_content, Line, no_content, put, scan, spell, starts, texts, through}
 use Rattle.std.proofs.lemmas.List.Folds.{list_all-append}
 use Rattle.proof_lexers.proofs.Blocks.Columns.{none_further}
 use Rattle.defs_text.specs.Classes as classes
@@ -99,10 +99,7 @@ last_value h rs m =
 
 -- a line and its break have no NUL, nor has the text after them
 pub of_line : (l : Line) (a : List ℕ) → list_all is_some (l.text ++ put l.by a) ≡ true → (list_all is_some l.text ≡ true) × (list_all is_some a ≡ true)
-of_line l a h = let q = and_parts (list_all is_some l.text) (list_all is_some (put l.by a)) (sym (list_all-append is_some l.text (put l.by a)) ∙ h) in (q.0, after_put l.by q.1)
-  where
-    after_put : (k : Break) → list_all is_some (put k a) ≡ true → list_all is_some a ≡ true
-    after_put b h = grind arith
+of_line l a h = let q = and_parts (list_all is_some l.text) (list_all is_some (put l.by a)) (sym (list_all-append is_some l.text (put l.by a)) ∙ h) in (q.0, grind (arith, q))
 
 -- ---- the first content
 

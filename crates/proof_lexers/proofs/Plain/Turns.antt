@@ -87,9 +87,7 @@ module _ (ctx : Context) (start : Position) where
   -- ---- breaks
 
   at_breaks : (c : ℕ) (a : List ℕ) (s : Stand) (p : Position) (t : Folded) → is_break c ≡ true → scan (c ∷ a) s p t ≡ plain_from ctx start a (at_break c a (record { mode = mode_of s; position = p; folded = t }))
-  at_breaks c a defs.inside p t e = rw e refl
-  at_breaks c a after_blank p t e = rw e refl
-  at_breaks c a (on_line column) p t e = rw e refl
+  at_breaks c a s p t e = grind arith
 
   pub break_step : (c : ℕ) (a : List ℕ) (s : Stand) (p : Position) (t : Folded) → is_break c ≡ true → Scans a → Found ctx start s p t (c ∷ a) (scan (c ∷ a) s p t)
   unfolding is_break is_blank
