@@ -92,10 +92,8 @@ module _ (literal : Bool) (column : ℕ) where
   begins_free k w a rest char p same is col ends free =
       let here : at_marker p.col (char ∷ (rest ++ a)) ≡ ((p.col == 0) && is_document_marker (char ∷ rest)) = same_marker p.col (char ∷ (rest ++ a)) ∙ rw (line_marker (char ∷ rest) a ends) refl in
       let at_column = eq-eqb p.col column col in
-      rw (here, none k same is, at_column) refl
-    where
-      none : (k : ℕ) → k ≡ column → drop k w ≡ char ∷ rest → ((p.col == 0) && is_document_marker (char ∷ rest)) ≡ false
-      none k h e = grind (arith, suc_off)
+      let none : ((p.col == 0) && is_document_marker (char ∷ rest)) ≡ false = grind (arith, suc_off) in
+      rw (here, none, at_column) refl
 
   -- after a content line's characters
   abbrev pub written : Row → Lines → Lines

@@ -7,7 +7,7 @@ use Rattle.proof_lexers.specs.PlainEnds.{IsScalarRead, just}
 use Rattle.proof_lexers.proofs.Ends.{ends_also}
 use Rattle.proof_row.proofs.Plains.{plains}
 use Rattle.proof_lexers.proofs.Plain.Found.{leads}
-use Rattle.proof_lexers.proofs.Plain.Turns.{after_blanks, after_char, after_gap, after_text, as_deep, at_feed, at_line, blank_step, break_step, can_be, content_step, dash, dash_parts, Fails, fails, flow_untabbed, Found, found, found_here, in_line, in_line_position, in_text, IsStanding, line_is, no_line, NoTab, off_margin, same_left, scan, scan_in, Scans, tab, Tabbed, tabbed, token_ahead}
+use Rattle.proof_lexers.proofs.Plain.Turns.{after_blanks, after_char, after_gap, after_text, as_deep, at_feed, at_line, blank_step, break_step, can_be, content_step, dash, dash_parts, Fails, fails, flow_untabbed, Found, found, found_here, in_line, in_line_position, in_text, IsStanding, line_is, no_line, off_margin, same_left, scan, scan_in, Scans, tab, Tabbed, tabbed, token_ahead}
 use Rattle.proof_lexers.proofs.Plain.Values.{no_markers, value_is}
 use Rattle.defs_text.specs.Classes as classes
 use Rattle.proof_lexers.proofs.Separation.Separations.{no_hash}
@@ -65,14 +65,11 @@ module _ (ctx : Context) (start : Position) where
         let q = and_parts ((c == 9) && nat_lt p.col ctx.indent) (token_ahead a) h in
         let r = and_parts (c == 9) (nat_lt p.col ctx.indent) q.0 in
         fails (At PlainTab start) (tabbed (tab [] a column (ap (λ d. d ∷ a) (eqb-true c 9 r.0)) refl refl (rw is r.1) q.1)) (rw h at turn)
-    | inr h ↦ blank_step ctx start c a (on_line column) (on_line (suc column)) p t _ e f refl (no_tab h) ih (at_line (suc column) (omega (arith, is)) (rw lead refl)) (rw h at turn)
+    | inr h ↦ blank_step ctx start c a (on_line column) (on_line (suc column)) p t _ e f refl (λ k i l less. grind arith) ih (at_line (suc column) (omega (arith, is)) (rw lead refl)) (rw h at turn)
   ]
     where
       turn : scan ctx start (c ∷ a) (on_line column) p t ≡ (if (c == 9) && nat_lt p.col ctx.indent && token_ahead a then Err (At PlainTab start) else scan ctx start a (on_line (suc column)) (past p) (with_blank c t))
       turn = line_blank c a p t e f lead (after_tab a (past p) t lead) ∙ (grind arith)
-
-      no_tab : ((c == 9) && nat_lt p.col ctx.indent && token_ahead a) ≡ false → NoTab ctx start c a (on_line column)
-      no_tab h k i l less = grind arith
   at_blank c a s p t e f ih (at_feed column feed) = absurd (cc (feed_breaks c feed, e))
 
   inside_ends : (c : ℕ) (a : List ℕ) → (c == 0) ≡ false → can_be_plain ctx.flow c (slice_index a 0) ≡ not (ends_plain ctx.flow (collection_of ctx.indent) defs.inside (c ∷ a))
