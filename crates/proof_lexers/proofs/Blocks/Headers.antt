@@ -28,9 +28,8 @@ front (c ∷ r) =
     (if is_sign c then c ∷ one (is_between 49 57) r else (if is_between 49 57 c then c ∷ one is_sign r else []))
 
 front_cut : (l : List ℕ) → l ≡ front l ++ past_indicators l
-front_cut [] = refl
-front_cut (c ∷ []) = grind arith
 front_cut (c ∷ d ∷ l) = grind arith
+front_cut l = grind arith
 
 digit_is : (c : ℕ) → is_digit c ≡ ((c == 48) || is_between 49 57 c)
 unfolding is_digit

@@ -19,8 +19,7 @@ feed_breaks c h = rw h refl
 -- blanks, and a token after them
 ahead : (blanks rest : List ℕ) → is_blanks blanks ≡ true → begins_token rest ≡ true → token_ahead (blanks ++ rest) ≡ true
 ahead (c ∷ blanks) rest are token = grind (arith, ahead blanks rest)
-ahead [] (c ∷ rest) are token = grind arith
-ahead [] [] are token = token
+ahead [] rest are token = grind arith
 
 ahead_parts : (a : List ℕ) → token_ahead a ≡ true → (blanks : List ℕ) × (rest : List ℕ) × (a ≡ blanks ++ rest) × (is_blanks blanks ≡ true) × (begins_token rest ≡ true)
 ahead_parts [] h = cc

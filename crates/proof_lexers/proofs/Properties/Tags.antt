@@ -72,8 +72,7 @@ tag_starts c h = (grind (arith, nat_tests), grind (arith, nat_tests))
 
 -- a text that begins with a word or a mark is no verbatim tag
 is_shorthand : (name r : List ℕ) → all_of classes.is_alpha name ≡ true → (begins_in (λ c. c == 60) r) ≡ false → defs.after_mark (name ++ r) ≡ defs.shorthand (name ++ r)
-is_shorthand [] [] h e = refl
-is_shorthand [] (c ∷ r) h e = rw e refl
+is_shorthand [] r h e = grind arith
 is_shorthand (c ∷ name) r h e = let q = and_parts (classes.is_alpha c) (all_of classes.is_alpha name) h in rw ((alpha_starts c q.0).0) refl
 
 -- one that is not empty
@@ -105,8 +104,7 @@ empty_is : (a : List ℕ) → is_empty a ≡ true → a ≡ []
 empty_is a h = grind arith
 
 pub same_empty : (name l cs : List ℕ) → decoded l ≡ Ok cs → is_empty (name ++ cs) ≡ is_empty (name ++ l)
-same_empty [] [] cs e = let none : [] ≡ cs = cc in rw (← none) refl
-same_empty [] (c ∷ l) cs e = decoded_some c l cs e
+same_empty [] l cs e = grind (arith, decoded_some)
 same_empty (d ∷ name) l cs e = refl
 
 marked : (a : List ℕ) → (slice_index a 0 == 33) ≡ true → a ≡ 33 ∷ drop 1 a
