@@ -14,8 +14,7 @@ use Rattle.proof_lexers.proofs.Directives.Values as values
 
 pub same_text : (a b : List ℕ) → is_same a b ≡ true → a ≡ b
 same_text [] b h = grind arith
-same_text (c ∷ a) [] h = cc
-same_text (c ∷ a) (d ∷ b) h = grind (arith, eqb-true, same_text a b)
+same_text (c ∷ a) b h = grind (arith, eqb-true, same_text a)
 
 no_tag_at_end : (n : List ℕ) → ends_line n ≡ true → is_tag (slice_index n 0) ≡ false
 unfolding is_tag is_uri is_alphanumeric is_uri_mark is_flow classes.is_tag classes.is_uri is_decimal_digit is_letter classes.is_flow
