@@ -1,7 +1,7 @@
 -- Classes and tables of the model and of the definitions tell the same characters apart.
 use Rattle.std.specs.Char.{is_digit}
 use Rattle.std.proofs.Math.Bool.{and-false, or-false, or_assoc}
-use Rattle.std.proofs.Common.{arith, Bool, false, if◌then◌else◌, inl, inr, List, None, Option, refl, Some, true, ℕ, ◌&&◌, ◌==◌, ◌||◌, ◌≡◌}
+use Rattle.std.proofs.Common.{arith, Bool, false, if◌then◌else◌, inl, inr, List, None, Option, refl, Some, true, ℕ, ◌&&◌, ◌==◌, ◌||◌, ◌≡◌, ◌⊎◌}
 unfoldable use Rattle.model_scanner.specs.Machine.{at_marker, is_marker}
 use Rattle.std.proofs.lemmas.Bool.{cases_Bool, eqb-true}
 use Rattle.model_scanner.specs.declared.kind.Escape.TheVariants.{Char, Code, Unknown}
@@ -52,6 +52,11 @@ same_digit c = both _ _ (λ h. grind (arith, nat_tests)) (λ h. grind (arith, na
 pub same_code : (n : ℕ) → is_scalar n ≡ is_character_code n
 unfolding is_scalar is_character_code
 same_code n = both _ _ (λ h. grind (arith, nat_tests)) (λ h. grind (arith, nat_tests))
+
+-- a value stands there or none does
+pub cases_Option : {A : Type 0} (o : Option A) → (o ≡ None) ⊎ ((x : A) × (o ≡ Some x))
+cases_Option None = inl refl
+cases_Option (Some x) = inr (x, refl)
 
 -- ---- escapes
 

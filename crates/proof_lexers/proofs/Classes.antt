@@ -36,8 +36,7 @@ module _ (class : ℕ → Bool) where
 
   -- what a text begins with, and what stands after that, before a text that does not go on with the class
   pub before_end : (l n : List ℕ) → begins_in class n ≡ false → (leading class (l ++ n) ≡ leading class l) × (after class (l ++ n) ≡ after class l ++ n)
-  before_end [] [] h = (refl, refl)
-  before_end [] (c ∷ n) h = (rw h refl, rw h refl)
+  before_end [] n h = grind arith
   before_end (c ∷ l) n h = grind (arith, before_end l n h)
 
   pub leading_none : (r : List ℕ) → begins_in class r ≡ false → (leading class r ≡ []) × (after class r ≡ r)

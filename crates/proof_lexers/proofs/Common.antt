@@ -70,5 +70,5 @@ pub use Rattle.yaml_tokens.specs.declared.problem.Fault.{Fault}
 pub use Rattle.yaml_tokens.specs.declared.problem.Fault.TheVariants.{At}
 pub use Rattle.yaml_tokens.specs.declared.problem.Problem.{Problem}
 pub use Rattle.yaml_tokens.specs.declared.problem.Problem.TheVariants.{BlockScalarTab, BlockScalarZero, CommentNotSeparated, DirectiveEnd, DirectiveName, DirectiveNameEnd, EscapedCode, FlowIndentation, GlobalTagCharacter, HexadecimalDigit, PlainDashInFlow, PlainTab, QuotedDocumentMarker, QuotedEnd, QuotedIndentation, TabAsIndentation, TabInBlockIndentation, TagDirectiveEnd, TagDirectiveHandle, TagEnd, TagLeadingOctet, TagOctet, TagStart, UnknownEscape, VersionDot, VersionNumber, VersionTooLong, WhitespaceExpected}
-pub use Rattle.proof_lexers.proofs.Bridges.{and_false, both, digits_of, or_false, same_alpha, same_blank, same_break, same_code, same_digit, same_escape, same_flow, same_gap, same_marker, same_tag, same_uri}
+pub use Rattle.proof_lexers.proofs.Bridges.{and_false, both, cases_Option, digits_of, or_false, same_alpha, same_blank, same_break, same_code, same_digit, same_escape, same_flow, same_gap, same_marker, same_tag, same_uri}
 pub use Rattle.proof_lexers.proofs.Classes.{all_leading, before_end, begins_in, ends_after, leading_all, leading_none, none_further, one_further, same_place, skipped, span_cut, taken}

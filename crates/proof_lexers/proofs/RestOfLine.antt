@@ -25,8 +25,7 @@ no_break_after (c ∷ a) b h = no_break_after a b (and_parts (not (classes.is_br
 
 -- all of a line without a break is skipped
 pub line_skipped : (m n : List ℕ) (p : Position) → has_no_break m ≡ true → ends_line n ≡ true → skip_while is_line (m ++ n) p ≡ record { rest = n; position = further (length m) p; value = tt }
-line_skipped [] [] p h e = ap (λ q. record { rest = []; position = q; value = tt }) (sym (none_further p))
-line_skipped [] (c ∷ n) p h e = grind (arith, same_break, none_further)
+line_skipped [] n p h e = grind (arith, same_break, none_further)
 line_skipped (c ∷ m) n p h e = grind (arith, same_break, one_further, line_skipped m n (past p))
 
 -- ---- the first line of a text
@@ -43,6 +42,10 @@ first_line (c ∷ a) = grind (arith, first_line a)
 
 abbrev pub is_space : SkipTabs → ℕ → Bool
 is_space tabs c = (c == 32) || ((c == 9) && are_skipped tabs)
+
+-- nothing was found yet
+abbrev pub nothing_found : Whitespace
+nothing_found = record { found_tabs = false; has_valid_yaml_ws = false }
 
 -- what was found, and is found in a text
 abbrev pub found_in : Whitespace → List ℕ → Whitespace
@@ -87,11 +90,8 @@ pub rest_of_line : (m n : List ℕ) (p : Position) → has_no_break m ≡ true �
 unfolding space
 rest_of_line m n p h k =
     let q = before_end (is_space Yes) m n (none_at_end (is_space Yes) refl refl n k) in
-    rw (spaces_passed Yes (m ++ n) p none, q.0, q.1) (by (after (is_space Yes) m) refl)
+    rw (spaces_passed Yes (m ++ n) p nothing_found, q.0, q.1) (by (after (is_space Yes) m) refl)
   where
-    none : Whitespace
-    none = record { found_tabs = false; has_valid_yaml_ws = false }
-
     before : List ℕ
     before = leading (is_space Yes) m
 
@@ -99,7 +99,7 @@ rest_of_line m n p h k =
     here = further (length before) p
 
     found : Whitespace
-    found = found_in none before
+    found = found_in nothing_found before
 
     place : (r : List ℕ) → after (is_space Yes) m ≡ r → further (length r) here ≡ further (length m) p
     place r e = let long : length m ≡ length before + length r = ap length (span_cut (is_space Yes) m ∙ ap (λ x. before ++ x) e) ∙ length-append before r in

@@ -1,5 +1,5 @@
 -- Each piece that is a block scalar is read as it, and each scan of one ends as its text says.
-use Rattle.proof_lexers.proofs.Common.{[], ap, append-nil, arith, begins_with, block, block_read, BlockRead, BlockScansEndAsTheirTextSays, BlockStyle, body, collection_of, column_by, ends_line, EndsAs, false, first_line, further_text, header, header_of, indicator_of, is_at_end, is_further_text, is_in_line, is_literal_style, is_some, IsHeaderRead, IsHeaderRefusal, IsRead, leading_spaces, linebreak, List, list_all, None, Option, past, Position, Read, read_body, read_lines, read_split, reads, refl, refuses, Row, rows_of, Some, starts_with_tab, subst, sym, tab, true, unbroken, value_before_end, value_before_text, whole_header, ℕ, ◌++◌, ◌==◌, ◌∙◌, ◌∷◌, ◌≡◌, and_parts, BlockPiecesAreRead, Body, Bool, digit_by, digit_or_zero, further_is_no_break, indent_from, input_ends, is_single, is_tabbed, not, not-true, row_of, slice_index, Split, split, ◌&&◌, if◌then◌else◌, nat_tests, is_nul}
+use Rattle.proof_lexers.proofs.Common.{[], ap, append-nil, arith, begins_with, block, block_read, BlockRead, cases_Bool, cases_Option, inl, inr, BlockScansEndAsTheirTextSays, BlockStyle, body, collection_of, column_by, ends_line, EndsAs, false, first_line, further_text, header, header_of, indicator_of, is_at_end, is_further_text, is_in_line, is_literal_style, is_some, IsHeaderRead, IsHeaderRefusal, IsRead, leading_spaces, linebreak, List, list_all, None, Option, or_parts, past, Position, Read, read_body, read_lines, read_split, reads, refl, refuses, Row, rows_of, Some, starts_with_tab, subst, sym, tab, true, unbroken, value_before_end, value_before_text, whole_header, ℕ, ◌++◌, ◌==◌, ◌||◌, ◌∙◌, ◌∷◌, ◌≡◌, and_parts, BlockPiecesAreRead, Body, Bool, further_is_no_break, indent_from, input_ends, is_single, is_tabbed, not, not-true, row_of, slice_index, Split, split, ◌&&◌, nat_tests, is_nul}
 use Rattle.defs_text.specs.BlockScalar as defs
 use Rattle.proof_lexers.specs.BlockEnds.{IsBlockPiece, IsBlockRead, IsBlockRefusal, whole_block, after_piece, bad_header}
 use Rattle.proof_lexers.proofs.Ends.{ends_also}
@@ -10,9 +10,7 @@ use Rattle.proof_lexers.proofs.Blocks.Columns.{first_before, first_left, same_co
 use Rattle.proof_lexers.proofs.Blocks.Values.{of_line, stops, ends, walked, further_outside}
 use Rattle.proof_lexers.proofs.Blocks.Scans.{style_inner, start, after, block_is, tab_fails, before_further, before_the_end, header_alone_is_read}
 use Rattle.proof_lexers.proofs.Blocks.First.{least_is}
-use Rattle.defs_token.specs.BlockPiece.{with_value}
 use Rattle.proof_lexers.specs.BlockScan.{tabbed}
-use Rattle.defs_text.specs.BlockScalar.{value_at_end, value_at_text}
 
 -- ---- a TAB after the header
 
@@ -22,6 +20,10 @@ tab_line b a k ls = grind (arith, nat_tests)
 pub tab_whole : (ls : List Line) (e : List ℕ) → begins_with tab (spell ls e) ≡ starts_with_tab (texts ls ++ e ∷ [])
 tab_whole [] e = grind arith
 tab_whole (l ∷ ls) e = tab_line l.text (spell ls e) l.by (texts ls ++ e ∷ [])
+
+tab_lines : (line : List ℕ) (ls : List Line) (next : List ℕ) → begins_with tab (spell ls next) ≡ (starts_with_tab (texts ls) || (is_single (line ∷ texts ls) && begins_with tab next))
+tab_lines line [] next = refl
+tab_lines line (l ∷ ls) next = grind (arith, tab_line)
 
 -- ---- further text begins with no line feed, and is not the end
 
@@ -58,11 +60,7 @@ module _ (indent : ℕ) (p : Position) (next : List ℕ) where
     further : is_further_text column next ≡ true
     value : record { style = h.style; column = column; text = value_before_text h rows } ≡ b
 
-  before : (h : defs.Header) (column : ℕ) (ls : List (List ℕ)) (b : BlockRead)
-      → (if is_further_text column next then with_value h column (if starts_with_tab ls then None else value_at_text h (rows_of column ls)) else None) ≡ Some b → Before h column ls b
-  before h column ls b e = grind arith
-
-  module _ (h : defs.Header) (line : List ℕ) (k : Break) (ls : List Line) (b : BlockRead) (is : header_of (indicator_of h.style ∷ line) ≡ Some h) (digit : digit_by (digit_or_zero h.digit) ≡ h.digit) (inner : is_in_line line ≡ true)
+  module _ (h : defs.Header) (line : List ℕ) (k : Break) (ls : List Line) (b : BlockRead) (is : header_of (indicator_of h.style ∷ line) ≡ Some h) (inner : is_in_line line ≡ true)
       (fits : Fits k (spell ls [])) (are : AreLines ls []) (not_end : is_at_end next ≡ false) (z : Before h (column_by h.digit (collection_of indent) (texts ls)) (texts ls) b) where
     abbrev column_here : ℕ
     column_here = column_by h.digit (collection_of indent) (texts ls)
@@ -70,34 +68,29 @@ module _ (indent : ℕ) (p : Position) (next : List ℕ) where
     free : (slice_index next 0 == 10) ≡ false
     free = grind (arith, nat_tests, further_is_no_break)
 
-    tabbed_is : (ls : List Line) → Fits k (spell ls []) → AreLines ls [] → starts_with_tab (texts ls) ≡ false → is_tabbed (indicator_of h.style ∷ (line ++ put k (spell ls []))) next ≡ begins_with tab (spell ls next)
-    tabbed_is ls fits are free =
-        ap (λ (s : Split). is_single s.complete && begins_with tab next) (split_spell (record { text = indicator_of h.style ∷ line; by = k } ∷ ls) [] (style_inner h.style line inner, fits, are) refl) ∙ read_of_lines ls free
-      where
-        read_of_lines : (ls : List Line) → starts_with_tab (texts ls) ≡ false → (is_single ((indicator_of h.style ∷ line) ∷ texts ls) && begins_with tab next) ≡ begins_with tab (spell ls next)
-        read_of_lines [] free = refl
-        read_of_lines (l ∷ ls) free = sym free ∙ sym (tab_line l.text (spell ls next) l.by (texts ls))
+    tabbed_is : is_tabbed (indicator_of h.style ∷ (line ++ put k (spell ls []))) next ≡ begins_with tab (spell ls next)
+    tabbed_is =
+        ap (λ (s : Split). is_single s.complete && begins_with tab next) (split_spell (record { text = indicator_of h.style ∷ line; by = k } ∷ ls) [] (style_inner h.style line inner, fits, are) refl) ∙ sym (rw z.tabless at (tab_lines (indicator_of h.style ∷ line) ls next))
 
-    text_here : (t : Bool) → begins_with tab (spell ls next) ≡ t → IsRead indent p (record { style = h.style; column = column_here; text = value_before_text h z.rows }) (indicator_of h.style ∷ (line ++ put k (spell ls []))) next (block (is_literal_style h.style) indent (indicator_of h.style ∷ (line ++ put k (spell ls next))) p)
-    text_here true e = refuses _ (tabbed (tabbed_is ls fits are z.tabless ∙ e)) (tab_fails h line k indent p is digit inner (spell ls next) (fits_before k ls [] next (fits_next k next free) fits) e)
-    text_here false e =
+    further_read : IsRead indent p b (indicator_of h.style ∷ (line ++ put k (spell ls []))) next (block (is_literal_style b.style) indent ((indicator_of h.style ∷ (line ++ put k (spell ls []))) ++ next) p)
+    further_read =
+        let cut : (indicator_of h.style ∷ (line ++ put k (spell ls []))) ++ next ≡ indicator_of h.style ∷ (line ++ put k (spell ls next)) = spell_more (record { text = indicator_of h.style ∷ line; by = k } ∷ ls) [] next in
         let y = lined next in
         let same : spell (ls ++ y.lines) y.last ≡ spell ls next = spell_append ls y.lines y.last ∙ ap (spell ls) (sym y.is) in
         let fits_there : Fits k (spell ls next) = fits_before k ls [] next (fits_next k next free) fits in
         let are_next : AreLines ls next = are_before ls [] next (λ k. fits_next k next free) are in
         let are_parts : AreLines ls (spell y.lines y.last) = subst (AreLines ls) y.is are_next in
         let here : is_further_text column_here (spell y.lines y.last) ≡ true = ap (is_further_text column_here) (sym y.is) ∙ z.further in
-        let found : block (is_literal_style h.style) indent (indicator_of h.style ∷ (line ++ put k (spell ls next))) p ≡ _ =
-        ap (λ a. block (is_literal_style h.style) indent (indicator_of h.style ∷ (line ++ put k a)) p) (sym same)
-        ∙ block_is h line k indent p is digit inner (ls ++ y.lines) y.last column_here (whole_column h.digit indent ls y.lines y.last column_here y.are y.inner refl here) (are_append ls y.lines y.last are_parts y.are) y.inner (rw same fits_there) (rw same e)
-        ∙ ap (λ a. after h line k indent p is digit inner (indent_from column_here a (at (start h line k indent p is digit inner) []))) same in
-        before_further h line k indent p is digit inner column_here ls next z.rows are_next fits_there are fits z.are_rows not_end (tabbed_is ls fits are z.tabless ∙ e) found
-        (further_outside column_here next (after_lines ls (start h line k indent p is digit inner)) (lines_front ls (start h line k indent p is digit inner) refl) z.further)
-
-    further_read : IsRead indent p b (indicator_of h.style ∷ (line ++ put k (spell ls []))) next (block (is_literal_style b.style) indent ((indicator_of h.style ∷ (line ++ put k (spell ls []))) ++ next) p)
-    further_read =
-        let cut : (indicator_of h.style ∷ (line ++ put k (spell ls []))) ++ next ≡ indicator_of h.style ∷ (line ++ put k (spell ls next)) = spell_more (record { text = indicator_of h.style ∷ line; by = k } ∷ ls) [] next in
-        rw (cut, ← z.value) (text_here (begins_with tab (spell ls next)) refl)
+        rw (cut, ← z.value) (elim (cases_Bool (begins_with tab (spell ls next))) [
+          | inl e ↦ refuses _ (tabbed (tabbed_is ∙ e)) (tab_fails h line k indent p is inner (spell ls next) fits_there e)
+          | inr e ↦
+              let found : block (is_literal_style h.style) indent (indicator_of h.style ∷ (line ++ put k (spell ls next))) p ≡ _ =
+              ap (λ a. block (is_literal_style h.style) indent (indicator_of h.style ∷ (line ++ put k a)) p) (sym same)
+              ∙ block_is h line k indent p is inner (ls ++ y.lines) y.last column_here (whole_column h.digit indent ls y.lines y.last column_here y.are y.inner refl here) (are_append ls y.lines y.last are_parts y.are) y.inner (rw same fits_there) (rw same e)
+              ∙ ap (λ a. after h line k indent p is inner (indent_from column_here a (at (start h line k indent p is inner) []))) same in
+              before_further h line k indent p is inner column_here ls next z.rows are_next fits_there are fits z.are_rows not_end (tabbed_is ∙ e) found
+              (further_outside column_here next (after_lines ls (start h line k indent p is inner)) (lines_front ls (start h line k indent p is inner) refl) z.further)
+        ])
 
 -- ---- at the end of the text
 
@@ -118,37 +111,38 @@ some_next d n h = not-true _ ((and_parts (not (d == 0)) (list_all is_some n) h).
 
 -- a piece's first line is a header
 data Headed : List ℕ → Type 0 where
-  heads : (h : defs.Header) (line : List ℕ) → header_of (indicator_of h.style ∷ line) ≡ Some h → digit_by (digit_or_zero h.digit) ≡ h.digit → is_in_line line ≡ true → Headed (indicator_of h.style ∷ line)
+  heads : (h : defs.Header) (line : List ℕ) → header_of (indicator_of h.style ∷ line) ≡ Some h → is_in_line line ≡ true → Headed (indicator_of h.style ∷ line)
 
 headed : (indent : ℕ) (w : List ℕ) (content : Body) (next : List ℕ) (b : BlockRead) → is_in_line w ≡ true → read_body (header_of w) (collection_of indent) content next ≡ Some b → Headed w
 headed indent [] content next b inner e = cc
-headed indent (c ∷ line) content next b inner e = by (header_of (c ∷ line)) refl
-  where
-    by : (o : Option defs.Header) → header_of (c ∷ line) ≡ o → Headed (c ∷ line)
-    by None f = let no : None ≡ Some b = rw f at e in cc
-    by (Some h) f = let z = said c line h f in let begins = z.begins in rw begins (heads h line (rw (← begins) f) z.digit_is (first_inner c line inner).1)
+headed indent (c ∷ line) content next b inner e = elim (cases_Option (header_of (c ∷ line))) [
+  | inl f ↦ let no : None ≡ Some b = rw f at e in cc
+  | inr h ↦ let z = said c line h.0 h.1 in let begins = z.begins in rw begins (heads h.0 line (rw (← begins) h.1) (first_inner c line inner).1)
+]
 
 module _ (indent : ℕ) (p : Position) (b : BlockRead) where
   abbrev pub Read_as : List ℕ → List ℕ → Type 0
   Read_as piece next = IsRead indent p b piece next (block (is_literal_style b.style) indent (piece ++ next) p)
 
   read_alone : (w : List ℕ) → Headed w → read_body (header_of w) (collection_of indent) input_ends [] ≡ Some b → Read_as w []
-  read_alone _ (heads h line is digit inner) e =
+  read_alone _ (heads h line is inner) e =
       let same : record { style = h.style; column = 0; text = [] } ≡ b = cc (e, is) in rw (append-nil, ← same) (header_alone_is_read h line indent p is inner)
 
   to_end : (w : List ℕ) (k : Break) (ls : List Line) (last : List ℕ) → Headed w → Fits k (spell ls last) → AreLines ls last → is_in_line last ≡ true
       → read_body (header_of w) (collection_of indent) (body (texts ls) (unbroken last)) [] ≡ Some b → Read_as (w ++ put k (spell ls last)) []
-  to_end _ k ls last (heads h line is digit inner) fits are last_inner e =
+  to_end _ k ls last (heads h line is inner) fits are last_inner e =
       let K = column_by h.digit (collection_of indent) (texts ls ++ last ∷ []) in
       let told = rw is at e in
       let z : AtEnd indent p h K (texts ls) last b = grind (arith, told) in
-      let found = block_is h line k indent p is digit inner ls last K refl are last_inner fits (tab_whole ls last ∙ z.tabless) in
-      rw (append-nil, ← z.value) (before_the_end h line k indent p is digit inner K ls last z.rows are last_inner fits z.are_rows found z.row (row_is K last z.row z.is_row))
+      let found = block_is h line k indent p is inner ls last K refl are last_inner fits (tab_whole ls last ∙ z.tabless) in
+      rw (append-nil, ← z.value) (before_the_end h line k indent p is inner K ls last z.rows are last_inner fits z.are_rows found z.row (row_is K last z.row z.is_row))
 
   read_to_text : (w : List ℕ) (k : Break) (ls : List Line) (next : List ℕ) → Headed w → Fits k (spell ls []) → AreLines ls [] → is_at_end next ≡ false
       → read_body (header_of w) (collection_of indent) (body (texts ls) further_text) next ≡ Some b → Read_as (w ++ put k (spell ls [])) next
-  read_to_text _ k ls next (heads h line is digit inner) fits are some e =
-      further_read indent p next h line k ls b is digit inner fits are some (before indent p next h _ (texts ls) b (rw (is, some) at e))
+  read_to_text _ k ls next (heads h line is inner) fits are some e =
+      let told = rw (is, some) at e in
+      let z : Before indent p next h (column_by h.digit (collection_of indent) (texts ls)) (texts ls) b = grind (arith, told) in
+      further_read indent p next h line k ls b is inner fits are some z
 
   read_of_lines : (ls : List Line) (last next : List ℕ) → AreLines ls last → is_in_line last ≡ true → list_all is_some next ≡ true → (t : Bool) → is_at_end next ≡ t
       → read_lines (collection_of indent) (texts ls) last next t ≡ Some b → Read_as (spell ls last) next
@@ -224,16 +218,13 @@ module _ (style : BlockStyle) (indent : ℕ) (p : Position) where
         let column_is : column ≡ column_by h.digit (collection_of indent) (texts (own ++ ns) ++ last ∷ []) = ap (λ x. column_by h.digit (collection_of indent) (texts x ++ last ∷ [])) split_at in
         let same : column ≡ column_by h.digit (collection_of indent) (texts own) = column_is ∙ part_column h.digit indent own ns last parts.1 last_inner (rw (← column_is) further) in
         let fits_own : Fits k (spell own []) = fits_before k own (spell ns last) [] (fits_next k [] refl) (rw (← joined) fits) in
-        let tab_free = tab_of own (spell ns last) (rw (← joined) tabless) in
+        let still = sym (tab_lines (indicator_of style ∷ line) own (spell ns last)) ∙ rw (← joined) tabless in
+        let tab_free = (or_parts (starts_with_tab (texts own)) (is_single ((indicator_of style ∷ line) ∷ texts own) && begins_with tab (spell ns last)) still).0 in
         let lines = split_spell (record { text = indicator_of style ∷ line; by = k } ∷ own) [] (style_inner style line inner, fits_own, are_before own (spell ns last) [] (λ k. fits_next k [] refl) parts.0) refl in
         found (line ++ put k (spell ls last)) (indicator_of style ∷ (line ++ put k (spell own []))) (spell ns last) line (value_before_text h rs) h (column_by h.digit (collection_of indent) (texts own)) is
         (ap (λ a. indicator_of style ∷ (line ++ put k a)) joined ∙ sym (spell_more (record { text = indicator_of style ∷ line; by = k } ∷ own) [] (spell ns last))) some_next_text
         (ap (λ s. read_split (collection_of indent) s (spell ns last)) lines ∙ ap (λ t. read_lines (collection_of indent) ((indicator_of style ∷ line) ∷ texts own) [] (spell ns last) t) not_end
         ∙ ap (λ o. read_body o (collection_of indent) (body (texts own) further_text) (spell ns last)) is ∙ rw (not_end, ← same, further, tab_free, rows) refl)
-      where
-        tab_of : (own : List Line) (next : List ℕ) → begins_with tab (spell own next) ≡ false → starts_with_tab (texts own) ≡ false
-        tab_of [] next e = refl
-        tab_of (l ∷ own) next e = sym (tab_line l.text (spell own next) l.by (texts own)) ∙ e
 
     with_lines : Ends (line ++ put k (spell ls last))
     with_lines = elim (walked column ls last are last_inner some) [

@@ -1,7 +1,7 @@
 -- The first lines give the content column.
-use Rattle.proof_lexers.proofs.Common.{[], all_lines, along, and_parts, ap, append-nil, arith, collection_of, Column, column_by, deepest_start, digit_by, false, First, first_indent, FirstLinesGiveTheColumn, indent_from, is_break, is_in_line, is_spaces, leading_spaces, least_column, List, max, past, Position, Read, refl, split, suc, sym, true, unbroken, zero, ℕ, ◌++◌, ◌+◌, ◌==◌, ◌∷◌, ◌≡◌, ◌≤◌, nat_tests, past_break}
+use Rattle.proof_lexers.proofs.Common.{[], along, and_parts, ap, append-nil, arith, collection_of, Column, column_by, deepest_start, digit_by, false, First, first_indent, FirstLinesGiveTheColumn, indent_from, is_break, is_in_line, is_spaces, leading_spaces, least_column, List, max, past, Position, Read, refl, suc, sym, true, zero, ℕ, ◌++◌, ◌+◌, ◌==◌, ◌∷◌, ◌≡◌, ◌≤◌, nat_tests, past_break}
 use Rattle.model_scanner.specs.BlockScalar.{content}
-use Rattle.proof_lexers.proofs.Blocks.Margins.{after_break, after_line, AreLines, at, Break, col_along, first_inner, Fits, Line, Lined, lined, put, spell, split_spell, texts}
+use Rattle.proof_lexers.proofs.Blocks.Margins.{after_break, after_line, AreLines, at, Break, col_along, first_inner, Fits, Line, lined, put, spell, split_spell, texts}
 use Rattle.proof_lexers.proofs.Blocks.Columns.{spaces_leading}
 
 -- within the spaces of a first line
@@ -87,7 +87,4 @@ content_is indent zero ls last p col are inner =
 content_is indent (suc n) ls last p col are inner = grind (arith, nat_tests)
 
 pub first_lines : FirstLinesGiveTheColumn
-first_lines indent increment text p col = of_lines (lined text)
-  where
-    of_lines : Lined text → (content indent increment text p).value.column ≡ column_by (digit_by increment) (collection_of indent) (all_lines (split text).complete (unbroken (split text).last))
-    of_lines z = grind (arith, nat_tests, split_spell, content_is, digit_by)
+first_lines indent increment text p col = let z = lined text in grind (arith, nat_tests, split_spell, content_is, digit_by, z)

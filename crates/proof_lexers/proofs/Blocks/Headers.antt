@@ -1,12 +1,12 @@
 -- Block scalars' headers are read as what they say.
-use Rattle.proof_lexers.proofs.Common.{[], along, and_then, ap, arith, At, begins_with, BlockStyle, Bool, cases_Bool, chomping, comment, digit_of, ends_line, EndsAs, Err, false, further, has_zero, header, header_break, header_end, header_of, HeadersEndAsTheirLineSays, if◌then◌else◌, increment, indicator_of, indicators, indicators_of, inl, inr, is_break, is_in_line, is_rest_of_line, is_sign, IsHeaderRead, IsHeaderRefusal, length, linebreak, List, nat_tests, no_header, None, Ok, Option, past, past_indicators, Position, Read, reads, refl, refuses, sign_of, Some, sym, tab, tabbed, true, whole_header, with_indicators, zero_digit, ℕ, ◌++◌, ◌==◌, ◌∙◌, ◌∷◌, ◌≡◌, eqb-true, digit_by, digit_or_zero, Fault, Header, read_header, Result, and_parts, ◌||◌, after_style, slice_index, BlockScalarTab, BlockScalarZero, is_between, both, same_break}
+use Rattle.proof_lexers.proofs.Common.{[], along, and_then, ap, arith, At, begins_with, BlockStyle, Bool, cases_Bool, cases_Option, chomping, comment, digit_of, ends_line, EndsAs, Err, false, further, has_zero, header, header_break, header_end, header_of, HeadersEndAsTheirLineSays, if◌then◌else◌, increment, indicator_of, indicators, indicators_of, inl, inr, is_break, is_in_line, is_rest_of_line, is_sign, IsHeaderRead, IsHeaderRefusal, length, linebreak, List, nat_tests, no_header, None, Ok, past, past_indicators, Position, Read, reads, refl, refuses, sign_of, Some, sym, tab, tabbed, true, whole_header, with_indicators, zero_digit, ℕ, ◌++◌, ◌==◌, ◌∙◌, ◌∷◌, ◌≡◌, eqb-true, digit_by, digit_or_zero, Fault, Header, read_header, Result, and_parts, ◌||◌, after_style, slice_index, BlockScalarTab, BlockScalarZero, is_between, both, same_break}
 use Rattle.yaml_chars.specs.Class.{is_digit}
 use Rattle.defs_text.specs.Classes as classes
 use Rattle.defs_text.specs.BlockScalar as defs
 use Rattle.std.proofs.lemmas.List.Folds.{list_all-append}
 use Rattle.proof_lexers.proofs.Along.{along_append}
 use Rattle.proof_lexers.proofs.RestOfLine as rest_of_lines
-use Rattle.proof_lexers.proofs.RestOfLine.{along_further, in_line_is, Rest, glued, goes_on, rest_of_line}
+use Rattle.proof_lexers.proofs.RestOfLine.{along_further, in_line_is, glued, goes_on, rest_of_line}
 use Rattle.proof_lexers.proofs.Blocks.Margins.{after_break, Break, Fits, put}
 
 -- what stands at a line's end is no indicator
@@ -28,9 +28,8 @@ front (c ∷ r) =
     (if is_sign c then c ∷ one (is_between 49 57) r else (if is_between 49 57 c then c ∷ one is_sign r else []))
 
 front_cut : (l : List ℕ) → l ≡ front l ++ past_indicators l
-front_cut [] = refl
-front_cut (c ∷ []) = grind arith
 front_cut (c ∷ d ∷ l) = grind arith
+front_cut l = grind arith
 
 digit_is : (c : ℕ) → is_digit c ≡ ((c == 48) || is_between 49 57 c)
 unfolding is_digit
@@ -109,12 +108,8 @@ module _ (start : Position) (style : BlockStyle) (line r : List ℕ) (inner : is
   unfolding header
   ended = elim (cases_Bool (has_zero line)) [
     | inl z ↦ let q = zero_fails start style line r z in refuses _ (zero_digit q.0 z) (rw q.1 refl)
-    | inr z ↦ by (after_style style (front line)) z refl
+    | inr z ↦ elim (cases_Option (after_style style (front line))) [ inl e ↦ absurd (some_header start style line z e) | inr h ↦ finish h.0 z h.1 ]
   ]
-    where
-      by : (o : Option defs.Header) → has_zero line ≡ false → after_style style (front line) ≡ o → Ends (header start (line ++ r) (past start))
-      by None z e = absurd (some_header start style line z e)
-      by (Some h) z e = finish h z e
 
 pub headers_end : HeadersEndAsTheirLineSays
 headers_end style line after p inner ends = ended p style line after inner ends

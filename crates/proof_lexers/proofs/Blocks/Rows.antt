@@ -1,5 +1,5 @@
 -- The lines of a block scalar are read row by row.
-use Rattle.proof_lexers.proofs.Common.{[], along, ap, append-nil, append_assoc, arith, at_marker, between, BlockState, Bool, content_row, drop, empty_row, ends_line, eq-eqb, false, Fault, indent_from, is_blank, is_break, is_content_line, is_document_marker, is_empty_line, is_in_line, is_spaces, le-ltb, leading_spaces, leb-true, length, Lines, lines_from, List, margin, nat_lt, nat_tests, None, not-true, Ok, Option, past, Position, put_row, Read, refl, Result, Row, row_of, rows_of, Some, suc, sym, true, zero, ℕ, ◌&&◌, ◌++◌, ◌+◌, ◌==◌, ◌∙◌, ◌∷◌, ◌≡◌, ◌≤◌, or-true, are_marks, is_blank_or_end, and_false, same_marker}
+use Rattle.proof_lexers.proofs.Common.{[], along, ap, append-nil, append_assoc, arith, at_marker, between, BlockState, Bool, content_row, drop, empty_row, ends_line, eq-eqb, false, Fault, indent_from, is_break, is_content_line, is_document_marker, is_empty_line, is_in_line, is_spaces, le-ltb, leading_spaces, leb-true, length, Lines, lines_from, List, margin, nat_lt, nat_tests, not-true, Ok, Option, past, Position, put_row, Read, refl, Result, Row, row_of, rows_of, Some, starts_blank, suc, sym, true, zero, ℕ, ◌&&◌, ◌++◌, ◌+◌, ◌==◌, ◌∙◌, ◌∷◌, ◌≡◌, ◌≤◌, or-true, are_marks, is_blank_or_end, and_false, same_blank, same_marker}
 use Rattle.defs_text.specs.Classes as classes
 use Rattle.model_scanner.specs.BlockScalar.{line, begins, begun, with_char}
 pub use Rattle.proof_lexers.proofs.Blocks.Margins.{after_break, after_line, after_lines, AreLines, at, before, Break, col_along, empty_passes, first_inner, Fits, last_passes, Line, lined, lines_front, margin_passes, put, spell, split_spell, texts}
@@ -23,8 +23,7 @@ line_marker a r h = grind (arith, break_is_none, and_false, break_is_gap)
 -- after a row: an empty line's break waits, content takes what waits
 abbrev pub after_row : (literal : Bool) → Row → Lines → Lines
 after_row literal empty_row l = record l { breaks = l.breaks ++ 10 ∷ [] }
-after_row literal (content_row []) l = record l { broken = true }
-after_row literal (content_row (c ∷ w)) l = record { text = (l.text ++ between literal l (is_blank c)) ++ c ∷ w; breaks = []; broken = true; blank = is_blank c }
+after_row literal (content_row w) l = record { text = (l.text ++ between literal l (starts_blank w)) ++ w; breaks = []; broken = true; blank = starts_blank w }
 
 abbrev pub after_rows : (literal : Bool) → List Row → Lines → Lines
 after_rows literal [] l = l
@@ -93,10 +92,8 @@ module _ (literal : Bool) (column : ℕ) where
   begins_free k w a rest char p same is col ends free =
       let here : at_marker p.col (char ∷ (rest ++ a)) ≡ ((p.col == 0) && is_document_marker (char ∷ rest)) = same_marker p.col (char ∷ (rest ++ a)) ∙ rw (line_marker (char ∷ rest) a ends) refl in
       let at_column = eq-eqb p.col column col in
-      rw (here, none k same is, at_column) refl
-    where
-      none : (k : ℕ) → k ≡ column → drop k w ≡ char ∷ rest → ((p.col == 0) && is_document_marker (char ∷ rest)) ≡ false
-      none k h e = grind (arith, suc_off)
+      let none : ((p.col == 0) && is_document_marker (char ∷ rest)) ≡ false = grind (arith, suc_off) in
+      rw (here, none, at_column) refl
 
   -- after a content line's characters
   abbrev pub written : Row → Lines → Lines
@@ -115,7 +112,7 @@ module _ (literal : Bool) (column : ℕ) where
       let more = chars z.rest a (past z.position) (with_char z.char (begun literal z.char x)) q.1 in
       let ends_there = z.ends in
       let is = z.is in
-      margin ∙ rw (deep, and_false (z.char == 32), q.0, first) (more ∙ rw (append_assoc, ends_there, is) refl)
+      margin ∙ rw (deep, and_false (z.char == 32), q.0, first) (more ∙ rw (append_assoc, ends_there, is, same_blank z.char) refl)
 
 -- ---- rows
 

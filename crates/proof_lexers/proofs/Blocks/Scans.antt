@@ -1,5 +1,5 @@
 -- The whole scan of a block scalar whose lines are known.
-use Rattle.proof_lexers.proofs.Common.{[], after_header, along, and_then, ap, append-nil, arith, At, begins_with, Block, block, block_position, BlockRead, breaks, cases_Bool, chomping_of, collection_of, Column, column_by, content_row, digit_by, digit_or_zero, drop, empty_row, empty_text, Err, false, Fault, first_content, further_position, has_content, Header, header, header_of, indent_from, indicator_of, indicators_of, inl, inr, is_at_end, is_in_line, is_literal_style, is_open, is_spaces, is_tabbed, IsRead, le-ltb, length, Lines, lines_from, List, max, nat_le, nat_lt, nat_tests, None, Ok, past, past_spaces, Position, position_after, position_or, Read, read_header, reads, refl, refuses, Result, Row, rows_of, Some, sym, tab, tail, true, value_before_end, value_before_text, without_spaces, ℕ, ◌&&◌, ◌++◌, ◌+◌, ◌∙◌, ◌∷◌, ◌≡◌, ◌≤◌, Option, BlockScalarTab, and_false, both}
+use Rattle.proof_lexers.proofs.Common.{[], after_header, along, and_then, ap, append-nil, arith, At, begins_with, Block, block, block_position, BlockRead, breaks, cases_Bool, chomping_of, collection_of, Column, column_by, content_row, digit_or_zero, drop, empty_row, empty_text, Err, false, Fault, first_content, further_position, has_content, Header, header, header_of, indent_from, indicator_of, indicators_of, inl, inr, is_at_end, is_in_line, is_literal_style, is_open, is_spaces, is_tabbed, IsRead, le-ltb, length, Lines, lines_from, List, max, nat_le, nat_lt, nat_tests, None, Ok, past, past_spaces, Position, position_after, position_or, Read, read_header, reads, refl, refuses, Result, Row, rows_of, Some, sym, tab, tail, true, value_before_end, value_before_text, without_spaces, ℕ, ◌&&◌, ◌++◌, ◌+◌, ◌∙◌, ◌∷◌, ◌≡◌, ◌≤◌, Option, BlockScalarTab, and_false, both}
 use Rattle.std.proofs.Math.Bool.{and_comm}
 use Rattle.defs_text.specs.Classes as classes
 use Rattle.defs_text.specs.BlockScalar as defs
@@ -8,14 +8,14 @@ use Rattle.proof_lexers.specs.BlockScan.{read, shallow, is_shallow}
 use Rattle.proof_lexers.proofs.Blocks.First.{content_is}
 use Rattle.proof_lexers.proofs.Blocks.Positions.{spell_more, after_chars, after_put, after_spell, first_header, header_alone, stopped_at, first_is}
 use Rattle.proof_lexers.proofs.Blocks.Rows.{after_break, after_lines, after_rows, AreLines, at, before, Break, break_ends, col_along, Fits, front, is_content, IsRow, last_content, last_empty, last_passes, Line, lines_front, margin_passes, no_content, put, rows_go, spell, starts, texts, written}
-use Rattle.proof_lexers.proofs.Blocks.Values.{Outside, further_stops, after_empty, content_value, empty_value, end_value, last_value, found_in, all_empty, are_full}
-use Rattle.proof_lexers.proofs.Blocks.Headers.{header_reads, header_tabs, linebreak_put}
+use Rattle.proof_lexers.proofs.Blocks.Values.{Outside, further_stops, after_empty, content_value, empty_value, end_value, last_value, found_in, all_empty}
+use Rattle.proof_lexers.proofs.Blocks.Headers.{header_reads, header_tabs, linebreak_put, said}
 
 pub style_inner : (s : defs.BlockStyle) (line : List ℕ) → is_in_line line ≡ true → is_in_line (indicator_of s ∷ line) ≡ true
 unfolding classes.is_break
 style_inner s line h = grind arith
 
-module _ (h : defs.Header) (line : List ℕ) (k : Break) (indent : ℕ) (p : Position) (is : header_of (indicator_of h.style ∷ line) ≡ Some h) (digit : digit_by (digit_or_zero h.digit) ≡ h.digit) (inner : is_in_line line ≡ true) where
+module _ (h : defs.Header) (line : List ℕ) (k : Break) (indent : ℕ) (p : Position) (is : header_of (indicator_of h.style ∷ line) ≡ Some h) (inner : is_in_line line ≡ true) where
   -- the position after the header's break
   abbrev pub start : Position
   start = after_break k (along line (past p))
@@ -29,7 +29,7 @@ module _ (h : defs.Header) (line : List ℕ) (k : Break) (indent : ℕ) (p : Pos
   pub block_is : (ms : List Line) (e : List ℕ) (column : ℕ) → column_by h.digit (collection_of indent) (texts ms ++ e ∷ []) ≡ column → AreLines ms e → is_in_line e ≡ true → Fits k (spell ms e) → begins_with tab (spell ms e) ≡ false
       → scanned (spell ms e) ≡ after (indent_from column (spell ms e) (at start []))
   unfolding block
-  block_is ms e column same are last fits still = grind (arith, content, content_is, at, tab, linebreak_put, header_reads, break_ends, past)
+  block_is ms e column same are last fits still = let own = said (indicator_of h.style) line h is in grind (arith, content, content_is, at, tab, linebreak_put, header_reads, break_ends, past)
 
   pub tab_fails : (a : List ℕ) → Fits k a → begins_with tab a ≡ true → scanned a ≡ Err (At BlockScalarTab p)
   unfolding block
@@ -123,7 +123,7 @@ module _ (h : defs.Header) (line : List ℕ) (k : Break) (indent : ℕ) (p : Pos
       | inl e ↦ let f = found_in column ls next start [] rs refl are rows e in let first : first_content column true p piece ≡ Some f.position = piece_first column (spell ls []) _ fits_alone (f.found [] are_alone) in
           reads_it column before_text (spell ls next) piece next (f.rest next) f.char f.position _ f.breaks_before lines_read free (rw first (grind arith))
           found_by (f.found next are) (in_position column f.position.col f.in_column) (read_to z) position_is (where_is first)
-          (ap (λ b. lines_read.text ++ tail (chomping_of h.chomping) b lines_read) (closed z _) ∙ content_value h false rs (are_full column (texts ls) rs rows) e ∙ rw e refl)
+          (ap (λ b. lines_read.text ++ tail (chomping_of h.chomping) b lines_read) (closed z _) ∙ content_value h false rs e ∙ rw e refl)
       | inr e ↦ without_rows e z
     ]
 
@@ -185,14 +185,14 @@ module _ (h : defs.Header) (line : List ℕ) (k : Break) (indent : ℕ) (p : Pos
       | inl e ↦ content_by empty_row rows_read (sees_before e)
           (rows_go (is_literal_style h.style) column ls last start (after_empty 0) rs refl are rows ∙ last_empty (is_literal_style h.style) column last last_position rows_read at_front spaces le)
           (ap (λ b. rows_read.text ++ tail (chomping_of h.chomping) b rows_read) (ap (λ n. nat_le column n && nat_lt 0 n) far ∙ both _ _ (λ e. grind (arith, nat_tests)) (λ e. grind (arith, nat_tests)))
-          ∙ content_value h (nat_le (max column 1) (length last)) rs (are_full column (texts ls) rs rows) e ∙ rw e refl)
+          ∙ content_value h (nat_le (max column 1) (length last)) rs e ∙ rw e refl)
       | inr e ↦ empty_none e spaces le
     ]
     before_the_end (content_row m) (is_content lead long free) =
         let col : last_position.col + column ≡ column = (let e = at_front in omega (arith, e)) in
         let z = starts column column last last_position col lead long last_inner in
         let content_text : last_read.text ++ tail (chomping_of h.chomping) (is_open column [] (along last last_position).col) last_read ≡ value_before_end h column rs last last_row = let open_is : is_open column [] (along last last_position).col ≡ true = ap (λ n. nat_le column n && nat_lt 0 n) far ∙ (grind (arith, nat_tests)) in
-        rw (open_is, z.is) (last_value h rs z.char z.rest (are_full column (texts ls) rs rows)) in
+        rw open_is (last_value h rs (drop column last)) in
         content_by last_row last_read (elim (cases_Bool (has_content rs)) [
           | inl e ↦ sees_before e
           | inr e ↦ record {

@@ -1,20 +1,13 @@
 -- What rows leave in the model's buffers is the text that the definitions give them; where content is found after rows, and what ends them.
-use Rattle.proof_lexers.proofs.Common.{[], ap, append-nil, append_assoc, arith, between, between_lines, BlockStyle, Bool, breaks, chomping_of, clip, content_row, empty_after, empty_row, empty_text, false, has_content, if◌then◌else◌, is_blank, is_literal_style, keep, length, Lines, List, nothing_before_end, nothing_before_text, refl, Row, starts_blank, strip, suc, sym, tail, text_after, text_of, true, with_content, zero, ℕ, ◌++◌, ◌+◌, ◌||◌, ◌∙◌, ◌∷◌, ◌≡◌, drop, indent_from, is_further_text, is_in_line, is_some, list_all, None, Option, Position, row_of, rows_of, Some, ◌≤◌, and_parts, nat_tests, cases_Bool, eqb-true, inl, inr, is_break, is_outside, lt-ltb, nat_lt, ne_eqb, not, not-true, Ok, past, past_spaces, without_spaces, ◌&&◌, ◌==◌, are_marks, is_nul, same_blank, same_break, same_marker}
+use Rattle.proof_lexers.proofs.Common.{[], ap, append-nil, append_assoc, arith, between, between_lines, BlockStyle, Bool, breaks, chomping_of, content_row, empty_after, empty_row, empty_text, false, has_content, if◌then◌else◌, is_literal_style, keep, length, Lines, List, nothing_before_end, nothing_before_text, refl, Row, starts_blank, suc, sym, tail, text_after, text_of, true, with_content, zero, ℕ, ◌++◌, ◌+◌, ◌||◌, ◌∙◌, ◌∷◌, ◌≡◌, indent_from, is_further_text, is_in_line, is_some, list_all, None, Option, Position, row_of, rows_of, Some, ◌≤◌, and_parts, cases_Bool, eqb-true, inl, inr, is_break, is_outside, lt-ltb, nat_lt, ne_eqb, not, not-true, Ok, past, past_spaces, without_spaces, ◌&&◌, ◌==◌, are_marks, is_nul, same_break, same_marker}
 use Rattle.defs_text.specs.BlockScalar as defs
 use Rattle.proof_lexers.proofs.Fold.{more_breaks}
-use Rattle.proof_lexers.proofs.Blocks.Rows.{after_line, after_lines, after_row, after_rows, AreLines, at, Break, break_ends, empty_passes, first_of, first_row, front, is_content, IsRow, Line, no_content, put, scan, spell, starts, texts, through}
+use Rattle.proof_lexers.proofs.Blocks.Rows.{after_line, after_lines, after_row, after_rows, AreLines, at, break_ends, empty_passes, first_of, first_row, front, is_content, Line, no_content, put, scan, spell, starts, texts, through}
 use Rattle.std.proofs.lemmas.List.Folds.{list_all-append}
 use Rattle.proof_lexers.proofs.Blocks.Columns.{none_further}
 use Rattle.defs_text.specs.Classes as classes
 use Rattle.model_scanner.specs.BlockScalar.{begins}
 use Rattle.proof_lexers.proofs.Blocks.Positions.{space_past}
-
--- content is never empty
-abbrev pub AreFull : List Row → Type 0
-AreFull [] = Unit {0}
-AreFull (empty_row ∷ rs) = AreFull rs
-AreFull (content_row [] ∷ rs) = ⊥
-AreFull (content_row (c ∷ m) ∷ rs) = AreFull rs
 
 break_before : (n : ℕ) (t : List ℕ) → breaks (suc n) ++ t ≡ breaks n ++ 10 ∷ t
 break_before zero t = refl
@@ -37,21 +30,17 @@ module _ (s : BlockStyle) where
   abbrev rows_after : List Row → Lines → Lines
   rows_after rs l = after_rows (is_literal_style s) rs l
 
-  text_goes : (rs : List Row) (t l : List ℕ) (n : ℕ) (b : Bool) → AreFull rs → b ≡ starts_blank l → Holds (rows_after rs (after_content t n b)) (t ++ text_after s l n rs) (empty_after n rs)
+  text_goes : (rs : List Row) (t l : List ℕ) (n : ℕ) → Holds (rows_after rs (after_content t n (starts_blank l))) (t ++ text_after s l n rs) (empty_after n rs)
   unfolding between
-  text_goes [] t l n b full e = record { text_is = sym (append-nil t); breaks_are = refl; is_broken = refl }
-  text_goes (empty_row ∷ rs) t l n b full e = grind (arith, more_breaks, text_goes rs t l (suc n) b full e)
-  text_goes (content_row [] ∷ rs) t l n b full e = absurd full
-  text_goes (content_row (c ∷ m) ∷ rs) t l n b full e =
-      let more = text_goes rs ((t ++ between_lines s n (starts_blank l || is_blank c)) ++ c ∷ m) (c ∷ m) 0 (is_blank c) full (sym (same_blank c)) in
-      grind (arith, same_blank, append_assoc, more)
+  text_goes [] t l n = record { text_is = sym (append-nil t); breaks_are = refl; is_broken = refl }
+  text_goes (empty_row ∷ rs) t l n = grind (arith, more_breaks, text_goes rs t l (suc n))
+  text_goes (content_row m ∷ rs) t l n = let more = text_goes rs ((t ++ between_lines s n (starts_blank l || starts_blank m)) ++ m) m 0 in grind (arith, append_assoc, more)
 
-  first_goes : (rs : List Row) (n k : ℕ) → AreFull rs → has_content rs ≡ true → Holds (rows_after rs (after_empty n)) (breaks n ++ text_of s rs) (empty_after k rs)
+  first_goes : (rs : List Row) (n k : ℕ) → has_content rs ≡ true → Holds (rows_after rs (after_empty n)) (breaks n ++ text_of s rs) (empty_after k rs)
   unfolding between
-  first_goes [] n k full h = cc
-  first_goes (empty_row ∷ rs) n k full h = grind (arith, more_breaks, break_before, first_goes rs (suc n) (suc k) full h)
-  first_goes (content_row [] ∷ rs) n k full h = absurd full
-  first_goes (content_row (c ∷ m) ∷ rs) n k full h = grind (arith, same_blank, append_assoc, text_goes rs (breaks n ++ c ∷ m) (c ∷ m) 0 (is_blank c) full)
+  first_goes [] n k h = cc
+  first_goes (empty_row ∷ rs) n k h = grind (arith, more_breaks, break_before, first_goes rs (suc n) (suc k) h)
+  first_goes (content_row m ∷ rs) n k h = grind (arith, append_assoc, text_goes rs (breaks n ++ m) m 0)
 
   pub none_goes : (rs : List Row) (n : ℕ) → has_content rs ≡ false → rows_after rs (after_empty n) ≡ after_empty (n + length rs)
   none_goes [] n h = let none : n ≡ n + 0 = omega arith in ap after_empty none
@@ -65,17 +54,15 @@ added b = (if b then 1 else 0)
 
 tail_is : (ch : defs.Chomping) (unbroken : Bool) (x : Lines) (n : ℕ) → x.breaks ≡ breaks n → x.broken ≡ true → tail (chomping_of ch) unbroken x ≡ defs.tail ch (added unbroken) n
 unfolding tail
-tail_is strip unbroken x n e f = refl
-tail_is clip true x n e f = rw f refl
-tail_is clip false x n e f = rw f refl
 tail_is keep true x n e f = let two : suc (suc n) ≡ suc 1 + n = omega arith in rw (f, e) (ap breaks two)
 tail_is keep false x n e f = let one : suc n ≡ suc 0 + n = omega arith in rw (f, e) (ap breaks one)
+tail_is ch unbroken x n e f = grind arith
 
 -- lines with content
-pub content_value : (h : defs.Header) (unbroken : Bool) (rs : List Row) → AreFull rs → has_content rs ≡ true
+pub content_value : (h : defs.Header) (unbroken : Bool) (rs : List Row) → has_content rs ≡ true
     → (after_rows (is_literal_style h.style) rs (after_empty 0)).text ++ tail (chomping_of h.chomping) unbroken (after_rows (is_literal_style h.style) rs (after_empty 0)) ≡ with_content h (added unbroken) rs
-content_value h unbroken rs full some =
-    let z = first_goes h.style rs 0 0 full some in
+content_value h unbroken rs some =
+    let z = first_goes h.style rs 0 0 some in
     rw (z.text_is) (ap (λ t. text_of h.style rs ++ t) (tail_is h.chomping unbroken _ (empty_after 0 rs) z.breaks_are z.is_broken))
 
 pub empty_value : (h : defs.Header) (rs : List Row) → has_content rs ≡ false
@@ -96,41 +83,23 @@ rows_more : (b : Bool) (rs : List Row) (r : Row) (l : Lines) → after_rows b (r
 rows_more b [] r l = refl
 rows_more b (q ∷ rs) r l = rows_more b rs r (after_row b q l)
 
-more_rows : (rs : List Row) (c : ℕ) (m : List ℕ) → AreFull rs
-    → AreFull (rs ++ content_row (c ∷ m) ∷ []) × (has_content (rs ++ content_row (c ∷ m) ∷ []) ≡ true)
-more_rows [] c m full = (tt, refl)
-more_rows (r ∷ rs) c m full = grind (arith, more_rows rs c m)
+content_last : (rs : List Row) (m : List ℕ) → has_content (rs ++ content_row m ∷ []) ≡ true
+content_last [] m = refl
+content_last (r ∷ rs) m = grind (arith, content_last rs m)
 
-pub last_value : (h : defs.Header) (rs : List Row) (c : ℕ) (m : List ℕ) → AreFull rs
-    → (after_row (is_literal_style h.style) (content_row (c ∷ m)) (after_rows (is_literal_style h.style) rs (after_empty 0))).text
-    ++ tail (chomping_of h.chomping) true (record (after_row (is_literal_style h.style) (content_row (c ∷ m)) (after_rows (is_literal_style h.style) rs (after_empty 0))) { broken = false })
-    ≡ with_content h 0 (rs ++ content_row (c ∷ m) ∷ [])
+pub last_value : (h : defs.Header) (rs : List Row) (m : List ℕ)
+    → (after_row (is_literal_style h.style) (content_row m) (after_rows (is_literal_style h.style) rs (after_empty 0))).text
+    ++ tail (chomping_of h.chomping) true (record (after_row (is_literal_style h.style) (content_row m) (after_rows (is_literal_style h.style) rs (after_empty 0))) { broken = false })
+    ≡ with_content h 0 (rs ++ content_row m ∷ [])
 unfolding tail
-last_value h rs c m full =
-    let z = first_goes h.style (rs ++ content_row (c ∷ m) ∷ []) 0 0 (more_rows rs c m full).0 (more_rows rs c m full).1 in
-    let more = rows_more (is_literal_style h.style) rs (content_row (c ∷ m)) (after_empty 0) in
+last_value h rs m =
+    let z = first_goes h.style (rs ++ content_row m ∷ []) 0 0 (content_last rs m) in
+    let more = rows_more (is_literal_style h.style) rs (content_row m) (after_empty 0) in
     grind (arith, z, more)
-
--- ---- content is never empty
-
-drop_some : (n : ℕ) (w : List ℕ) (rs : List Row) → suc n ≤ length w → AreFull rs → AreFull (content_row (drop n w) ∷ rs)
-drop_some n [] rs long full = absurd (omega (arith, long))
-drop_some zero (c ∷ w) rs long full = full
-drop_some (suc n) (c ∷ w) rs long full = drop_some n w rs (omega (arith, long)) full
-
-row_full : (column : ℕ) (w : List ℕ) (r : Row) (rs : List Row) → IsRow column w r → AreFull rs → AreFull (r ∷ rs)
-row_full column w a rs b full = grind (arith, nat_tests, drop_some)
-
-pub are_full : (column : ℕ) (ws : List (List ℕ)) (rs : List Row) → rows_of column ws ≡ Some rs → AreFull rs
-are_full column [] rs h = let none : [] ≡ rs = cc in rw (← none) tt
-are_full column (w ∷ ws) rs h = grind (arith, first_of, row_full, are_full column ws)
 
 -- a line and its break have no NUL, nor has the text after them
 pub of_line : (l : Line) (a : List ℕ) → list_all is_some (l.text ++ put l.by a) ≡ true → (list_all is_some l.text ≡ true) × (list_all is_some a ≡ true)
-of_line l a h = let q = and_parts (list_all is_some l.text) (list_all is_some (put l.by a)) (sym (list_all-append is_some l.text (put l.by a)) ∙ h) in (q.0, after_put l.by q.1)
-  where
-    after_put : (k : Break) → list_all is_some (put k a) ≡ true → list_all is_some a ≡ true
-    after_put b h = grind arith
+of_line l a h = let q = and_parts (list_all is_some l.text) (list_all is_some (put l.by a)) (sym (list_all-append is_some l.text (put l.by a)) ∙ h) in (q.0, grind (arith, q))
 
 -- ---- the first content
 

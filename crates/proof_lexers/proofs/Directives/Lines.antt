@@ -1,5 +1,5 @@
 -- Directives are read as their lines say, and no other text is.
-use Rattle.proof_lexers.proofs.Common.{[], is_empty, Option, after, after_declaration, after_major, after_value, after_version, and_then, ap, append-nil, append_assoc, arith, At, begins_prefix, begins_with, blanks, by_comment, by_declaration, by_name, by_octets, by_version, cases_Bool, codes, declaration_by, decoded, Directive, directive, directive_of, DirectivesAreRead, DirectivesEndAsTheirTextSays, eqb-true, Err, false, Fault, first_break, further, handle_and_rest, has_no_break, if◌then◌else◌, inl, inr, is_alpha, is_alphanumeric, is_at_gap, is_blank, is_flow, is_handle, is_rest_of_line, is_same, is_tag, is_uri, is_uri_mark, IsDirectiveRefusal, IsNoDeclaration, IsNoVersion, kind, leading, length, length-append, List, long_major, long_minor, name, next_line, no_major, no_minor, no_name, no_point, no_prefix, None, not-false, not-true, number, number_of, Ok, open_name, past, Position, prefix, prefix_after, Problem, problem_of, Read, reads, refl, refuses, reserved, Result, skip_while, slice_index, Some, suc, sym, tag, tag_declaration, tag_value, token_of, true, unknown, UriFault, value, version, version_of, version_value, with_minor, with_prefix, ℕ, ◌++◌, ◌+◌, ◌==◌, ◌||◌, ◌∙◌, ◌∷◌, ◌≡◌, nat_tests, CommentNotSeparated, DirectiveEnd, DirectiveName, DirectiveNameEnd, GlobalTagCharacter, TagDirectiveEnd, TagDirectiveHandle, TagStart, VersionDot, VersionNumber, VersionTooLong, is_blank_or_end, is_nul, is_decimal_digit, is_letter, same_blank, same_alpha, same_tag, same_place, before_end, skipped, span_cut}
+use Rattle.proof_lexers.proofs.Common.{[], is_empty, after, after_declaration, after_major, after_value, after_version, and_then, ap, append-nil, append_assoc, arith, At, begins_prefix, begins_with, blanks, by_comment, by_declaration, by_name, by_octets, by_version, cases_Bool, cases_Option, codes, declaration_by, decoded, Directive, directive, directive_break, directive_of, DirectivesAreRead, DirectivesEndAsTheirTextSays, eqb-true, Err, false, Fault, first_break, further, handle_and_rest, has_no_break, if◌then◌else◌, inl, inr, is_alpha, is_alphanumeric, is_at_gap, is_blank, is_flow, is_handle, is_rest_of_line, is_same, is_tag, is_uri, is_uri_mark, IsDirectiveRefusal, IsNoDeclaration, IsNoVersion, kind, leading, length, length-append, line_end, List, long_major, long_minor, name, next_line, no_major, no_minor, no_name, no_point, no_prefix, None, not-false, not-true, number, number_of, Ok, open_name, past, Position, prefix, prefix_after, Problem, problem_of, Read, reads, refl, refuses, reserved, Result, skip_while, slice_index, Some, suc, sym, tag, tag_declaration, tag_value, token_of, true, unknown, UriFault, value, version, version_of, version_value, with_minor, with_prefix, ℕ, ◌++◌, ◌+◌, ◌==◌, ◌||◌, ◌∙◌, ◌∷◌, ◌≡◌, nat_tests, CommentNotSeparated, DirectiveEnd, DirectiveName, DirectiveNameEnd, GlobalTagCharacter, TagDirectiveEnd, TagDirectiveHandle, TagStart, VersionDot, VersionNumber, VersionTooLong, is_blank_or_end, is_nul, is_decimal_digit, is_letter, same_blank, same_alpha, same_tag, same_place, before_end, skipped, span_cut}
 use Rattle.defs_token.specs.Token.{Tok}
 use Rattle.defs_text.specs.Classes as classes
 use Rattle.defs_text.specs.Directives as defs
@@ -7,14 +7,14 @@ use Rattle.model_scanner.specs.Directive.{after_name}
 use Rattle.proof_lexers.specs.DirectiveEnds.{ends_line, after_line, no_mark, goes_on, IsVersionBefore, whole_directive, no_directive}
 use Rattle.proof_lexers.proofs.Separation.Positions.{position_append, position_in_line}
 use Rattle.proof_lexers.proofs.Properties.Uris.{uris_are_read}
-use Rattle.proof_lexers.proofs.RestOfLine.{first_line, in_line, line_skipped, no_break_after, none_at_end}
-use Rattle.proof_lexers.proofs.Directives.Values.{ended, comment, text, line_ends, spells_name, kind_is, gap_is, number_by, number_is, not_at_end, handle_sees}
+use Rattle.proof_lexers.proofs.RestOfLine as rest_of_lines
+use Rattle.proof_lexers.proofs.RestOfLine.{first_line, glued, in_line, line_skipped, no_break_after, none_at_end, rest_of_line}
+use Rattle.proof_lexers.proofs.Directives.Values.{break_read, spells_name, kind_is, gap_is, number_is, not_at_end, handle_sees}
 use Rattle.proof_lexers.proofs.Directives.Values as values
 
 pub same_text : (a b : List ℕ) → is_same a b ≡ true → a ≡ b
 same_text [] b h = grind arith
-same_text (c ∷ a) [] h = cc
-same_text (c ∷ a) (d ∷ b) h = grind (arith, eqb-true, same_text a b)
+same_text (c ∷ a) b h = grind (arith, eqb-true, same_text a)
 
 no_tag_at_end : (n : List ℕ) → ends_line n ≡ true → is_tag (slice_index n 0) ≡ false
 unfolding is_tag is_uri is_alphanumeric is_uri_mark is_flow classes.is_tag classes.is_uri is_decimal_digit is_letter classes.is_flow
@@ -39,11 +39,11 @@ module _ (start : Position) (l n : List ℕ) (line : has_no_break l ≡ true) (e
   finish : (before m : List ℕ) (d : Directive) (p : Position) → l ≡ before ++ m → p ≡ further (suc (length before)) start → directive_of (37 ∷ l) ≡ (if is_rest_of_line m then Some d else None)
       → ((k : List ℕ) → m ≡ 35 ∷ k → IsDirectiveRefusal start l (At CommentNotSeparated (further (suc (length before)) start)))
       → (is_rest_of_line m ≡ false → begins_with 35 m ≡ false → IsDirectiveRefusal start l (At DirectiveEnd start)) → Told start l n (after_value start (record { rest = m ++ n; position = p; value = token_of d }))
-  unfolding classes.is_break
-  finish before m d p cut position says by_hash by_other = elim (line_ends start p m n (no_break_after before m (ap has_no_break (sym cut) ∙ line)) ends) [
-    | ended is e ↦ rw e (is_directive d (says ∙ rw is refl) (ap (λ q. Ok (record { rest = next_line n; position = q; value = token_of d })) (grind (arith, nat_tests, length-append, further, first_break, same_place, position_in_line, position_append))))
-    | comment begins none e ↦ rw (e, position) (fails (At CommentNotSeparated (further (suc (length before)) start)) (says ∙ rw none refl) (grind (arith, by_hash, begins)) refl)
-    | text none begins e ↦ rw e (fails (At DirectiveEnd start) (says ∙ rw none refl) (by_other none begins) refl)
+  unfolding line_end directive_break classes.is_break
+  finish before m d p cut position says by_hash by_other = elim (rest_of_line m n p (no_break_after before m (ap has_no_break (sym cut) ∙ line)) ends) [
+    | rest_of_lines.ends w is e ↦ rw (e, break_read start (further (length m) p) n ends) (is_directive d (says ∙ rw is refl) (ap (λ q. Ok (record { rest = next_line n; position = q; value = token_of d })) (grind (arith, nat_tests, length-append, further, first_break, same_place, position_in_line, position_append))))
+    | glued k so none e ↦ rw (e, position) (fails (At CommentNotSeparated (further (suc (length before)) start)) (says ∙ rw none refl) (by_hash k so) refl)
+    | rest_of_lines.goes_on c more q w none begins solid e ↦ rw (e, solid) (fails (At DirectiveEnd start) (says ∙ rw none refl) (by_other none begins) refl)
   ]
 
   -- ---- words
@@ -97,12 +97,10 @@ module _ (start : Position) (l n : List ℕ) (line : has_no_break l ≡ true) (e
 
     minor_read : (s : List ℕ) (v : ℕ) → after is_decimal_digit said ≡ 46 ∷ s → number_of major ≡ Some v
         → Told start l n (and_then (and_then (number start (s ++ n) (past (further (length major) said_position))) (λ k. Ok (with_minor v k))) (λ t. after_value start t))
-    minor_read s v point is = rw (number_is start (past (further (length major) said_position)) s n ends) (by (number_of (leading is_decimal_digit s)) refl)
-      where
-        by : (o : Option ℕ) → number_of (leading is_decimal_digit s) ≡ o
-            → Told start l n (and_then (and_then (number_by start (past (further (length major) said_position)) (leading is_decimal_digit s) (after is_decimal_digit s ++ n) o) (λ k. Ok (with_minor v k))) (λ t. after_value start t))
-        by None e = version_refused _ _ (rw (point, is, e) (grind arith)) (no_minor_number said v s is point e) refl
-        by (Some w) e = version_end s v w point is e
+    minor_read s v point is = rw (number_is start (past (further (length major) said_position)) s n ends) (elim (cases_Option (number_of (leading is_decimal_digit s))) [
+      | inl e ↦ rw e (version_refused _ _ (rw (point, is, e) (grind arith)) (no_minor_number said v s is point e) refl)
+      | inr w ↦ rw w.1 (version_end s v w.0 point is w.1)
+    ])
 
     point_read : (r : List ℕ) (v : ℕ) → after is_decimal_digit said ≡ r → number_of major ≡ Some v
         → Told start l n (and_then (after_major start (record { rest = r ++ n; position = further (length major) said_position; value = v })) (λ t. after_value start t))
@@ -116,11 +114,10 @@ module _ (start : Position) (l n : List ℕ) (line : has_no_break l ≡ true) (e
 
     versions : Told start l n (and_then (value start version (after_word ++ n) word_position) (λ t. after_value start t))
     unfolding version_value
-    versions = rw (blanks_skipped after_word word_position, number_is start said_position said n ends) (by (number_of major) refl)
-      where
-        by : (o : Option ℕ) → number_of major ≡ o → Told start l n (and_then (and_then (number_by start said_position major (after is_decimal_digit said ++ n) o) (λ k. after_major start k)) (λ t. after_value start t))
-        by None e = version_refused _ _ (rw e (grind (arith, after))) (no_major_number said e) refl
-        by (Some v) e = point_read (after is_decimal_digit said) v refl e
+    versions = rw (blanks_skipped after_word word_position, number_is start said_position said n ends) (elim (cases_Option (number_of major)) [
+      | inl e ↦ rw e (version_refused _ _ (rw e (grind (arith, after))) (no_major_number said e) refl)
+      | inr v ↦ rw v.1 (point_read (after is_decimal_digit said) v.0 refl v.1)
+    ])
 
   -- ---- declarations
 

@@ -1,28 +1,20 @@
 -- Parts of a directive's line, as the model reads them: words, numbers, a handle, and what may stand after its value.
-use Rattle.proof_lexers.proofs.Common.{[], after, all_of, and_parts, ap, append_assoc, arith, At, begins_with_mark, both_ways, cases_Bool, decimal_value, eqb-true, Err, false, Fault, further, handle, handle_and_rest, handle_end, if◌then◌else◌, inl, inr, is_empty, is_handle, is_marked_name, is_same, leading, length, length-append, List, nat_le, ne_eqb, None, number, number_of, Ok, Option, past, Position, Read, refl, Result, slice_index, Some, sym, true, ℕ, ◌++◌, ◌==◌, ◌∙◌, ◌∷◌, ◌≡◌, nat_tests, and_assoc, begins_with, Bool, codes, Digits, directive_break, drop, first_break, has_no_break, is_alpha, is_alphanumeric, is_at_gap, is_blank, is_blank_or_breakz, is_break, is_rest_of_line, kind, line_end, next_line, not, position_after, run, Stop, tag, unknown, version, ◌&&◌, ◌*◌, ◌+◌, ◌-◌, ◌≤◌, CommentNotSeparated, DirectiveEnd, TagDirectiveHandle, TagStart, VersionNumber, VersionTooLong, is_decimal_digit, is_letter, same_break, same_gap, same_alpha, same_place, all_leading, before_end, span_cut, one_further}
+use Rattle.proof_lexers.proofs.Common.{[], after, all_of, and_parts, ap, append_assoc, arith, At, begins_with_mark, both_ways, cases_Bool, decimal_value, eqb-true, Err, false, Fault, further, handle, handle_and_rest, handle_end, if◌then◌else◌, inl, inr, is_empty, is_handle, is_marked_name, is_same, leading, length, length-append, List, nat_le, ne_eqb, None, number, number_of, Ok, Option, past, Position, Read, refl, Result, slice_index, Some, sym, true, ℕ, ◌++◌, ◌==◌, ◌∙◌, ◌∷◌, ◌≡◌, nat_tests, and_assoc, Bool, codes, Digits, directive_break, drop, first_break, is_alpha, is_alphanumeric, is_at_gap, is_blank, is_blank_or_breakz, is_break, kind, next_line, not, position_after, run, Stop, tag, unknown, version, ◌&&◌, ◌*◌, ◌+◌, ◌-◌, ◌≤◌, TagDirectiveHandle, TagStart, VersionNumber, VersionTooLong, is_decimal_digit, is_letter, same_break, same_gap, same_alpha, same_place, all_leading, before_end, span_cut, one_further}
 use Rattle.defs_text.specs.Classes as classes
 use Rattle.proof_lexers.specs.DirectiveEnds.{ends_line}
 use Rattle.proof_lexers.proofs.Properties.Tags.{word}
 use Rattle.yaml_chars.specs.Class.{is_digit}
 use Rattle.model_scanner.specs.Directive.{digit_turn}
-use Rattle.proof_lexers.proofs.RestOfLine.{none_at_end, rest_of_line}
+use Rattle.proof_lexers.proofs.RestOfLine.{none_at_end}
 use Rattle.proof_lexers.proofs.Plain.Turns.{same_feed, in_line_position, line_position}
 use Rattle.proof_lexers.proofs.Blocks.Positions.{feed_past}
 
 -- ---- the rest of a line
 
--- How the end of a directive's line is read: the rest of it is blanks and maybe a comment after one; a comment stands there without a blank; or other text.
-pub data LineEnds (start p : Position) (m n : List ℕ) (x : Result (Read (Unit {0})) Fault) : Type 0 where
-  ended : is_rest_of_line m ≡ true → x ≡ Ok (record { rest = next_line n; position = position_after (further (length m) p) (first_break n) (next_line n); value = tt }) → LineEnds start p m n x
-  comment : begins_with 35 m ≡ true → is_rest_of_line m ≡ false → x ≡ Err (At CommentNotSeparated p) → LineEnds start p m n x
-  text : is_rest_of_line m ≡ false → begins_with 35 m ≡ false → x ≡ Err (At DirectiveEnd start) → LineEnds start p m n x
-
--- how the end of a directive's line is read
-pub line_ends : (start p : Position) (m n : List ℕ) → has_no_break m ≡ true → ends_line n ≡ true → LineEnds start p m n (line_end start (m ++ n) p)
-unfolding line_end directive_break
-line_ends start p m n h k =
-    let rest = rest_of_line m n p h k in
-    grind (arith, rest, ended, same_break, same_feed, line_position, past, eqb-true, feed_past, in_line_position, start, further, p, comment, begins_with, text)
+-- the break at a line's end, or the end
+pub break_read : (start p : Position) (n : List ℕ) → ends_line n ≡ true → directive_break start n p ≡ Ok (record { rest = next_line n; position = position_after p (first_break n) (next_line n); value = tt })
+unfolding directive_break
+break_read start p n k = grind (arith, same_break, same_feed, line_position, past, eqb-true, feed_past, in_line_position)
 
 -- ---- numbers
 

@@ -1,5 +1,5 @@
 -- Tags are read as what is written, and no other text is.
-use Rattle.proof_lexers.proofs.Common.{[], after, after_class, after_name, all_of, and_parts, and_then, ap, append_assoc, arith, at_start, begins_with, Bool, cases_Bool, codes, decoded, ends_tag, EndsAs, eqb-true, Err, false, Fault, further, if◌then◌else◌, inl, inr, is_alpha, is_empty, IsTagFault, IsTagRead, IsTagRefusal, leading, length, length-append, List, local, local_goes_on, local_octets, may_follow, named, nat_tests, no_suffix, Ok, past, Position, Read, read_tag, reads, refl, refuses, Result, shorthand, slice_index, Some, some_suffix, suc, suffix_goes_on, suffix_octets, sym, tag_end, tag_of_class, TagsEndAsTheirTextSays, take_while, true, uri_character, UriFault, verbatim, verbatim_end, verbatim_goes_on, verbatim_octets, whole_tag, written_tag, ℕ, ◌++◌, ◌==◌, ◌∙◌, ◌∷◌, ◌≡◌, TagEnd, is_decimal_digit, is_letter, same_gap, same_flow, same_alpha, same_place, begins_in, ends_after, taken}
+use Rattle.proof_lexers.proofs.Common.{[], after, after_class, after_name, all_of, and_parts, and_then, ap, append_assoc, arith, at_start, begins_with, Bool, cases_Bool, codes, decoded, drop, ends_tag, EndsAs, eqb-true, Err, false, Fault, further, if◌then◌else◌, inl, inr, is_alpha, is_empty, IsTagFault, IsTagRead, IsTagRefusal, leading, length, length-append, List, local, local_goes_on, local_octets, may_follow, named, nat_tests, no_suffix, Ok, past, Position, Read, read_tag, reads, refl, refuses, Result, shorthand, slice_index, Some, some_suffix, suc, suffix_goes_on, suffix_octets, sym, tag_end, tag_of_class, TagsEndAsTheirTextSays, take_while, true, uri_character, UriFault, verbatim, verbatim_end, verbatim_goes_on, verbatim_octets, whole_tag, written_tag, ℕ, ◌++◌, ◌==◌, ◌∙◌, ◌∷◌, ◌≡◌, TagEnd, is_decimal_digit, is_letter, same_gap, same_flow, same_alpha, same_place, begins_in, ends_after, taken}
 use Rattle.defs_text.specs.Classes as classes
 use Rattle.defs_text.specs.Tags as defs
 use Rattle.model_scanner.specs.Tag.{Tag, tag}
@@ -72,8 +72,7 @@ tag_starts c h = (grind (arith, nat_tests), grind (arith, nat_tests))
 
 -- a text that begins with a word or a mark is no verbatim tag
 is_shorthand : (name r : List ℕ) → all_of classes.is_alpha name ≡ true → (begins_in (λ c. c == 60) r) ≡ false → defs.after_mark (name ++ r) ≡ defs.shorthand (name ++ r)
-is_shorthand [] [] h e = refl
-is_shorthand [] (c ∷ r) h e = rw e refl
+is_shorthand [] r h e = grind arith
 is_shorthand (c ∷ name) r h e = let q = and_parts (classes.is_alpha c) (all_of classes.is_alpha name) h in rw ((alpha_starts c q.0).0) refl
 
 -- one that is not empty
@@ -85,12 +84,13 @@ some_text : (name r : List ℕ) (c : ℕ) → is_empty (name ++ c ∷ r) ≡ fal
 some_text [] r c = refl
 some_text (d ∷ name) r c = refl
 
-pub decoded_word : (name r cs : List ℕ) → all_of classes.is_alpha name ≡ true → decoded r ≡ Ok cs → decoded (name ++ r) ≡ Ok (name ++ cs)
+-- characters of a word are read as they stand
+pub decoded_word : (name r : List ℕ) → all_of classes.is_alpha name ≡ true → decoded (name ++ r) ≡ and_then (decoded r) (λ cs. Ok (name ++ cs))
 unfolding uri_character
-decoded_word [] r cs h e = e
-decoded_word (c ∷ name) r cs h e =
+decoded_word [] r h = grind arith
+decoded_word (c ∷ name) r h =
     let q = and_parts (classes.is_alpha c) (all_of classes.is_alpha name) h in
-    rw ((alpha_starts c q.0).1, decoded_word name r cs q.1 e) refl
+    rw ((alpha_starts c q.0).1, decoded_word name r q.1) (grind arith)
 
 all_tag : (name r : List ℕ) → all_of classes.is_alpha name ≡ true → all_of classes.is_tag r ≡ true → all_of classes.is_tag (name ++ r) ≡ true
 all_tag [] r h e = e
@@ -104,11 +104,28 @@ empty_is : (a : List ℕ) → is_empty a ≡ true → a ≡ []
 empty_is a h = grind arith
 
 pub same_empty : (name l cs : List ℕ) → decoded l ≡ Ok cs → is_empty (name ++ cs) ≡ is_empty (name ++ l)
-same_empty [] [] cs e = let none : [] ≡ cs = cc in rw (← none) refl
-same_empty [] (c ∷ l) cs e = decoded_some c l cs e
+same_empty [] l cs e = grind (arith, decoded_some)
 same_empty (d ∷ name) l cs e = refl
 
-module _ (flow : Bool) (start : Position) (text name : List ℕ) (all : all_of classes.is_alpha name ≡ true) where
+marked : (a : List ℕ) → (slice_index a 0 == 33) ≡ true → a ≡ 33 ∷ drop 1 a
+marked a h = grind (arith, eqb-true)
+
+unmarked : (a : List ℕ) → (slice_index a 0 == 33) ≡ false → defs.begins_with_mark a ≡ false
+unmarked a h = grind arith
+
+begins_less : (a : List ℕ) → begins_in classes.is_alpha a ≡ false → begins_in classes.is_alpha (leading classes.is_tag a) ≡ false
+begins_less a h = grind arith
+
+module _ (flow : Bool) (start : Position) (text : List ℕ) where
+  abbrev name : List ℕ
+  name = leading classes.is_alpha text
+
+  abbrev after_word : List ℕ
+  after_word = after classes.is_alpha text
+
+  all : all_of classes.is_alpha name ≡ true
+  all = all_leading classes.is_alpha text
+
   -- after a name and a second mark
   suffix_by : (s : List ℕ) (d : Result (List ℕ) UriFault) → text ≡ name ++ 33 ∷ s → decoded (leading classes.is_tag s) ≡ d
       → Ends flow start text (and_then (and_then (after_class classes.is_tag start (past (further (length name) (past start))) s [] d) (λ r. some_suffix start name r)) (λ t. tag_end flow start t))
@@ -121,49 +138,40 @@ module _ (flow : Bool) (start : Position) (text name : List ℕ) (all : all_of c
       elim (cases_Bool (is_empty cs)) [
         | inl f ↦ rw f (refuses _ (at_start _ (no_suffix name s cut all (empty_is l (sym same ∙ f)))) refl)
         | inr f ↦ rw f (ended flow start text (name ++ 33 ∷ l) (after classes.is_tag s) ((33 ∷ name) ++ 33 ∷ []) cs _
-            (cut ∙ ap (λ r. name ++ 33 ∷ r) (span_cut classes.is_tag s) ∙ sym (append_assoc name (33 ∷ l) (after classes.is_tag s))) (grind (arith, leading_all, refl, is_shorthand, shorthand_by, some_text))
+            (cut ∙ ap (λ r. name ++ 33 ∷ r) (span_cut classes.is_tag s) ∙ sym (append_assoc name (33 ∷ l) (after classes.is_tag s))) (grind (arith, all, leading_all, refl, is_shorthand, shorthand_by, some_text))
             (let long = length-append name (33 ∷ l) in same_place start (suc (length (name ++ 33 ∷ l))) (omega (arith, long)) (omega (arith, long))) (λ g. suffix_goes_on name s cs cut all (sym same ∙ f) e g))
       ]
 
   -- after a word and no mark
-  local_by : (m : List ℕ) (d : Result (List ℕ) UriFault) → text ≡ name ++ m → after classes.is_alpha text ≡ m → begins_with 60 text ≡ false → defs.begins_with_mark m ≡ false → begins_in classes.is_alpha (leading classes.is_tag m) ≡ false → decoded (leading classes.is_tag m) ≡ d
-      → Ends flow start text (and_then (and_then (after_class classes.is_tag start (further (length name) (past start)) m name d) (λ r. Ok (local r))) (λ t. tag_end flow start t))
-  local_by m (Err f) cut ends not_verbatim unmarked begins e = refuses _ (at_start _ (local_octets f not_verbatim (ap defs.begins_with_mark ends ∙ unmarked) (ap (λ r. decoded (leading classes.is_tag r)) ends ∙ e))) refl
-  local_by m (Ok cs) cut ends not_verbatim unmarked begins e =
-      let l = leading classes.is_tag m in
-      let rest = after classes.is_tag m in
+  local_by : (d : Result (List ℕ) UriFault) → begins_with 60 text ≡ false → defs.begins_with_mark after_word ≡ false → decoded (leading classes.is_tag after_word) ≡ d
+      → Ends flow start text (and_then (and_then (after_class classes.is_tag start (further (length name) (past start)) after_word name d) (λ r. Ok (local r))) (λ t. tag_end flow start t))
+  local_by (Err f) not_verbatim free e = refuses _ (at_start _ (local_octets f not_verbatim free e)) refl
+  local_by (Ok cs) not_verbatim free e =
+      let l = leading classes.is_tag after_word in
+      let rest = after classes.is_tag after_word in
       let same : is_empty (name ++ cs) ≡ is_empty (name ++ l) = same_empty name l cs e in
-      let tags = all_leading classes.is_tag m in
-      let here : text ≡ (name ++ l) ++ rest = cut ∙ ap (λ r. name ++ r) (span_cut classes.is_tag m) ∙ sym (append_assoc name l rest) in
+      let here : text ≡ (name ++ l) ++ rest = span_cut classes.is_alpha text ∙ ap (λ r. name ++ r) (span_cut classes.is_tag after_word) ∙ sym (append_assoc name l rest) in
+      let tags = all_leading classes.is_tag after_word in
+      let begins = begins_less after_word (ends_after classes.is_alpha text) in
       let long = length-append name l in
       let place : further (length l) (further (length name) (past start)) ≡ further (suc (length (name ++ l))) start = same_place start (suc (length (name ++ l))) (omega (arith, long)) (omega (arith, long)) in
-      let goes = λ (g : may_follow flow rest ≡ false).
-      local_goes_on cs not_verbatim (ap defs.begins_with_mark ends ∙ unmarked) (ap (λ r. decoded (leading classes.is_tag r)) ends ∙ e) (ap (λ r. may_follow flow (after classes.is_tag r)) ends ∙ g) in
       elim (cases_Bool (is_empty (name ++ cs))) [
-        | inl f ↦ rw f (ended flow start text (name ++ l) rest [] (33 ∷ []) _ here (rw (empty_is (name ++ l) (sym same ∙ f)) refl) place goes)
-        | inr f ↦ let some = sym same ∙ f in
-            rw f (ended flow start text (name ++ l) rest (33 ∷ []) (name ++ cs) _ here (grind (arith, leading_all, no_mark, is_shorthand, shorthand_by, all_tag, decoded_word)) place goes)
+        | inl f ↦ rw f (ended flow start text (name ++ l) rest [] (33 ∷ []) _ here (rw (empty_is (name ++ l) (sym same ∙ f)) refl) place (local_goes_on cs not_verbatim free e))
+        | inr f ↦
+            let some = sym same ∙ f in
+            rw f (ended flow start text (name ++ l) rest (33 ∷ []) (name ++ cs) _ here (grind (arith, all, leading_all, no_mark, is_shorthand, shorthand_by, all_tag, decoded_word)) place (local_goes_on cs not_verbatim free e))
       ]
 
-  from_mark : (s : List ℕ) → text ≡ name ++ 33 ∷ s → Ends flow start text (and_then (after_name start name (33 ∷ s) (further (length name) (past start))) (λ t. tag_end flow start t))
+  from_word : begins_with 60 text ≡ false → Ends flow start text (and_then (after_name start name after_word (further (length name) (past start))) (λ t. tag_end flow start t))
   unfolding named
-  from_mark s cut = rw ((uris_are_read start s (past (further (length name) (past start))) []).1) (suffix_by s (decoded (leading classes.is_tag s)) cut refl)
-
-  from_word : (m : List ℕ) → text ≡ name ++ m → after classes.is_alpha text ≡ m → begins_with 60 text ≡ false → begins_in classes.is_alpha m ≡ false → (slice_index m 0 == 33) ≡ false → Ends flow start text (and_then (after_name start name m (further (length name) (past start))) (λ t. tag_end flow start t))
-  from_word m cut ends not_verbatim begins unmarked =
-      rw (unmarked, (uris_are_read start m (further (length name) (past start)) name).1) (local_by m (decoded (leading classes.is_tag m)) cut ends not_verbatim (grind arith) (grind arith) refl)
-
-shorthand_from : (flow : Bool) (start : Position) (a m : List ℕ) → begins_with 60 a ≡ false → after classes.is_alpha a ≡ m
-    → Ends flow start a (and_then (after_name start (leading classes.is_alpha a) m (further (length (leading classes.is_alpha a)) (past start))) (λ t. tag_end flow start t))
-shorthand_from flow start a [] not_verbatim e = from_word flow start a (leading classes.is_alpha a) (all_leading classes.is_alpha a) [] (span_cut classes.is_alpha a ∙ ap (λ r. leading classes.is_alpha a ++ r) e) e not_verbatim refl refl
-shorthand_from flow start a (c ∷ s) not_verbatim e = let cut = span_cut classes.is_alpha a ∙ ap (λ r. leading classes.is_alpha a ++ r) e in elim (cases_Bool (c == 33)) [
-  | inl f ↦ let same : c ≡ 33 = eqb-true c 33 f in rw same (from_mark flow start a (leading classes.is_alpha a) (all_leading classes.is_alpha a) s (cut ∙ ap (λ d. leading classes.is_alpha a ++ d ∷ s) same))
-  | inr f ↦ from_word flow start a (leading classes.is_alpha a) (all_leading classes.is_alpha a) (c ∷ s) cut e not_verbatim (ap (begins_in classes.is_alpha) (sym e) ∙ ends_after classes.is_alpha a) f
-]
+  from_word not_verbatim = elim (cases_Bool (slice_index after_word 0 == 33)) [
+    | inl f ↦ rw (f, (uris_are_read start (drop 1 after_word) (past (further (length name) (past start))) []).1) (suffix_by (drop 1 after_word) _ (span_cut classes.is_alpha text ∙ ap (λ r. name ++ r) (marked after_word f)) refl)
+    | inr f ↦ rw (f, (uris_are_read start after_word (further (length name) (past start)) name).1) (local_by _ not_verbatim (unmarked after_word f) refl)
+  ]
 
 shorthands : (flow : Bool) (start : Position) (a : List ℕ) → (slice_index a 0 == 60) ≡ false → Ends flow start a (tag flow (33 ∷ a) start)
 unfolding tag shorthand
-shorthands flow start a e = rw (e, word a (past start) []) (shorthand_from flow start a (after classes.is_alpha a) (grind arith) refl)
+shorthands flow start a e = rw (e, word a (past start) []) (from_word flow start a (grind arith))
 
 pub tags_end : TagsEndAsTheirTextSays
 unfolding tag verbatim

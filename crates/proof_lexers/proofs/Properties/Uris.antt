@@ -1,6 +1,6 @@
 -- A URI's characters are read as what they mean.
 use Rattle.std.specs.Char.{is_digit}
-use Rattle.proof_lexers.proofs.Common.{[], after_class, and_then, ap, append-nil, append_assoc, arith, At, at_octet, at_trail, Bool, cases_Bool, code_followed, decoded, decoded_after, digit_value, drop, eqb-true, Err, escaped_character, false, Fault, further, high, if◌then◌else◌, inl, inr, is_alphanumeric, is_between, is_character_code, is_flow, is_hex, is_tag, is_trail, is_uri, is_uri_mark, Lead, lead, lead_of, leading, led_by, List, nat_le, nat_lt, nat_tests, no_character, None, Octet, octet_at, octet_from, Ok, Option, past, Position, put_code, Read, refl, Result, Some, subst, suc, sym, trail, trail_by, trails, trails_from, true, uri_character, uri_from, UriFault, UrisAreRead, UriState, zero, ℕ, ◌&&◌, ◌*◌, ◌++◌, ◌+◌, ◌==◌, ◌∙◌, ◌∷◌, ◌≡◌, TagLeadingOctet, TagOctet, same_digit, same_code, same_uri, same_tag, both, none_further}
+use Rattle.proof_lexers.proofs.Common.{[], after_class, ap, append-nil, append_assoc, arith, At, at_octet, at_trail, Bool, cases_Bool, decoded, decoded_after, digit_value, drop, eqb-true, Err, escaped_character, false, Fault, further, high, if◌then◌else◌, inl, inr, is_alphanumeric, is_between, is_character_code, is_flow, is_hex, is_tag, is_trail, is_uri, is_uri_mark, Lead, lead, lead_of, leading, List, nat_le, nat_lt, nat_tests, no_character, None, Octet, octet_at, octet_from, Ok, Option, past, Position, put_code, Read, refl, Result, Some, subst, suc, sym, trail, trail_by, trails, trails_from, true, uri_character, uri_from, UriFault, UrisAreRead, UriState, zero, ℕ, ◌&&◌, ◌*◌, ◌++◌, ◌+◌, ◌==◌, ◌∙◌, ◌∷◌, ◌≡◌, TagLeadingOctet, TagOctet, same_digit, same_code, same_uri, same_tag, both, none_further}
 use Rattle.defs_text.specs.Classes as classes
 use Rattle.model_scanner.specs.Uri.{plain}
 use Rattle.model_scanner.proofs.UriLemmas.{low_turn}
@@ -126,11 +126,7 @@ module _ (test class : ℕ → Bool) (start : Position) (same : (c : ℕ) → cl
   led : (x y n : ℕ) (b : List ℕ) (p : Position) (t : List ℕ) → ((k : ℕ) → Plain (drop k b)) → class x ≡ true → class y ≡ true → octet_at (37 ∷ x ∷ y ∷ leading class b) ≡ Some n
       → octet_from test start lead n b (past (past (past p))) t ≡ answer (37 ∷ x ∷ y ∷ b) p t (decoded (37 ∷ x ∷ y ∷ leading class b))
   unfolding uri_character escaped_character
-  led x y n b p t plains e f oc = rw (oc, same_lead start (past (past (past p))) n t) (by (lead_of n))
-    where
-      by : (o : Option Lead) → and_then (lead_to start (past (past (past p))) t o) (λ s. uri_from test start b s)
-          ≡ answer (37 ∷ x ∷ y ∷ b) p t (code_followed (led_by o (37 ∷ x ∷ y ∷ leading class b)) (λ n. decoded_after n (x ∷ y ∷ leading class b)))
-      by o = grind (arith, trailing, three_more, after_some)
+  led x y n b p t plains e f oc = rw (oc, same_lead start (past (past (past p))) n t) (grind (arith, trailing, three_more, after_some))
 
   at_percent : (a : List ℕ) (p : Position) (t : List ℕ) → ((k : ℕ) → Plain (drop k a)) → Octets lead a (past p) t → scan (37 ∷ a) p t ≡ answer (37 ∷ a) p t (decoded (37 ∷ leading class a))
   unfolding uri_character escaped_character

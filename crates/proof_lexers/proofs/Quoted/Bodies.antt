@@ -1,5 +1,5 @@
 -- The model over the elements of a body, up to its closing quote.
-use Rattle.proof_lexers.proofs.Common.{[], after_element, after_elements, after_gap, after_quote, ap, append-nil, At, at_marker, Bool, by_line, cases_Bool, closed_end, Context, double_quoted_element, drop, Element, element_of, elements, ends_before, Err, false, Fault, first, Folded, followed, gap, has_marker, inl, inr, inside, is_blank, is_break, is_document_marker, IsShallow, joined, List, Mode, nat_lt, None, nothing, Ok, Option, past, Position, put_before, quote_of, Read, read, refl, refused, Result, shallow, slice_index, Some, Spelled, suc, sym, true, zero, ℕ, ◌&&◌, ◌++◌, ◌+◌, ◌==◌, ◌||◌, ◌∙◌, ◌∷◌, ◌≡◌, arith, QuotedDocumentMarker, QuotedIndentation}
+use Rattle.proof_lexers.proofs.Common.{[], after_element, after_elements, after_gap, after_quote, ap, append-nil, At, at_marker, Bool, by_line, cases_Bool, cases_Option, closed_end, Context, double_quoted_element, drop, Element, element_of, elements, ends_before, Err, false, Fault, first, Folded, followed, gap, has_marker, inl, inr, inside, is_blank, is_break, is_document_marker, IsShallow, joined, List, Mode, nat_lt, None, nothing, Ok, Option, past, Position, quote_of, Read, read, refl, refused, Result, shallow, slice_index, Some, Spelled, suc, sym, true, zero, ℕ, ◌&&◌, ◌++◌, ◌+◌, ◌==◌, ◌||◌, ◌∙◌, ◌∷◌, ◌≡◌, arith, QuotedDocumentMarker, QuotedIndentation}
 use Rattle.proof_lexers.specs.QuotedScan.{IsRead}
 use Rattle.proof_lexers.proofs.Quoted.Turns.{no_marker, off_margin, Ready, in_gap, after_escaped, scan, Begun, begun, marked, begins, Step, steps, is_marked, is_shallow, StepOf, may_stand}
 use Rattle.proof_lexers.proofs.Quoted.Turns as turns
@@ -48,11 +48,10 @@ module _ (single : Bool) (ctx : Context) (start : Position) where
   by_element : (c : ℕ) (b r : List ℕ) (o : Option Spelled) (es : List Element) (m : Mode) (p : Position) (t : Folded) → element_of single c b ≡ o → followed o (λ n. elements (element_of single) n b) ≡ Some es
       → Ready single t m → ((n : ℕ) → Passes n b r) → StepOf single ctx start c b r p t o → Passed single ctx start (scan single ctx start (c ∷ (b ++ r)) m p t) (c ∷ b) r p.col (after_elements es t)
   by_element c b r None es m p t h e ready others z = cc
-  by_element c b r (Some s) es m p t h e ready others z = by (elements (element_of single) s.further b) refl e
-    where
-      by : (o : Option (List Element)) → elements (element_of single) s.further b ≡ o → put_before s.element o ≡ Some es → Passed single ctx start (scan single ctx start (c ∷ (b ++ r)) m p t) (c ∷ b) r p.col (after_elements es t)
-      by None k e = cc
-      by (Some fs) k e = let same : s.element ∷ fs ≡ es = cc in rw (← same) (by_step c b r s fs m p t h k ready (others s.further) z)
+  by_element c b r (Some s) es m p t h e ready others z = elim (cases_Option (elements (element_of single) s.further b)) [
+    | inl k ↦ let no : None ≡ Some es = rw k at e in cc
+    | inr fs ↦ let known = rw fs.1 at e in let same : s.element ∷ fs.0 ≡ es = cc (known) in rw (← same) (by_step c b r s fs.0 m p t h fs.1 ready (others s.further) z)
+  ]
 
   no_elements : (r : List ℕ) (es : List Element) (m : Mode) (p : Position) (t : Folded) → is_document_marker r ≡ false → Some [] ≡ Some es → Ready single t m
       → Passed single ctx start (scan single ctx start r m p t) [] r p.col (after_elements es t)

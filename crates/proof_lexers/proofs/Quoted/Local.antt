@@ -1,5 +1,5 @@
 -- What an element of a body is depends on its own characters alone, and on whether a CR ends a line alone.
-use Rattle.proof_lexers.proofs.Common.{[], and-false, ap, arith, begins_with, Bool, break_further, cases_Bool, content, double_quoted_element, drop, element_of, elements, eqb-true, escape, escape_by, escaped_break, escapes, false, hexadecimal, inl, inr, is_character_code, length, length-take, List, lookup, None, numbered, numeric_escape, numeric_escapes, Option, plain_element, refl, single_quoted_element, Some, Spelled, suc, take, take-append-le, take_at, true, zero, ℕ, ◌++◌, ◌==◌, ◌∷◌, ◌≡◌, nat_tests}
+use Rattle.proof_lexers.proofs.Common.{[], and-false, ap, arith, begins_with, Bool, break_further, cases_Bool, content, double_quoted_element, drop, element_of, elements, eqb-true, escape, escape_by, escaped_break, escapes, false, hexadecimal, inl, inr, is_character_code, length, length-take, List, lookup, None, numbered, numeric_escape, numeric_escapes, Option, plain_element, refl, single_quoted_element, Some, Spelled, suc, take, take-append-le, take_at, true, ℕ, ◌++◌, ◌==◌, ◌∷◌, ◌≡◌, nat_tests}
 use Rattle.defs_text.specs.Classes as classes
 use Rattle.proof_lexers.proofs.Quoted.Turns.{spelled}
 

@@ -61,12 +61,9 @@ by_shape single ctx start text (closed body rest cut has ends) =
     (λ m q ready none. closes single ctx start text body rest has cut ends none _ (close single ctx start rest ends m q (after_elements has.0 nothing) ready))
 by_shape single ctx start text (unclosed has) =
     from_body single ctx start text text [] has (sym (append-nil text)) refl refl (λ m q ready none. at_end single ctx start text m q (after_elements has.0 nothing) ready has)
-by_shape single ctx start text (badly_escaped body rest double cut has bad) = of_double single double has
-  where
-    of_double : (single : Bool) → single ≡ false → HasElements single body → Ends single ctx start text (scan single ctx start text first (past start) nothing)
-    of_double true e has = cc
-    of_double false e has =
-        from_body false ctx start text body (92 ∷ rest) has cut refl (no_marker 92 rest refl refl) (λ m q ready none. at_escape ctx start text body rest cut has bad m q (after_elements has.0 nothing) ready)
+by_shape true ctx start text (badly_escaped body rest double cut has bad) = cc
+by_shape false ctx start text (badly_escaped body rest double cut has bad) =
+    from_body false ctx start text body (92 ∷ rest) has cut refl (no_marker 92 rest refl refl) (λ m q ready none. at_escape ctx start text body rest cut has bad m q (after_elements has.0 nothing) ready)
 
 pub scans_end : QuotedScansEndAsTheirTextSays
 unfolding quoted

@@ -1,5 +1,5 @@
 -- Each separation is passed whole.
-use Rattle.proof_lexers.proofs.Common.{begins_separation, EachSeparationIsPassed, false, has_no_nul, HasPassed, is_blank_or_end, IsAfter, List, ScannerState, true, ℕ, ◌++◌, ◌≡◌, arith}
+use Rattle.proof_lexers.proofs.Common.{begins_separation, EachSeparationIsPassed, false, has_no_nul, is_blank_or_end, List, true, ℕ, ◌++◌, ◌≡◌, arith}
 use Rattle.proof_lexers.proofs.Ends.{ends_also}
 use Rattle.proof_lexers.proofs.Separation.Separations.{separations_are_passed}
 use Rattle.proof_row.specs.Ends.{ends_separation}
@@ -11,7 +11,5 @@ unfolding is_blank_or_end
 ends_here r h e = grind arith
 
 pub each_separation_is_passed : EachSeparationIsPassed
-each_separation_is_passed s separation rest nul is ends = ends_also passed (λ f why. why) (separations_are_passed s (separation ++ rest))
-  where
-    passed : (u : ScannerState) → HasPassed begins_separation s (separation ++ rest) u → IsAfter s separation rest u
-    passed u p = grind (arith, ends_here, no_nul_after, separations)
+each_separation_is_passed s separation rest nul is ends =
+    ends_also (λ u passed. grind (arith, ends_here, no_nul_after, separations)) (λ f why. why) (separations_are_passed s (separation ++ rest))

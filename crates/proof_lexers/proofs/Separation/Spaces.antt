@@ -1,11 +1,11 @@
 -- The blanks and the comment that the model passes in a line are a separation.
-use Rattle.proof_lexers.proofs.Common.{[], after, ap, are_spaces, arith, begins_with, cases_Bool, ends_spaces, EndsAs, eqb-true, false, further, has_break, has_no_break, inl, inr, is_separation, leading, length, length-append, List, not, Ok, Position, reads, refl, refuses, space, spaces, SpacesArePassed, sym, true, Whitespace, ℕ, ◌++◌, ◌==◌, ◌||◌, ◌∙◌, ◌∷◌, ◌≡◌, nat_tests, has, skip_while, none_further, same_place, span_cut}
+use Rattle.proof_lexers.proofs.Common.{[], after, ap, are_spaces, arith, begins_with, cases_Bool, ends_spaces, EndsAs, eqb-true, false, further, has_break, has_no_break, inl, inr, is_separation, leading, length, length-append, List, not, Ok, Position, reads, refl, refuses, space, spaces, SpacesArePassed, sym, true, ℕ, ◌++◌, ◌==◌, ◌||◌, ◌∙◌, ◌∷◌, ◌≡◌, nat_tests, has, skip_while, none_further, same_place, span_cut}
 use Rattle.defs_text.specs.Classes as classes
 use Rattle.model_scanner.specs.Blanks.{after_spaces, is_line}
 use Rattle.model_scanner.specs.declared.context.SkipTabs.{SkipTabs}
 use Rattle.proof_lexers.specs.DirectiveEnds.{ends_line}
 use Rattle.proof_lexers.specs.Separations.{IsGlued, HasSpaces, glued}
-use Rattle.proof_lexers.proofs.RestOfLine.{first_line, found_in, in_line, is_space, line_skipped, spaces_passed}
+use Rattle.proof_lexers.proofs.RestOfLine.{first_line, found_in, in_line, is_space, line_skipped, nothing_found, spaces_passed}
 use Rattle.proof_lexers.proofs.Separation.Positions.{position_in_line}
 
 no_break_is : (a : List ℕ) → has_break a ≡ not (has_no_break a)
@@ -35,31 +35,28 @@ commented tabs (c ∷ m) n h k = grind (arith, commented tabs m n)
 
 pub spaces_are_passed : SpacesArePassed
 unfolding space classes.is_blank classes.is_break
-spaces_are_passed tabs text p = rw (spaces_passed tabs text p nothing) (by (after (is_space tabs) text) refl)
+spaces_are_passed tabs text p = rw (spaces_passed tabs text p nothing_found) (by (after (is_space tabs) text) refl)
   where
-    nothing : Whitespace
-    nothing = record { found_tabs = false; has_valid_yaml_ws = false }
-
     before : List ℕ
     before = leading (is_space tabs) text
 
     ended : (comment rest : List ℕ) (q : Position) → text ≡ before ++ (comment ++ rest)
         → q ≡ further (length comment) (further (length before) p) → has_no_break comment ≡ true
         → is_separation false comment rest ≡ true → ends_spaces tabs rest ≡ true
-        → EndsAs (HasSpaces tabs p text) (IsGlued p text) (Ok (record { rest = rest; position = q; value = found_in nothing before }))
+        → EndsAs (HasSpaces tabs p text) (IsGlued p text) (Ok (record { rest = rest; position = q; value = found_in nothing_found before }))
     ended comment rest q cut place line is ends =
         let are = (leading_spaces tabs text).0 in
         let z = filled tabs before comment rest are line is in
         let long = length-append before comment in
         reads _ (spaces before comment rest cut are z.0 (no_break_is (before ++ comment) ∙ ap not z.1) ends)
-        (ap (λ q. Ok (record { rest = rest; position = q; value = found_in nothing before }))
+        (ap (λ q. Ok (record { rest = rest; position = q; value = found_in nothing_found before }))
         (place ∙ same_place p (length (before ++ comment)) (omega (arith, long)) (omega (arith, long)) ∙ position_in_line p (before ++ comment) rest z.1))
 
     cut : (r : List ℕ) → after (is_space tabs) text ≡ r → text ≡ before ++ r
     cut r e = span_cut (is_space tabs) text ∙ ap (λ x. before ++ x) e
 
     by : (r : List ℕ) → after (is_space tabs) text ≡ r
-        → EndsAs (HasSpaces tabs p text) (IsGlued p text) (after_spaces r (record { position = further (length before) p; found = found_in nothing before }))
+        → EndsAs (HasSpaces tabs p text) (IsGlued p text) (after_spaces r (record { position = further (length before) p; found = found_in nothing_found before }))
     by [] e = ended [] [] _ (cut [] e) (sym (none_further _)) refl refl refl
     by (c ∷ a) e = elim (cases_Bool (c == 35)) [
       | inr f ↦ rw f (ended [] (c ∷ a) _ (cut (c ∷ a) e) (sym (none_further _)) refl refl
