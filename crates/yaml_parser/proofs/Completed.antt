@@ -1,5 +1,5 @@
 -- What is awaited goes on to an end whose events can be named: so no fault is late.
-use Rattle.yaml_parser.proofs.Common.{arith, [], after_text_events, anchor_of, and_parts, ap, Awaits, Bool, both, Directive, end_events, end_tokens, ends_so, Ev, false, first_any, first_may, Goal, goes_so, Held, if◌then◌else◌, IsPending, IsSome, List, may_begin, named, Names, names_after, None, nothing_held, number, Option, option_map, past, past_tokens, perhaps_resolved, Place, Raw, reading, refl, resolved, resolved_event, saying, grammar_completes, Some, State, Style, text, text_event, Tok, true, work_of, Works, works, ◌&&◌, ◌++◌, ◌∙◌, ◌∷◌, ◌≡◌, and_from, in_pair}
+use Rattle.yaml_parser.proofs.Common.{arith, [], after_text_events, anchor_of, and_parts, ap, Awaits, Bool, both, Directive, end_events, end_tokens, ends_so, Ev, false, first_any, first_may, Goal, Held, if◌then◌else◌, IsPending, IsSome, List, named, Names, names_after, None, nothing_held, number, Option, option_map, past, perhaps_resolved, Place, Raw, reading, refl, resolved, resolved_event, saying, grammar_completes, Some, State, Style, text, text_event, Tok, true, work_of, Works, works, ◌&&◌, ◌++◌, ◌∙◌, ◌∷◌, ◌≡◌, and_from, in_pair}
 use Rattle.defs_event.specs.Properties.{tag_of}
 use Rattle.yaml_parser.proofs.DirectiveLemmas.{some_map}
 use Rattle.model_parser.specs.Rest.{place_of as where_it_stands}

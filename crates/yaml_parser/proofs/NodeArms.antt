@@ -1,5 +1,5 @@
 -- The arms of the productions of nodes.
-use Rattle.yaml_parser.proofs.Common.{map-append, arith, [], all_shown, answered, Answers, ap, append_assoc, At, Awaits, BeginAt, Bool, both, both_ways, Derives, EndsInAnchor, Err, Ev, event_then, events_of, EventSlot, false, Faulted, fits, Goal, goal_after_event, grammar, Has, HasNoText, HasUndeclaredHandle, HasUnknownAnchor, Held, IfSome, inl, inr, is_end, is_of_names, IsCause, IsDerived, IsNamed, IsOfKind, IsPending, kept_tag, Kind, kind_of, last_position, Leaves, List, name_of, named, named_by, Names, names_after, names_by, no_names, None, number, Ok, OnErr, OnOk, Option, option_map, OutOfMemory, peeked_tok, perhaps_anchor_of, perhaps_resolved, Place, placed, Position, Problem, Raw, Reader, reading, refl, Registers, resolved, resolved_event, Resolves, Result, row_read, said_by, scanned, shown, shown_list, Skips, SkipsOne, Some, StandsAt, State, Fault, StreamSays, Style, subst, sym, taken_toks, Takes, Tok, tok_is, tok_of, tok_of_kind, Token, Tokens, toks, true, UndeclaredHandle, under_name, UnknownAnchor, with_anchor, Works, ℕ, ◌++◌, ◌∙◌, ◌∷◌, ◌≡◌, ◌≢◌, ◌⊎◌, next_after, node_next, other_next}
+use Rattle.yaml_parser.proofs.Common.{map-append, arith, [], all_shown, answered, Answers, ap, append_assoc, At, Awaits, BeginAt, Bool, both, both_ways, Derives, EndsInAnchor, Err, Ev, event_then, events_of, EventSlot, false, Faulted, fits, Goal, goal_after_event, grammar, Has, HasNoText, HasUndeclaredHandle, HasUnknownAnchor, Held, IfSome, inl, inr, is_end, is_of_names, IsCause, IsDerived, IsNamed, IsOfKind, kept_tag, Kind, kind_of, last_position, Leaves, List, name_of, named, named_by, Names, names_after, names_by, no_names, None, number, Ok, OnErr, OnOk, Option, option_map, OutOfMemory, peeked_tok, perhaps_anchor_of, perhaps_resolved, Place, placed, Position, Problem, Raw, Reader, reading, refl, Registers, resolved, resolved_event, Resolves, Result, row_read, said_by, scanned, shown, shown_list, Skips, SkipsOne, Some, StandsAt, State, Fault, StreamSays, Style, subst, sym, taken_toks, Takes, Tok, tok_is, tok_of, tok_of_kind, Token, Tokens, toks, true, UndeclaredHandle, under_name, UnknownAnchor, with_anchor, Works, ℕ, ◌++◌, ◌∙◌, ◌∷◌, ◌≡◌, ◌≢◌, ◌⊎◌, next_after, node_next, other_next}
 use Rattle.defs_event.specs.Properties.{perhaps_tag_of}
 use Rattle.defs_event.specs.Names.{prefix_of}
 use Rattle.model_parser.specs.Stands.{IsNext as Starts}

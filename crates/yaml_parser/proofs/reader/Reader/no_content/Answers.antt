@@ -1,4 +1,4 @@
-use Rattle.yaml_parser.proofs.Answering.{answers_written, ap, At, faulted_as, Goal, goes_apart, Has, NodeContent, not, nothing_refuses, nothing_there, properties_left, properties_only, refl, refuses, says_node, subst, wrote, arith, None, true, ◌≡◌}
+use Rattle.yaml_parser.proofs.Answering.{answers_written, ap, At, faulted_as, Goal, goes_apart, Has, NodeContent, nothing_refuses, nothing_there, properties_left, properties_only, refl, refuses, says_node, subst, wrote, arith, None, true, ◌≡◌}
 use Rattle.yaml_parser.specs.Blames.{fits}
 use Rattle.yaml_parser.proofs.reader.Reader.no_content.Goals as goal
 
