@@ -1,14 +1,11 @@
 -- For one text two answers agree, and two parsers read and push the same events.
-use Rattle.std.proofs.lemmas.List.{map-append}
-use Rattle.yaml_loader.proofs.Common.{[], AnswersText, ap, Bool, both_ways, Err, ErrorReport, Ev, events_of, false, HasEvents, HasNoted, inl, inr, IsFaultOf, IsPlacedStream, IsStream, IsUnread, items_view, List, Means, memory_is_wanted, nested_is_stream, new_loader, no_stream, no_token, of_parser, Ok, one_by_one, one_meaning, one_reading, placed_stream, Position, read, reading, Receives, refl, Result, subst, sym, TellsKey, texts_are_answered, Token, toks, Tree, true, wants_memory, whole, with_events, ℕ, ◌++◌, ◌∙◌, ◌∷◌, ◌≡◌, ◌⊎◌}
+use Rattle.yaml_loader.proofs.Common.{[], all_tokens, AnswersText, ap, Bool, both_ways, Err, ErrorReport, Ev, events_of, false, HasEvents, HasNoted, inl, inr, IsFaultOf, IsPlacedStream, IsStream, IsUnread, items_view, List, map-append, Means, memory_is_wanted, nested_is_stream, new_loader, no_stream, no_token, of_parser, Ok, one_by_one, one_meaning, one_reading, placed_stream, Position, read, reading, Receives, refl, Result, subst, sym, TellsKey, texts_are_answered, Token, toks, Tree, true, wants_memory, whole, with_events, ℕ, ◌++◌, ◌∙◌, ◌∷◌, ◌≡◌, ◌⊎◌}
 use Rattle.defs_event.proofs.OneReading as grammar
 use Rattle.defs_token.specs.Row.{IsRead}
 use Rattle.proof_row.proofs.OneRow as row
 use Rattle.proof_loads.proofs.OneFault.{one_fault}
-use Rattle.proof_loads.proofs.StreamEnds.{all_tokens}
 use Rattle.yaml_loader.specs.Agreement.{OneAnswer, OneListOfDocuments, OneListOfPulledEvents, OneListOfPushedEvents}
-use Rattle.yaml_loader.specs.Unread.{repeated_key}
-use Rattle.yaml_loader.proofs.Finishing.{was_noted}
+use Rattle.yaml_loader.proofs.LoadLemmas.{was_noted}
 
 pub one_list_of_documents : OneListOfDocuments
 one_list_of_documents keep_tags text (Ok ones) (Ok others) m n = one_meaning keep_tags text (items_view ones.items) (items_view others.items) m n
@@ -42,28 +39,23 @@ memory_alone keep_tags text es f h (no_stream before last events first blames be
     absurd (none (toks b.more) (events_of es) (subst (λ ts. IsStream keep_tags ts (events_of es)) all (placed_stream keep_tags h.tokens es h.stream)))
 
 -- A text that means trees has no key twice.
-no_repeated_key : (keep_tags : Bool) (text : List ℕ) (trees : List Tree) (es : List (Ev × Position)) (key : Tree) → Means keep_tags text trees → (h : HasEvents keep_tags text es) → reading h.documents ≡ Err key → ⊥
-no_repeated_key keep_tags text trees es key x h repeats = let read = one_reading h.tokens h.documents h.has (nested_is_stream h) x in let no = sym read ∙ repeats in cc
-
 only_memory : (keep_tags : Bool) (text : List ℕ) (trees : List Tree) (f : ErrorReport) → Means keep_tags text trees → IsUnread keep_tags text f → f.memory ≡ true
 only_memory keep_tags text trees f x (of_parser why) = memory_is_wanted keep_tags text trees f x why
-only_memory keep_tags text trees f x (repeated_key es h key repeats noted tells owned) = absurd (no_repeated_key keep_tags text trees es key x h repeats)
-
-err_same : {a b : Tree} → ◌≡◌ {A = Result (List Tree) Tree} (Err a) (Err b) → a ≡ b
-err_same e = cc
+only_memory keep_tags text trees f x (IsUnread.repeated_key es h key repeats noted tells owned) =
+    let read = one_reading h.tokens h.documents h.has (nested_is_stream h) x in let no = sym read ∙ repeats in cc
 
 -- Events of one text have the same key twice.
 one_key : (keep_tags : Bool) (text : List ℕ) (es fs : List (Ev × Position)) (key other : Tree) (p : Position) → (h : HasEvents keep_tags text es) → (k : HasEvents keep_tags text fs)
     → HasNoted (with_events new_loader es) key p → reading k.documents ≡ Err other → key ≡ other
 one_key keep_tags text es fs key other p h k noted repeats =
     let same = same_events keep_tags text h.tokens k.tokens es fs h.has k.has h.stream k.stream in
-    err_same (sym (was_noted (reading k.documents) (with_events new_loader es) key p (one_by_one k.documents es (same ∙ k.events_are)) noted) ∙ repeats)
+    let both = sym (was_noted (reading k.documents) (with_events new_loader es) key p (one_by_one k.documents es (same ∙ k.events_are)) noted) ∙ repeats in cc
 
 faults_agree : (keep_tags : Bool) (text : List ℕ) (f g : ErrorReport) → IsUnread keep_tags text f → IsUnread keep_tags text g → f.memory ≡ false → g.memory ≡ false → (f ≡ g) ⊎ ((key : Tree) × TellsKey key f.text × TellsKey key g.text)
 faults_agree keep_tags text f g (of_parser x) (of_parser y) m n = inl (one_fault keep_tags text f g x y m n)
-faults_agree keep_tags text f g (of_parser x) (repeated_key es h key repeats noted tells owned) m n = absurd (both_ways f.memory m (memory_alone keep_tags text es f h x))
-faults_agree keep_tags text f g (repeated_key es h key repeats noted tells owned) (of_parser y) m n = absurd (both_ways g.memory n (memory_alone keep_tags text es g h y))
-faults_agree keep_tags text f g (repeated_key es h key repeats noted tells owned) (repeated_key fs k other again noted_too tells_too owned_too) m n =
+faults_agree keep_tags text f g (of_parser x) (IsUnread.repeated_key es h key repeats noted tells owned) m n = absurd (both_ways f.memory m (memory_alone keep_tags text es f h x))
+faults_agree keep_tags text f g (IsUnread.repeated_key es h key repeats noted tells owned) (of_parser y) m n = absurd (both_ways g.memory n (memory_alone keep_tags text es g h y))
+faults_agree keep_tags text f g (IsUnread.repeated_key es h key repeats noted tells owned) (IsUnread.repeated_key fs k other again noted_too tells_too owned_too) m n =
     inr (key, tells, subst (λ t. TellsKey t g.text) (sym (one_key keep_tags text es fs key other f.position h k noted again)) tells_too)
 
 pub one_answer : OneAnswer

@@ -1,8 +1,5 @@
 -- Two loaders beside each other, over the same events: they differ in the documents before, and in anchors that no alias tells apart.
-use Rattle.yaml_loader.proofs.Common.{[], aliased, Anchors, ap, arith, array, at_work, bad_value, Bool, documents_of, Ev, false, finished, has_key, hash, HasDocuments, HasNoted, HasRead, if◌then◌else◌, insert, items_of, List, Loader, loader_after, nat_eq, nat_tests, None, noted, Ok, Opened, opened_mapping, opened_sequence, Option, out_of_nesting, pairs_of, Position, reads, refl, refused_at, repeats, scalar_tree, Some, Step, subst, suc, sym, Tree, true, Unfinished, unwrap_or, with_document_end, with_event, with_event_at, with_events, with_mapping_end, with_node, with_sequence_end, with_start, with_tree, zero, ℕ, ◌++◌, ◌∙◌, ◌∷◌, ◌≡◌}
-use Rattle.std.proofs.Common.{append_assoc}
-use Rattle.defs_event.specs.Unfinished.{refused, with_root}
-use Rattle.yaml_loader.specs.OneDocument.{is_end, HasNoEnd}
+use Rattle.yaml_loader.proofs.Common.{[], aliased, Anchors, ap, append_assoc, arith, array, at_work, bad_value, Bool, documents_of, Ev, false, finished, has_key, HasDocuments, hash, HasNoEnd, HasNoted, HasRead, if◌then◌else◌, insert, is_end, items_of, List, Loader, loader_after, nat_eq, nat_tests, None, noted, Ok, Opened, opened_mapping, opened_sequence, Option, out_of_nesting, pairs_of, Position, reads, refl, refused_at, repeats, scalar_tree, Some, Step, subst, suc, sym, Tree, true, Unfinished, unwrap_or, with_document_end, with_event, with_event_at, with_events, with_mapping_end, with_node, with_root, with_sequence_end, with_start, with_tree, zero, ℕ, ◌++◌, ◌∙◌, ◌∷◌, ◌≡◌}
 
 -- the number of the anchor of the node that begins with the event, or 0
 abbrev pub anchor_of : Ev → ℕ
@@ -53,7 +50,7 @@ pub record AreBeside (R : ℕ → Tree → Tree → Type 0) (before : List Tree)
   pub opened : AllMayFinish R v.opened
 
 -- One step of both. But for an end, the documents stay.
-data StepsBeside (R : ℕ → Tree → Tree → Type 0) (before docs : List Tree) (end : Bool) : Step → Step → Type 0 where
+pub data StepsBeside (R : ℕ → Tree → Tree → Type 0) (before docs : List Tree) (end : Bool) : Step → Step → Type 0 where
   reading : {u v : Unfinished} → AreBeside R before u v → (end ≡ false → v.documents ≡ docs) → StepsBeside R before docs end (reads u) (reads v)
   repeating : (key : Tree) → StepsBeside R before docs end (repeats key) (repeats key)
   nesting : StepsBeside R before docs end out_of_nesting out_of_nesting
@@ -61,35 +58,36 @@ data StepsBeside (R : ℕ → Tree → Tree → Type 0) (before docs : List Tree
 pub data StandBeside (R : ℕ → Tree → Tree → Type 0) (before : List Tree) : Loader → Loader → Type 0 where
   working : {u v : Unfinished} → AreBeside R before u v → StandBeside R before (at_work u) (at_work v)
   noting : {ds es : List Tree} {key : Tree} {p : Position} → ds ≡ before ++ es → StandBeside R before (noted ds key p) (noted es key p)
-  refusing : {ds es : List Tree} {p : Position} → ds ≡ before ++ es → StandBeside R before (refused ds p) (refused es p)
+  refusing : {ds es : List Tree} {p : Position} → ds ≡ before ++ es → StandBeside R before (Loader.refused ds p) (Loader.refused es p)
 
 -- ---- one step
 
 module _ (R : ℕ → Tree → Tree → Type 0) (before docs : List Tree) (end : Bool) (root : Option Tree) where
   -- the one with these anchors, the other with those
-  abbrev one : List Opened → Anchors → Unfinished
+  abbrev pub one : List Opened → Anchors → Unfinished
   one os a = state (before ++ docs) os root a
 
-  abbrev two : List Opened → Anchors → Unfinished
+  abbrev pub two : List Opened → Anchors → Unfinished
   two os b = state docs os root b
 
-  abbrev Beside : Step → Step → Type 0
+  abbrev pub Beside : Step → Step → Type 0
   Beside s r = StepsBeside R before docs end s r
 
   both : (os : List Opened) (r : Option Tree) (a b : Anchors) → AreRelated R a b → AllMayFinish R os
       → Beside (reads (state (before ++ docs) os r a)) (reads (state docs os r b))
   both os r a b h o = reading (record { is = refl; anchors = h; opened = o }) (λ k. refl)
 
-  tree_beside : (t : Tree) (all os : List Opened) (a b : Anchors) → AreRelated R a b → AllMayFinish R os
-      → Beside (with_tree t (one all a) os) (with_tree t (two all b) os)
-  tree_beside t all [] a b h o = by root
+  -- Which collections stood as open doesn't matter.
+  pub tree_beside : (t : Tree) (all others os : List Opened) (a b : Anchors) → AreRelated R a b → AllMayFinish R os
+      → Beside (with_tree t (one all a) os) (with_tree t (two others b) os)
+  tree_beside t all others [] a b h o = by root
     where
-      by : (r : Option Tree) → Beside (with_root t (one all a) r) (with_root t (two all b) r)
+      by : (r : Option Tree) → Beside (with_root t (one all a) r) (with_root t (two others b) r)
       by None = both [] (Some t) a b h o
       by (Some x) = nesting
-  tree_beside t all (opened_sequence n ts ∷ os) a b h o = both (opened_sequence n (ts ++ t ∷ []) ∷ os) root a b h o
-  tree_beside t all (opened_mapping n ps None ∷ os) a b h o = both (opened_mapping n ps (Some t) ∷ os) root a b h o
-  tree_beside t all (opened_mapping n ps (Some k) ∷ os) a b h o = by (has_key k ps)
+  tree_beside t all others (opened_sequence n ts ∷ os) a b h o = both (opened_sequence n (ts ++ t ∷ []) ∷ os) root a b h o
+  tree_beside t all others (opened_mapping n ps None ∷ os) a b h o = both (opened_mapping n ps (Some t) ∷ os) root a b h o
+  tree_beside t all others (opened_mapping n ps (Some k) ∷ os) a b h o = by (has_key k ps)
     where
       new : List Opened
       new = opened_mapping n (insert k t ps) None ∷ os
@@ -98,9 +96,9 @@ module _ (R : ℕ → Tree → Tree → Type 0) (before docs : List Tree) (end :
       by true = repeating k
       by false = both new root a b h o
 
-  node_beside : (k : ℕ) (t : Tree) (all os : List Opened) (a b : Anchors) → AreRelated R a b → MayFinish R k → AllMayFinish R os
-      → Beside (with_node k t (one all a) os) (with_node k t (two all b) os)
-  node_beside k t all os a b h f o = tree_beside t all os (finished k t a) (finished k t b) (finished_related R k t a b f h) o
+  pub node_beside : (k : ℕ) (t : Tree) (all others os : List Opened) (a b : Anchors) → AreRelated R a b → MayFinish R k → AllMayFinish R os
+      → Beside (with_node k t (one all a) os) (with_node k t (two others b) os)
+  node_beside k t all others os a b h f o = tree_beside t all others os (finished k t a) (finished k t b) (finished_related R k t a b f h) o
 
   start_beside : (c : Opened) (all os : List Opened) (r : Option Tree) (a b : Anchors) → AreRelated R a b → AllMayFinish R (c ∷ os)
       → Beside (with_start c (one all a) os r) (with_start c (two all b) os r)
@@ -109,12 +107,12 @@ module _ (R : ℕ → Tree → Tree → Type 0) (before docs : List Tree) (end :
 
   sequence_end_beside : (all os : List Opened) (a b : Anchors) → AreRelated R a b → AllMayFinish R os
       → Beside (with_sequence_end (one all a) os) (with_sequence_end (two all b) os)
-  sequence_end_beside all (opened_sequence k ts ∷ os) a b h o = node_beside k (array (items_of ts)) all os a b h o.0 o.1
+  sequence_end_beside all (opened_sequence k ts ∷ os) a b h o = node_beside k (array (items_of ts)) all all os a b h o.0 o.1
   sequence_end_beside all os a b h o = nesting
 
   mapping_end_beside : (all os : List Opened) (a b : Anchors) → AreRelated R a b → AllMayFinish R os
       → Beside (with_mapping_end (one all a) os) (with_mapping_end (two all b) os)
-  mapping_end_beside all (opened_mapping k ps None ∷ os) a b h o = node_beside k (hash (pairs_of ps)) all os a b h o.0 o.1
+  mapping_end_beside all (opened_mapping k ps None ∷ os) a b h o = node_beside k (hash (pairs_of ps)) all all os a b h o.0 o.1
   mapping_end_beside all os a b h o = nesting
 
   document_end_beside : (all os : List Opened) (a b : Anchors) → (end ≡ false → true ≡ false) → AreRelated R a b → AllMayFinish R all
@@ -128,8 +126,8 @@ module _ (R : ℕ → Tree → Tree → Type 0) (before docs : List Tree) (end :
       → Beside (with_event (one os a) e) (with_event (two os b) e)
   event_beside Ev.document_end os a b k s h o = document_end_beside os os a b k h o
   event_beside (Ev.alias n) os a b k s h o =
-      subst (λ t. Beside (with_tree (aliased n a) (one os a) os) (with_tree t (two os b) os)) (s _ _ (h n)) (tree_beside (aliased n a) os os a b h o)
-  event_beside (Ev.scalar text style a t) os x y k s h o = node_beside a (scalar_tree text style t) os os x y h s o
+      subst (λ t. Beside (with_tree (aliased n a) (one os a) os) (with_tree t (two os b) os)) (s _ _ (h n)) (tree_beside (aliased n a) os os os a b h o)
+  event_beside (Ev.scalar text style a t) os x y k s h o = node_beside a (scalar_tree text style t) os os os x y h s o
   event_beside (Ev.sequence_start a t) os x y k s h o = start_beside (opened_sequence a []) os os root x y h (s, o)
   event_beside Ev.sequence_end os a b k s h o = sequence_end_beside os os a b h o
   event_beside (Ev.mapping_start a t) os x y k s h o = start_beside (opened_mapping a [] None) os os root x y h (s, o)

@@ -1,6 +1,5 @@
 -- The steps of a count.
-use Rattle.yaml_loader.proofs.Common.{encode_utf8_all, encodes-chars, IsUtf8-string_bytes}
-use Rattle.yaml_loader.proofs.LimitedCommon.{[], ap, AreAbove, arith, Counted, Counts, Excess, Extent, FitsIn, IfErr, IsExcess, length, List, Made, max, Ok, OnOk, Opened, opened_size, refl, Result, single_node, String, string_bytes, string_chars, subst, sym, with_end, with_kept, with_node, with_part, with_start, ℕ, ◌+◌, ◌<◌, ◌^◌, ◌∙◌, ◌∷◌, ◌≡◌, ◌≤◌}
+use Rattle.yaml_loader.proofs.LimitedCommon.{[], ap, AreAbove, arith, Counted, Counts, encode_utf8_all, encodes-chars, Excess, Extent, FitsIn, IfErr, IsExcess, IsUtf8-string_bytes, length, List, Made, max, Ok, OnOk, Opened, opened_size, refl, Result, single_node, String, string_bytes, string_chars, subst, sym, with_end, with_kept, with_node, with_part, with_start, ℕ, ◌+◌, ◌<◌, ◌^◌, ◌∙◌, ◌∷◌, ◌≡◌, ◌≤◌}
 use Rattle.yaml_loader.specs.declared.count.Count.{Count}
 
 pub content_size : {A : Type 0} (s : String A) → length (encode_utf8_all (string_chars s)) ≡ length (string_bytes s)

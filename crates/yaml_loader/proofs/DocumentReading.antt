@@ -1,18 +1,13 @@
 -- What the reading of one document does, from what its loader took.
-use Rattle.yaml_loader.proofs.Common.{[], ap, append-nil, append_assoc, arith, BeginsPlaced, by_key, by_memory, by_parser, documents_of, Ended, EndsDocument, Err, ErrorReport, Ev, events_of, false, fault_in, Faults, has_end, HasDocuments, HasNoEnd, HasNoted, HasRead, inl, inr, is_end, is_stream_end, IsBetween, IsGivenFault, IsNested, IsPlain, IsRead, IsSome, items_view, kept_fault, length, length-append, List, Loader, loader_of, map-append, new_loader, None, Ok, Option, option_to_list, Parsed, Position, raws_of, read, Reads, ReadsAll, ReadsOne, refl, refused_at, Refuses, Result, reverse, reverse-append, Some, Stops, subst, sym, Takes, TakesAll, TakesDocument, Token, Tree, true, view, WantsMemory, with_event_at, with_events, Yaml, YamlLoader, ℕ, ◌++◌, ◌<◌, ◌∙◌, ◌∷◌, ◌≡◌, ◌⊎◌}
+use Rattle.yaml_loader.proofs.Common.{[], ap, append-nil, append_assoc, arith, BeginsPlaced, by_key, by_memory, by_parser, documents_of, Ended, EndsDocument, Err, ErrorReport, Ev, events_of, false, fault_in, Faults, has_end, HasDocuments, HasNoEnd, HasNoted, HasRead, inl, inr, is_end, is_stream_end, IsBetween, IsGivenFault, IsNested, IsPlain, IsRead, IsSome, items_view, items_view_push, KeepsSettings, kept_fault, length, length-append, List, Loader, loader_of, map-append, new_loader, None, Ok, Option, option_to_list, Parsed, Position, raws_of, read, Reads, ReadsAll, ReadsOne, refl, refused_at, Refuses, reverse, reverse-append, Some, Stops, subst, sym, Takes, TakesAll, TakesDocument, Token, Tree, true, view, WantsMemory, with_event_at, with_events, Yaml, YamlLoader, ℕ, ◌++◌, ◌<◌, ◌∙◌, ◌∷◌, ◌≡◌, ◌⊎◌}
 use Rattle.yaml_loader.specs.OneDocument.{finished}
-use Rattle.yaml_loader.proofs.LoadLemmas.{has_documents, has_noted, new_fault, stands, with_last}
-use Rattle.std.specs.Result.{IsErrAnd}
+use Rattle.yaml_loader.proofs.LoadLemmas.{events_append, new_fault, stands, end_stays, read_documents, has_are, was_noted, HasOneOrNone, end_reads}
 use Rattle.proof_loads.proofs.Pulled.{read_given, has_end_append}
-use Rattle.yaml_loader.specs.Gives as given
 use Rattle.yaml_loader.specs.declared.one_document.Halt.{Halt}
 use Rattle.yaml_loader.specs.declared.one_document.Halt.TheVariants as halt
-use Rattle.yaml_loader.proofs.Numbers.{highest, AreOwn, named_own, own_rest, up_to, UpTo}
+use Rattle.yaml_loader.proofs.Numbers.{highest, AreOwn, named_own, own_rest, up_to, UpTo, ClosesStream, closes_at_start, closes_after, nothing_began, Over, over_so_far}
 use Rattle.yaml_loader.proofs.Beside.{AllSuit, StandBeside, working, events_beside, beside_read, beside_has, beside_noted, beside_documents, beside_refused, no_more_documents}
-use Rattle.yaml_loader.proofs.Between.{ClosesStream, closes_at_start, closes_after, nothing_began, Over, over_so_far}
-use Rattle.yaml_loader.proofs.Finishing.{events_append, end_stays, read_documents, has_are, was_noted, HasOneOrNone, one_or_none}
 use Rattle.yaml_loader.proofs.AnyText.{new_fault_wants, not_refused}
-use Rattle.yaml_tree.proofs.ItemsLemmas.{items_view_push}
 
 -- ---- what came
 
@@ -20,11 +15,11 @@ use Rattle.yaml_tree.proofs.ItemsLemmas.{items_view_push}
 abbrev pub all_of : {old now : Parsed} → Ended old now → List (Ev × Position)
 all_of c = c.events ++ (c.last, c.position) ∷ []
 
-plain_after : {old now : Parsed} → IsPlain old → Ended old now → IsPlain now
-plain_after h c = record { keep_tags = c.settings.keep_tags ∙ h.keep_tags; steady = c.settings.steady ∙ h.steady }
+plain_after : {old now : Parsed} → IsPlain old → KeepsSettings old now → IsPlain now
+plain_after h s = record { keep_tags = s.keep_tags ∙ h.keep_tags; steady = s.steady ∙ h.steady }
 
 pub is_read : {old now : Parsed} → IsPlain old → Ended old now → IsRead now
-is_read h c = record { plain = plain_after h c; ahead = c.ahead; sound = c.sound }
+is_read h c = record { plain = plain_after h c.settings; ahead = c.ahead; sound = c.sound }
 
 pub read_is : {p : Parsed} → IsRead p → read p ≡ p.given
 read_is {p} h = read_given p.given p.ended p.ahead h.ahead
@@ -38,7 +33,7 @@ parts es fs = map-append (λ (v : Ev × Position). v.0) es fs
 -- a stream begins with the events that were read
 stream_begins : {old now : Parsed} → IsPlain old → (c : Ended old now) → (before : List Token) × BeginsPlaced now.keep_tags before (old.given ++ all_of c)
 stream_begins {old} {now} h c =
-    let f = c.sound.follows (plain_after h c).steady in
+    let f = c.sound.follows (plain_after h c.settings).steady in
     (f.before, subst (BeginsPlaced now.keep_tags f.before) (given_is c) f.begins)
 
 -- the highest number of an anchor so far
@@ -91,7 +86,7 @@ module _ {old now : Parsed} (b : IsBetween old) (c : Ended old now) where
   -- With the stream's end nothing was read.
   nothing_read : c.last ≡ Ev.stream_end → with_events new_loader (all_of c) ≡ new_loader
   nothing_read e =
-      with_last new_loader c.events c.last c.position ∙ ap (λ v. with_event_at (with_events new_loader c.events) v c.position) e
+      events_append new_loader c.events ((c.last, c.position) ∷ []) ∙ ap (λ v. with_event_at (with_events new_loader c.events) v c.position) e
       ∙ end_stays (with_events new_loader c.events) c.position
       ∙ nothing_began c.events c.position closes_so.0 c.no_end
       (subst (λ v. ClosesStream (events_of (c.events ++ (v, c.position) ∷ []) ++ closes_so.0)) e closes_so.1)
@@ -111,8 +106,8 @@ ends_document : {old now : Parsed} (c : Ended old now) → c.last ≡ Ev.documen
 ends_document {old} c e = record { before = old.given ++ c.events; position = c.position; given = given_with c e }
 
 after_document : {old now : Parsed} (c : Ended old now) → c.last ≡ Ev.document_end → HasOneOrNone (with_events new_loader (all_of c))
-after_document c e =
-    subst (λ v. HasOneOrNone (with_events new_loader (c.events ++ (v, c.position) ∷ []))) (sym e) (one_or_none c.events c.position c.no_end)
+after_document c e = rw (events_append new_loader c.events ((c.last, c.position) ∷ []), e)
+    (end_reads (with_events new_loader c.events) c.position (no_more_documents new_loader c.events c.no_end))
 
 -- ---- a document that was read
 
@@ -145,7 +140,7 @@ module _ {old now : Parsed} {r s : YamlLoader} (b : IsBetween old) (new : loader
           record {
             between = record {
               going = record { fault = c.sound.fault; ended = t.ended ∙ ap is_stream_end e };
-              plain = plain_after b.plain c;
+              plain = plain_after b.plain c.settings;
               read = subst (λ xs. HasRead (Ok xs) (with_events new_loader now.given)) (sym are) read;
               last = inr (ends_document c e);
             };
@@ -179,7 +174,7 @@ module _ {old now : Parsed} {r s : YamlLoader} (b : IsBetween old) (new : loader
   pub read_so : (xs ys : List Yaml) (o : Option Yaml) → TakesAll Takes old r now s → HasDocuments (loader_of s) (items_view xs) → xs ≡ ys ++ option_to_list o → (0 < length xs → IsSome o) → Reads old (Ok o) now
   read_so xs ys o t has e some =
       let all = all_of t.came in
-      let mine : HasDocuments (with_events new_loader all) (items_view xs) = has_documents (with_events new_loader all) (loader_of s) (items_view xs) (stands r new clear t.received).alike has in
+      let mine : HasDocuments (with_events new_loader all) (items_view xs) = beside_has (items_view xs) (stands r new clear t.received).beside has in
       elim (end_cases t.came.last t.is_end) [
         | inl h ↦
             let one = reads_one t h (items_view xs) mine in
@@ -195,11 +190,11 @@ module _ {old now : Parsed} {r s : YamlLoader} (b : IsBetween old) (new : loader
 module _ {old now : Parsed} {r s : YamlLoader} (b : IsBetween old) (new : loader_of r ≡ new_loader) (clear : kept_fault r ≡ None) where
   -- Where the loader has noted a key, the documents are those before.
   pub stops_by_key : (f : ErrorReport) → TakesAll Takes old r now s → IsGivenFault s f → Stops old f now
-  stops_by_key f t (given.kept is) = let both = sym (stands r new clear t.received).clear ∙ is in cc
-  stops_by_key f t (given.repeated_key key has tells owned) =
+  stops_by_key f t (IsGivenFault.kept is) = let both = sym (stands r new clear t.received).clear ∙ is in cc
+  stops_by_key f t (IsGivenFault.repeated_key key has tells owned) =
       let c = t.came in
       let after = stands r new clear t.received in
-      let mine = has_noted (with_events new_loader (all_of c)) (loader_of s) key f.position after.alike has in
+      let mine = beside_noted key f.position after.beside has in
       elim (end_cases c.last t.is_end) [
         | inl h ↦
             let none : documents_of (with_events new_loader (all_of c)) ≡ [] = elim (after_document c h) [
@@ -217,7 +212,7 @@ module _ {old now : Parsed} {r s : YamlLoader} (b : IsBetween old) (new : loader
   refused_by_memory f q =
       let c = q.came in
       let begins = stream_begins b.plain c in
-      let last : with_events new_loader (all_of c) ≡ with_event_at (with_events new_loader c.events) c.last c.position = with_last new_loader c.events c.last c.position in
+      let last : with_events new_loader (all_of c) ≡ with_event_at (with_events new_loader c.events) c.last c.position = events_append new_loader c.events ((c.last, c.position) ∷ []) in
       let same : refused_at (with_events new_loader (old.given ++ all_of c)) ≡ refused_at (with_events new_loader (all_of c)) =
       ap (λ es. refused_at (with_events new_loader es)) (sym c.given) ∙ beside_refused (beside b c) in
       new_fault_wants (with_event_at (with_events new_loader c.events) c.last c.position) (new_fault r new clear c.last c.position q.received q.refuses)
@@ -231,13 +226,9 @@ none_more old es now none are =
 -- a fault of the parser
 pub stops_by_parser : {old now : Parsed} (f : ErrorReport) → IsBetween old → Faults old f now → Stops old f now
 stops_by_parser {old} {now} f b h =
-    by_parser h.why (record { keep_tags = h.settings.keep_tags ∙ b.plain.keep_tags; steady = h.settings.steady ∙ b.plain.steady }) (none_more old h.events now h.no_end h.given)
+    by_parser h.why (plain_after b.plain h.settings) (none_more old h.events now h.no_end h.given)
 
 -- a halt on the way
 pub stops_so : {old now : Parsed} (r s : YamlLoader) → IsBetween old → loader_of r ≡ new_loader → kept_fault r ≡ None → (h : Halt) → TakesDocument Takes old r (Err h) now s → Stops old (fault_in h) now
 stops_so r s b new clear (halt.Parser f) takes = stops_by_parser f b takes
 stops_so r s b new clear (halt.Receiver f) takes = by_memory (refused_by_memory b new clear f takes)
-
-pub reads_err : {old now : Parsed} (x : Result (Option Yaml) ErrorReport) (f : ErrorReport) → IsErrAnd x (λ e. e ≡ f) → Stops old f now → Reads old x now
-reads_err (Ok u) f h y = absurd h
-reads_err {old} {now} (Err e) f h y = subst (λ z. Stops old z now) (sym h) y

@@ -1,8 +1,6 @@
 -- The events of one document, one by one.
-use Rattle.yaml_loader.proofs.Common.{[], ap, append-nil, append_assoc, arith, Ended, Err, ErrorReport, Ev, false, Faults, HasNoEnd, is_end, is_stream_end, IsGoing, List, Ok, Parsed, Position, refl, Refuses, Result, sym, TakesAll, true, if◌then◌else◌, ◌++◌, ◌||◌, ◌∙◌, ◌∷◌, ◌≡◌, ◌≢◌}
+use Rattle.yaml_loader.proofs.Common.{[], ap, append-nil, append_assoc, arith, Ended, Err, ErrorReport, Ev, false, Faults, GivesEvent, GivesFault, HasNoEnd, if◌then◌else◌, is_end, is_stream_end, IsGoing, KeepsSettings, List, no_event, Ok, one_event, Parsed, Position, refl, Refuses, Result, sym, TakesAll, true, ◌++◌, ◌||◌, ◌∙◌, ◌∷◌, ◌≡◌, ◌≢◌}
 use Rattle.yaml_loader.specs.OneDocument.{Goes}
-use Rattle.yaml_parser.specs.Loads.{no_event, one_event}
-use Rattle.yaml_parser.specs.Pulls.{GivesEvent, GivesFault, KeepsSettings}
 
 pub is_not_end : (e : Ev) → is_end e ≡ false → e ≢ Ev.stream_end
 is_not_end e h k = let no : true ≡ false = sym (ap is_end k) ∙ h in cc
@@ -29,47 +27,45 @@ begins takes p l h = record {
 kept : {a b c : Parsed} → KeepsSettings a b → KeepsSettings b c → KeepsSettings a c
 kept x y = record { keep_tags = y.keep_tags ∙ x.keep_tags; steady = y.steady ∙ x.steady }
 
-given_more : {now new : Parsed} {e : Ev × Position} → IsGoing now → GivesEvent now e new → new.given ≡ now.given ++ e ∷ []
-given_more {now} {new} {e} h g = g.given ∙ ap (λ b. now.given ++ (if b then [] else e ∷ [])) h.ended
-
 ended_by : {now new : Parsed} {e : Ev × Position} → IsGoing now → GivesEvent now e new → new.ended ≡ is_stream_end e.0
 ended_by {now} {new} {e} h g = g.ended ∙ ap (λ b. b || is_stream_end e.0) h.ended
 
 module _ {R : Type 0} {takes : R → Ev → Position → Result (Unit {0}) ErrorReport → R → Type 0} {old now new : Parsed} {r s : R} where
-  more_given : (e : Ev) (p : Position) → (g : Goes takes old r now s) → GivesEvent now (e, p) new → new.given ≡ old.given ++ (g.events ++ (e, p) ∷ [])
-  more_given e p g gives = given_more g.going gives ∙ ap (λ es. es ++ (e, p) ∷ []) g.given ∙ append_assoc old.given g.events ((e, p) ∷ [])
+  more_given : {e : Ev} {p : Position} → (g : Goes takes old r now s) → GivesEvent now (e, p) new → new.given ≡ old.given ++ (g.events ++ (e, p) ∷ [])
+  more_given {e} {p} g gives =
+      gives.given ∙ ap (λ b. now.given ++ (if b then [] else (e, p) ∷ [])) g.going.ended ∙ ap (λ es. es ++ (e, p) ∷ []) g.given ∙ append_assoc old.given g.events ((e, p) ∷ [])
 
   -- An event is given that is no end, and the receiver takes it.
-  pub goes_on : {t : R} (e : Ev) (p : Position) → Goes takes old r now s → GivesEvent now (e, p) new → is_end e ≡ false → takes s e p (Ok tt) t → Goes takes old r new t
-  goes_on e p g gives other took =
+  pub goes_on : {t : R} {e : Ev} {p : Position} → Goes takes old r now s → GivesEvent now (e, p) new → is_end e ≡ false → takes s e p (Ok tt) t → Goes takes old r new t
+  goes_on {e = e} {p} g gives other took =
       let less = gives.left (is_not_end e other) in
       let before = g.left in
       record {
         events = g.events ++ (e, p) ∷ [];
         no_end = no_end_more g.events e p g.no_end other;
-        given = more_given e p g gives;
+        given = more_given g gives;
         going = record { fault = gives.sound.fault; ended = ended_by g.going gives ∙ no_stream_end e other };
         settings = kept g.settings gives.settings;
         received = one_event e p g.received took;
         left = omega (arith, less, before);
       }
 
-  pub came : (e : Ev) (p : Position) → Goes takes old r now s → GivesEvent now (e, p) new → Ended old new
-  came e p g gives = record {
+  pub came : {e : Ev} {p : Position} → Goes takes old r now s → GivesEvent now (e, p) new → Ended old new
+  came {e} {p} g gives = record {
     events = g.events;
     last = e;
     position = p;
     no_end = g.no_end;
-    given = more_given e p g gives;
+    given = more_given g gives;
     ahead = gives.ahead;
     settings = kept g.settings gives.settings;
     sound = gives.sound;
   }
 
-  pub takes_all : {t : R} (e : Ev) (p : Position) → Goes takes old r now s → GivesEvent now (e, p) new → is_end e ≡ true → takes s e p (Ok tt) t → TakesAll takes old r new t
+  pub takes_all : {t : R} {e : Ev} {p : Position} → Goes takes old r now s → GivesEvent now (e, p) new → is_end e ≡ true → takes s e p (Ok tt) t → TakesAll takes old r new t
   unfolding came
-  takes_all e p g gives end took = record {
-    came = came e p g gives;
+  takes_all {e = e} {p} g gives end took = record {
+    came = came g gives;
     is_end = end;
     ended = ended_by g.going gives;
     received = one_event e p g.received took;
@@ -87,6 +83,6 @@ module _ {R : Type 0} {takes : R → Ev → Position → Result (Unit {0}) Error
   }
 
   -- The receiver refuses an event.
-  pub refuses : {t : R} (e : Ev) (p : Position) (f : ErrorReport) → Goes takes old r now s → GivesEvent now (e, p) new → takes s e p (Err f) t → Refuses takes old r f new t
+  pub refuses : {t : R} {e : Ev} {p : Position} {f : ErrorReport} → Goes takes old r now s → GivesEvent now (e, p) new → takes s e p (Err f) t → Refuses takes old r f new t
   unfolding came
-  refuses e p f g gives took = record { came = came e p g gives; before = s; received = g.received; refuses = took }
+  refuses g gives took = record { came = came g gives; before = s; received = g.received; refuses = took }

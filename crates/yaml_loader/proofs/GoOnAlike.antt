@@ -1,6 +1,5 @@
 -- Loaders that stand alike stand alike after each event.
 use Rattle.yaml_loader.proofs.Common.{[], ap, at_work, documents_of, Ev, List, Loader, loader_of, new_loader, no_event, noted, Ok, one_event, Position, Receives, refl, refused_at, StandAlike, subst, sym, Takes, with_event_at, with_events, YamlLoader, ◌++◌, ◌∙◌, ◌∷◌, ◌≡◌}
-use Rattle.defs_event.specs.Unfinished.{refused}
 use Rattle.yaml_loader.specs.Reached.{Reaches, here, after}
 use Rattle.yaml_loader.proofs.Beside.{beside_documents, beside_refused, event_at_beside, may_finish_same, noting, refusing, Same, StandBeside, suits_same, working}
 
@@ -11,13 +10,13 @@ alike_beside {l = at_work u} {m = at_work v} h = working (record {
   opened = may_finish_same v.opened;
 })
 alike_beside {l = noted documents key at} h = subst (StandBeside Same [] (noted documents key at)) h (noting refl)
-alike_beside {l = refused documents at} h = subst (StandBeside Same [] (refused documents at)) h (refusing refl)
+alike_beside {l = Loader.refused documents at} h = subst (StandBeside Same [] (Loader.refused documents at)) h (refusing refl)
 alike_beside {l = at_work u} h = absurd h
 
 beside_alike : {l m : Loader} → StandBeside Same [] l m → StandAlike l m
 beside_alike (working h) = record { documents = ap (λ u. u.documents) h.is; opened = ap (λ u. u.opened) h.is; root = ap (λ u. u.root) h.is; aliases = h.anchors }
 beside_alike (noting {key = key} {p = p} e) = ap (λ ds. noted ds key p) e
-beside_alike (refusing {p = p} e) = ap (λ ds. refused ds p) e
+beside_alike (refusing {p = p} e) = ap (λ ds. Loader.refused ds p) e
 
 pub event_at_alike : (l m : Loader) (e : Ev) (p : Position) → StandAlike l m → StandAlike (with_event_at l e p) (with_event_at m e p)
 event_at_alike l m e p h = beside_alike (event_at_beside e p (suits_same e) (alike_beside h))
@@ -31,7 +30,7 @@ alike_trans (at_work w) (working h) k = record {
 }
 alike_trans n (working h) k = absurd k
 alike_trans n (noting {key = key} {p = p} e) k = ap (λ ds. noted ds key p) e ∙ k
-alike_trans n (refusing {p = p} e) k = ap (λ ds. refused ds p) e ∙ k
+alike_trans n (refusing {p = p} e) k = ap (λ ds. Loader.refused ds p) e ∙ k
 
 -- a loader that is reached stands as the definitions say
 reached : {l n : YamlLoader} {es : List (Ev × Position)} (x : Loader) → StandAlike x (loader_of l) → Reaches l es n → StandAlike (with_events x es) (loader_of n)

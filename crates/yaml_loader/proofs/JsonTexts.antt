@@ -1,8 +1,6 @@
 -- What a load answers of a JSON text that was read at once.
 use Rattle.std.proofs.lemmas.List.Elements.{All-nil, All-cons}
 use Rattle.yaml_loader.proofs.Common.{[], All, ap, Bool, element, Elements, Err, ErrorReport, false, fits_i64, Global, HasNoAlias, IfErr, IfOk, if◌then◌else◌, IsJsonText, items, items_view, Json, json_texts_are_read, json_texts_have_no_nul, last_element, last_member, List, LoadsText, Means, member, Members, NoneHasAlias, NoPairHasAlias, number, object, of_parser, Ok, pair_list, pairs_of, Result, subst, sym, Tree, tree_of, true, up_to_nul, Vec, wants_memory, WantsMemory, Yaml, ℕ, ◌∙◌, ◌∷◌, ◌≡◌}
-use Rattle.defs_layout.specs.Json.{array}
-use Rattle.defs_layout.specs.JsonNumber as json
 use Rattle.defs_layout.specs.JsonNumber.{Number, no_fraction, no_exponent, number_tree, integer_value}
 
 -- ---- no alias stands in its tree
@@ -13,13 +11,13 @@ either P true t u h r = h
 either P false t u h r = r
 
 number_no_alias : (n : Number) → HasNoAlias (number_tree n)
-number_no_alias (json.number b w no_fraction no_exponent) = either HasNoAlias (fits_i64 (integer_value b w)) _ _ tt tt
-number_no_alias (json.number b w f e) = tt
+number_no_alias (Number.number b w no_fraction no_exponent) = either HasNoAlias (fits_i64 (integer_value b w)) _ _ tt tt
+number_no_alias (Number.number b w f e) = tt
 
 mutual
   value_no_alias : (v : Json) → HasNoAlias (tree_of v)
   value_no_alias (number n) = number_no_alias n
-  value_no_alias (array g es) = elements_no_alias es
+  value_no_alias (Json.array g es) = elements_no_alias es
   value_no_alias (object g ms) = members_no_alias ms
   value_no_alias v = tt
 

@@ -16,10 +16,6 @@ repeated_at os last o is some at =
 
 -- ---- rows: how keys are shown
 
-plain_key : shown_key (string (codes "a")) ≡ Some (codes "String(\"a\")")
-unfolding debug_escape lib.Utf8.encode
-plain_key = refl
-
 escaped_key : shown_key (string (codes "a\"\\\n")) ≡ Some (codes "String(\"a\\\"\\\\\\n\")")
 unfolding debug_escape lib.Utf8.encode
 escaped_key = refl

@@ -1,34 +1,24 @@
 pub mod Agreement
 pub mod AliasLemmas
-pub mod Anchors
 pub mod AnyText
 pub mod Beside
-pub mod Between
 mod Common
 pub mod CountLemmas
-pub mod DocumentCalls
 pub mod DocumentReading
 pub mod DocumentSteps
 pub mod DocumentTexts
-pub mod Finishing
 pub mod GoOnAlike
-pub mod HandLemmas
-pub mod InMemory
 pub mod JsonTexts
 pub mod KeyText
 pub mod LimitedCalls
 mod LimitedCommon
 pub mod LimitedLemmas
-pub mod LimitedReading
 pub mod LoadLemmas
 pub mod MarkedSteps
 pub mod MarkedTexts
 pub mod Numbers
-pub mod Open
 pub mod OpenedLemmas
-pub mod Parts
 pub mod Seen
 pub mod Tags
 pub mod TextLemmas
 pub mod Trees
-pub mod Words

@@ -1,12 +1,10 @@
 -- What a load with positions answers of a text.
-use Rattle.yaml_loader.proofs.Common.{[], all_shown, AllFit, AllHaveMarks, AnswersText, AreMarksOf, at_work, BeginsEvents, Bool, Err, ErrorReport, Ev, false, faulted, Gives, Global, HasDocuments, HasStanding, inl, inr, IsFaultOf, items_view, List, Loader, loader_of, LoadsText, marked_documents, MarkedLoader, new_loader, no_event, nothing_marked, Ok, one_event, Position, Receives, refl, refused, Result, subst, sym, Takes, Tree, Unfinished, Vec, wants_memory, WantsMemory, whole, with_event_marked, with_events, with_events_marked, Yaml, ℕ, ◌++◌, ◌∷◌, ◌≡◌}
+use Rattle.yaml_loader.proofs.Common.{[], all_shown, AllFit, AllHaveMarks, AnswersText, AreMarksOf, at_work, BeginsEvents, Bool, Err, ErrorReport, Ev, EventsAreReadAsDefined, false, faulted, Gives, Global, HasDocuments, HasStanding, HasTaken, inl, inr, IsEmpty, IsFaultOf, items_view, List, Loader, loader_of, LoadsText, marked_documents, MarkedLoader, new_loader, no_event, nothing_marked, Ok, one_event, Position, Receives, refl, refused, RefusedTextsWantMemory, Result, subst, sym, TakenTextsAreLoaded, Takes, TakesMarked, Tree, Unfinished, Vec, wants_memory, WantsMemory, whole, with_event_marked, with_events, with_events_marked, Yaml, ℕ, ◌++◌, ◌∷◌, ◌≡◌}
 use Rattle.defs_event.specs.Marking as defs
-use Rattle.yaml_loader.specs.Laws.{EventsAreReadAsDefined, RefusedTextsWantMemory, TakenTextsAreLoaded}
 use Rattle.defs_event.specs.MarkLaws.{MarksFitTheirTrees}
-use Rattle.yaml_loader.specs.Receiving.{TakesMarked, IsEmpty, HasTaken}
 use Rattle.yaml_loader.proofs.AnyText.{wants}
-use Rattle.yaml_loader.proofs.GoOnAlike.{reaches}
-use Rattle.yaml_loader.proofs.LoadLemmas.{has_documents}
+use Rattle.yaml_loader.proofs.Beside.{beside_has}
+use Rattle.yaml_loader.proofs.GoOnAlike.{alike_beside, reaches}
 use Rattle.yaml_loader.proofs.Seen.{all_seen}
 
 -- the loader inside takes the same events
@@ -57,7 +55,8 @@ pub gives_marks : {text : List ℕ} {s : MarkedLoader} (documents : Vec Yaml Glo
 gives_marks {text} {s} documents law fit left gives =
     let es = left.events in
     let alike = law left.before.loader s.loader es left.is_empty.loader (reaches (inside left.took)) in
-    let w = at_work_with (with_events new_loader es) (items_view documents.items) (has_documents (with_events new_loader es) (loader_of s.loader) (items_view documents.items) alike gives) in
+    let has = beside_has (items_view documents.items) (alike_beside {l = with_events new_loader es} {m = loader_of s.loader} alike) gives in
+    let w = at_work_with (with_events new_loader es) (items_view documents.items) has in
     let fits : AllFit (items_view documents.items) (marked_documents es) = subst (λ ts. AllFit ts (marked_documents es)) w.1.1 (fit es w.0 w.1.0) in
     let stands = marked nothing_marked left.took left.is_empty.marks in
     let seen = all_seen s.marking.table.items (items_view documents.items) s.marking.documents.items (marked_documents es) stands.of_documents fits in

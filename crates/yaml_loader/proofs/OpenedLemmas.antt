@@ -1,5 +1,5 @@
 -- The open collections as a list, the innermost first.
-use Rattle.yaml_loader.proofs.Common.{[], all_opened, ap, arith, Err, false, IfErr, Inserts, is_some, IsNoInsert, IsRefusedBy, last_of, length, List, None, Ok, OnOk, Open, Opened, opened_of, Option, option_map, out_of_nesting, reads, refl, Refusal, repeated_key, repeats, Result, slice_index_or, slice_set, Some, suc, sym, Tree, true≢false, Unfinished, view, with_document_end, with_start, with_tree, Yaml, zero, ℕ, ◌++◌, ◌-◌, ◌<◌, ◌∙◌, ◌∷◌, ◌≡◌}
+use Rattle.yaml_loader.proofs.Common.{[], all_opened, ap, arith, Err, false, IfErr, Inserts, is_some, IsNoInsert, IsRefusedBy, last_of, length, List, None, Ok, OnOk, Open, Opened, opened_of, Option, option_map, reads, refl, Refusal, repeated_key, repeats, Result, slice_index_or, slice_set, Some, suc, sym, Tree, true≢false, Unfinished, view, with_start, with_tree, Yaml, zero, ℕ, ◌++◌, ◌-◌, ◌<◌, ◌∙◌, ◌∷◌, ◌≡◌}
 use Rattle.yaml_loader.specs.declared.reading.Refusal.TheVariants as refusal
 
 -- one put at the end is the innermost
@@ -46,15 +46,9 @@ start_reads c u [] None h = refl
 start_reads c u [] (Some r) h = let e : Some r ≡ None = h refl in cc
 start_reads c u (o ∷ os) root h = refl
 
-some_open : (os : List Open) → 0 < length os → (o : Opened) × (outer : List Opened) × (all_opened os [] ≡ o ∷ outer)
+pub some_open : (os : List Open) → 0 < length os → (o : Opened) × (outer : List Opened) × (all_opened os [] ≡ o ∷ outer)
 some_open [] h = absurd (omega arith)
 some_open (o ∷ os) h = let i = innermost (o ∷ os) (length os) [] refl in (opened_of (slice_index_or (o ∷ os) (length os) o), i.around, i.before o)
-
-pub document_end_refused : (u : Unfinished) (os : List Open) → 0 < length os → with_document_end u (all_opened os []) ≡ out_of_nesting
-document_end_refused u os h = ap (with_document_end u) (some_open os h).2
-
-pub some_opened : (os : List Open) → 0 < length os → all_opened os [] ≡ [] → ⊥
-some_opened os h e = let f = (some_open os h).2 in cc
 
 -- the end of a collection: what stood before it, and what the innermost was
 pub popped_as : (os rest : List Open) (o : Open) (x : Opened) → os ≡ rest ++ o ∷ [] → opened_of o ≡ x → all_opened os [] ≡ x ∷ all_opened rest []

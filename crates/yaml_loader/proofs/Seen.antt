@@ -1,9 +1,7 @@
 -- Marks that stand for those of a tree are seen so along the tree.
-use Rattle.yaml_loader.proofs.Common.{[], all_shown, AllFit, AllHaveMarks, AllStand, ap, arith, array, beside, bytes_eq, bytes_eq-Decides, chars, encode_utf8_all, encodes-chars, Fits, get_or, hash, HasMarks, IsUtf8, IsUtf8-string_bytes, item, item_marks, Items, items_of, items_view, ItemsFit, ItemsHaveMarks, length, List, list_of_parts, Mark, marked_items, marked_pairs, Marks, marks, no_items, no_pairs, no_parts, node_at_place, None, Option, option_and_then, option_map, pair, Pairs, pairs_beside, pairs_marks, pairs_of, pairs_shown, PairsFit, PairsHaveMarks, part, Parts, parts_at, PartsStand, refl, same_from_decides, shown_marks, slice_get, Some, Stands, String, string, string_bytes, subst, suc, sym, Tree, tree_eq, view, Yaml, zero, ℕ, ◌+◌, ◌<◌, ◌∙◌, ◌∷◌, ◌≡◌, ◌≤◌}
-use Rattle.defs_text.specs.Text.{string_chars}
+use Rattle.yaml_loader.proofs.Common.{[], all_shown, AllFit, AllHaveMarks, AllStand, ap, arith, array, beside, bytes_eq, bytes_eq-Decides, chars, encode_utf8_all, encodes-chars, Fits, get_items_view, get_or, hash, HasMarks, IsUtf8, IsUtf8-string_bytes, item, item_marks, Items, items_of, items_view, ItemsFit, ItemsHaveMarks, length, List, list_of_items, list_of_parts, Mark, marked_items, marked_pairs, Marks, marks, no_items, no_pairs, no_parts, node_at_place, None, Option, option_and_then, option_map, pair, pair_list_of_pairs, Pairs, pairs_beside, pairs_marks, pairs_of, pairs_shown, PairsFit, PairsHaveMarks, part, Parts, parts_at, PartsStand, refl, same_from_decides, shown_marks, slice_get, Some, Stands, String, string, string_bytes, string_chars, subst, suc, sym, Tree, tree_eq, view, Yaml, zero, ℕ, ◌<◌, ◌∙◌, ◌∷◌, ◌≡◌, ◌≤◌}
 use Rattle.defs_tree.proofs.OrderLaws.{tree_eq_decides}
 use Rattle.std.proofs.lemmas.Option.{slice_get_past, slice_get_read}
-use Rattle.yaml_tree.proofs.ItemsLemmas.{get_items_view, list_of_items, pair_list_of_pairs}
 
 module _ (table : List Mark) where
   mutual
@@ -73,19 +71,16 @@ module _ (table : List Mark) where
 
   node_at : (ts : List Tree) (ms : List Mark) (i : ℕ) → slice_get (beside ts (all_shown table ts ms)) i ≡ node_with (slice_get ts i) (slice_get ms i)
   node_at [] ms i = refl
-  node_at (t ∷ ts) [] zero = refl
-  node_at (t ∷ ts) [] (suc i) = sym (no_mark_there (slice_get ts i))
+  node_at (t ∷ ts) [] i = sym (no_mark_there (slice_get (t ∷ ts) i))
   node_at (t ∷ ts) (m ∷ ms) zero = refl
   node_at (t ∷ ts) (m ∷ ms) (suc i) = node_at ts ms i
 
   -- a root's marks, without the root
   root_at : (ts : List Tree) (ms : List Mark) (i : ℕ) → slice_get (all_shown table ts ms) i ≡ option_map (λ n. n.1) (node_with (slice_get ts i) (slice_get ms i))
-  root_at ts ms i = by ts ms i ∙ ap (option_map (λ n. n.1)) (node_at ts ms i)
-    where
-      by : (ts : List Tree) (ms : List Mark) (i : ℕ) → slice_get (all_shown table ts ms) i ≡ option_map (λ n. n.1) (slice_get (beside ts (all_shown table ts ms)) i)
-      by (t ∷ ts) (m ∷ ms) zero = refl
-      by (t ∷ ts) (m ∷ ms) (suc i) = by ts ms i
-      by ts ms i = refl
+  root_at [] ms i = refl
+  root_at (t ∷ ts) [] i = ap (option_map (λ n. n.1)) (sym (no_mark_there (slice_get (t ∷ ts) i)))
+  root_at (t ∷ ts) (m ∷ ms) zero = refl
+  root_at (t ∷ ts) (m ∷ ms) (suc i) = root_at ts ms i
 
   -- Where there is a tree, there is its mark.
   mark_at : (ts : List Tree) (ms : List Mark) (i : ℕ) (t : Tree) → slice_get ts i ≡ Some t → AllHaveMarks table ts ms → (m : Mark) × (slice_get ms i ≡ Some m) × HasMarks table t m
@@ -107,9 +102,6 @@ module _ (table : List Mark) (m : Mark) where
   pub pairs_are : (t : Tree) (ps : List (Tree × Tree)) → t ≡ hash (pairs_of ps) → Some (pairs_beside ps (pairs_shown table ps (parts_at table m))) ≡ marked_pairs t (shown_marks table t m)
   pairs_are t ps e = subst (λ u. Some (pairs_beside ps (pairs_shown table ps (parts_at table m))) ≡ marked_pairs u (shown_marks table u m)) (sym e)
       (λ i. Some (pairs_beside (sym (pair_list_of_pairs ps) i) (sym (pairs_are_shown table ps (parts_at table m)) i)))
-
-  pub items_have : (t : Tree) (ts : List Tree) → t ≡ array (items_of ts) → HasMarks table t m → (m.first + m.count ≤ length table) × ItemsHaveMarks table (items_of ts) (parts_at table m)
-  items_have t ts e h = subst (λ u. HasMarks table u m) e h
 
 -- nothing is left where no mark is
 pub no_items_left : (table : List Mark) (ts : List Tree) (ms : List Mark) → length ms ≡ 0 → beside ts (all_shown table ts ms) ≡ []
@@ -168,7 +160,7 @@ module _ (table : List Mark) (m : Mark) (i : ℕ) (t : Tree) (ts : List Tree) (i
       → HasMarks table u n × (Some (u, shown_marks table u n) ≡ node_at_place i t (shown_marks table t m))
   node_found u n ms parts tree h e has =
       let mark = ap (λ l. slice_get l i) (sym parts) ∙ slice_get_read ms (length ms) i n refl h e in
-      let all = all_have table ts (parts_at table m) (items_have table m t ts is has).1 in
+      let all = all_have table ts (parts_at table m) (subst (λ u. HasMarks table u m) is has).1 in
       (has_mark table ts (parts_at table m) i u n (sym tree) mark all, sym (node_there ∙ (λ j. node_with table (sym tree j) (mark j))))
 
 -- ---- texts

@@ -1,52 +1,109 @@
 -- Plain scalars with a tag: what the bytes of text, handle and suffix say.
-use Rattle.yaml_loader.proofs.Common.{[], and_parts, ap, arith, as_boolean, as_integer, as_null, as_real, bad_value, Bool, boolean, by_name, bytes_eq, bytes_eq-Decides, chars, codes, core_prefix, false, false_words, false≢true, inl, inr, is_among, is_decimal, is_real_text, IsUtf8, IsUtf8-string_bytes, List, list_all, nat_lt, nat_tests, not, null, or_cases, refl, special_words, string, string_bytes, string_chars, sym, tagged_tree, true, true_words, typing, ℕ, if◌then◌else◌, ◌||◌, ◌∙◌, ◌∷◌, ◌≡◌, ◌⊎◌}
+use Rattle.yaml_loader.proofs.Common.{[], and_from, and_parts, ap, arith, as_boolean, as_null, bad_value, Bool, by_name, bytes_eq, bytes_eq-Decides, chars, chars-encodes, codes, core_prefix, encode_ascii, encodes-chars, false, false_from_ne_true, false_words, false≢true, if◌then◌else◌, inl, inr, is_among, is_decimal, is_real_text, IsUtf8, IsUtf8-string_bytes, List, list_all, nat_lt, nat_tests, not, null, or_cases, real_text-cases, refl, same_from_decides, special_words, string, string_bytes, string_chars, sym, tag_of, tagged_tree, true, true_words, typing, ℕ, ◌++◌, ◌<◌, ◌||◌, ◌∙◌, ◌∷◌, ◌≡◌, ◌⊎◌}
 use Rattle.defs_tree.proofs.RealTexts.{is_real_character, decimal-characters}
 use Rattle.defs_tree.proofs.GrammarLaws.{list_all-more}
-use Rattle.defs_tree.proofs.TypingLaws.{real_text-cases}
-use Rattle.yaml_parser.specs.Shown.{tag_of}
 use Rattle.yaml_parser.specs.declared.event.Tag.{Tag as Code}
-use Rattle.yaml_loader.proofs.Words.{IsNoneOf, ascii_word, ascii_words, among_chars, not_among, chars_word, word_other, IsWord, chars_of_word, bytes_of_word}
+use Rattle.std.specs.Bool.{Decides}
+use lib.Utf8.{scalar, scalars, encodes}
+
+-- ---- texts as bytes and as characters, against words that are both
+
+-- a word whose bytes are its characters
+pub record IsWord (w : List ℕ) : Type 0 where
+  pub are_scalars : scalars w ≡ true
+  pub are_bytes : encodes w ≡ w
+
+abbrev pub is_ascii : List ℕ → Bool
+is_ascii t = list_all (λ c. nat_lt c 128) t
+
+ascii_scalar : (c : ℕ) → nat_lt c 128 ≡ true → scalar c ≡ true
+ascii_scalar c h = grind (arith, nat_tests)
+
+ascii_small : (c : ℕ) → nat_lt c 128 ≡ true → c < 128
+ascii_small c h = grind (arith, nat_tests)
+
+pub ascii_word : (w : List ℕ) → is_ascii w ≡ true → IsWord w
+ascii_word [] h = record { are_scalars = refl; are_bytes = refl }
+ascii_word (c ∷ cs) h =
+    let p = and_parts (nat_lt c 128) (is_ascii cs) h in
+    let rest = ascii_word cs p.1 in
+    record {
+      are_scalars = and_from (scalar c) (scalars cs) (ascii_scalar c p.0) rest.are_scalars;
+      are_bytes = λ i. encode_ascii c (ascii_small c p.0) i ++ rest.are_bytes i;
+    }
+
+pub chars_of_word : (w bs : List ℕ) → IsWord w → bs ≡ w → chars bs ≡ w
+chars_of_word w bs word e = ap chars (e ∙ sym word.are_bytes) ∙ chars-encodes w word.are_scalars
+
+pub bytes_of_word : (w bs : List ℕ) → IsWord w → IsUtf8 bs → chars bs ≡ w → bs ≡ w
+bytes_of_word w bs word text e = sym (encodes-chars bs text) ∙ ap encodes e ∙ word.are_bytes
+
+pub word_chars : (w bs : List ℕ) → IsWord w → IsUtf8 bs → bytes_eq w (chars bs) ≡ bytes_eq w bs
+word_chars w bs word text = same_from_decides {P = w ≡ bs} (bytes_eq w (chars bs)) (bytes_eq w bs) both (bytes_eq-Decides w bs)
+  where
+    both : Decides (bytes_eq w (chars bs)) (w ≡ bs)
+    both = let d = bytes_eq-Decides w (chars bs) in (λ e. sym (bytes_of_word w bs word text (sym (d.0 e))), λ e. d.1 (sym (chars_of_word w bs word (sym e))))
+
+pub chars_word : (w bs : List ℕ) → IsWord w → IsUtf8 bs → bytes_eq (chars bs) w ≡ bytes_eq bs w
+chars_word w bs word text = same_from_decides {P = bs ≡ w} (bytes_eq (chars bs) w) (bytes_eq bs w) both (bytes_eq-Decides bs w)
+  where
+    both : Decides (bytes_eq (chars bs) w) (bs ≡ w)
+    both = let d = bytes_eq-Decides (chars bs) w in (λ e. bytes_of_word w bs word text (d.0 e), λ e. d.1 (chars_of_word w bs word e))
+
+-- each is such a word
+abbrev pub AreWords : List (List ℕ) → Type 0
+AreWords [] = Unit {0}
+AreWords (w ∷ ws) = IsWord w × AreWords ws
+
+pub ascii_words : (ws : List (List ℕ)) → list_all is_ascii ws ≡ true → AreWords ws
+ascii_words [] h = tt
+ascii_words (w ∷ ws) h = let p = and_parts (is_ascii w) (list_all is_ascii ws) h in (ascii_word w p.0, ascii_words ws p.1)
+
+pub among_chars : (ws : List (List ℕ)) (bs : List ℕ) → AreWords ws → IsUtf8 bs → is_among ws (chars bs) ≡ is_among ws bs
+among_chars [] bs words text = refl
+among_chars (w ∷ ws) bs words text = λ i. word_chars w bs words.0 text i || among_chars ws bs words.1 text i
+
+-- the text is none of these
+abbrev pub IsNoneOf : List (List ℕ) → List ℕ → Type 0
+IsNoneOf [] t = Unit {0}
+IsNoneOf (w ∷ ws) t = (t ≡ w → ⊥) × IsNoneOf ws t
+
+pub not_among : (ws : List (List ℕ)) (t : List ℕ) → IsNoneOf ws t → is_among ws t ≡ false
+not_among [] t h = refl
+not_among (w ∷ ws) t h = λ i. false_from_ne_true (bytes_eq w t) (λ e. h.0 (sym ((bytes_eq-Decides w t).0 e))) i || not_among ws t h.1 i
+
+-- the text is another than the word
+pub word_other : (w t : List ℕ) → (t ≡ w → ⊥) → bytes_eq t w ≡ false
+word_other w t other = false_from_ne_true (bytes_eq t w) (λ e. other ((bytes_eq-Decides t w).0 e))
+
+-- ---- plain scalars with a tag
 
 pub boolean-chars : (bs : List ℕ) → IsUtf8 bs → as_boolean (chars bs) ≡ as_boolean bs
 boolean-chars bs text =
-    let yes : is_among true_words (chars bs) ≡ is_among true_words bs = among_chars true_words bs (ascii_words true_words refl) text in
-    let nor : is_among false_words (chars bs) ≡ is_among false_words bs = among_chars false_words bs (ascii_words false_words refl) text in
-    λ i. if yes i then boolean true else (if nor i then boolean false else bad_value)
+    let same : (ws : List (List ℕ)) → list_all is_ascii ws ≡ true → is_among ws (chars bs) ≡ is_among ws bs = λ ws h. among_chars ws bs (ascii_words ws h) text in
+    rw (same true_words refl, same false_words refl) refl
 
 pub no_boolean : (t : List ℕ) → IsNoneOf true_words t → IsNoneOf false_words t → bad_value ≡ as_boolean t
-no_boolean t neither nor = sym (λ i. if not_among true_words t neither i then boolean true else (if not_among false_words t nor i then boolean false else bad_value))
+no_boolean t neither nor = sym (rw (not_among true_words t neither, not_among false_words t nor) refl)
 
 abbrev null_texts : List (List ℕ)
 null_texts = codes "~" ∷ codes "null" ∷ []
 
 pub null-chars : (bs : List ℕ) → IsUtf8 bs → as_null (chars bs) ≡ as_null bs
-null-chars bs text =
-    let yes : is_among null_texts (chars bs) ≡ is_among null_texts bs = among_chars null_texts bs (ascii_words null_texts refl) text in
-    λ i. if yes i then null else bad_value
+null-chars bs text = rw (among_chars null_texts bs (ascii_words null_texts refl) text) refl
 
 pub no_null : (t : List ℕ) → IsNoneOf null_texts t → bad_value ≡ as_null t
-no_null t neither = sym (λ i. if not_among null_texts t neither i then null else bad_value)
+no_null t neither = sym (rw (not_among null_texts t neither) refl)
 
 -- the suffix by its bytes
 pub name-chars : (bs text : List ℕ) → IsUtf8 bs → by_name (chars bs) text ≡ by_name bs text
 name-chars bs text utf8 =
-    let b = chars_word (codes "bool") bs (ascii_word (codes "bool") refl) utf8 in
-    let n = chars_word (codes "int") bs (ascii_word (codes "int") refl) utf8 in
-    let f = chars_word (codes "float") bs (ascii_word (codes "float") refl) utf8 in
-    let u = chars_word (codes "null") bs (ascii_word (codes "null") refl) utf8 in
-    λ i. if b i then as_boolean text
-    else (if n i then as_integer text
-    else (if f i then as_real text
-    else (if u i then as_null text
-    else string text)))
+    let same : (w : List ℕ) → is_ascii w ≡ true → bytes_eq (chars bs) w ≡ bytes_eq bs w = λ w h. chars_word w bs (ascii_word w h) utf8 in
+    rw (same (codes "bool") refl, same (codes "int") refl, same (codes "float") refl, same (codes "null") refl) refl
 
 pub other_name : (t text : List ℕ) → IsNoneOf (codes "bool" ∷ codes "int" ∷ codes "float" ∷ codes "null" ∷ []) t → string text ≡ by_name t text
 other_name t text other =
-    sym (λ i. if word_other (codes "bool") t other.0 i then as_boolean text
-    else (if word_other (codes "int") t other.1.0 i then as_integer text
-    else (if word_other (codes "float") t other.1.1.0 i then as_real text
-    else (if word_other (codes "null") t other.1.1.1.0 i then as_null text
-    else string text))))
+    sym (rw (word_other _ t other.0, word_other _ t other.1.0, word_other _ t other.1.1.0, word_other _ t other.1.1.1.0) refl)
 
 -- the code's test whether a handle is not that of the core schema
 core_test : (tag : Code) (handle : List ℕ) (other : Bool) → handle ≡ string_bytes tag.handle → other ≡ not (bytes_eq handle core_prefix)
@@ -66,25 +123,21 @@ other_tag tag handle text other e is so =
     let b = core_test tag handle other e is ∙ ap not so in
     sym (λ i. if b i then by_name (string_chars tag.suffix) text else string text)
 
--- the handle of the core schema
-pub core_tag : (tag : Code) (handle suffix text : List ℕ) (other : Bool) → handle ≡ string_bytes tag.handle → other ≡ not (bytes_eq handle core_prefix)
-    → other ≡ false → suffix ≡ string_bytes tag.suffix → tagged_tree (tag_of tag) text ≡ by_name suffix text
+-- the handle of the core schema, and this suffix
+pub core_tag : (tag : Code) {handle suffix text word : List ℕ} {other : Bool} → handle ≡ string_bytes tag.handle → other ≡ not (bytes_eq handle core_prefix)
+    → other ≡ false → suffix ≡ string_bytes tag.suffix → suffix ≡ word → tagged_tree (tag_of tag) text ≡ by_name word text
 unfolding string_chars
-core_tag tag handle suffix text other e is so s =
+core_tag tag {handle} {text = text} {other = other} e is so s w =
     let b = core_test tag handle other e is ∙ ap not so in
     (λ i. if b i then by_name (string_chars tag.suffix) text else string text)
-    ∙ name-chars (string_bytes tag.suffix) text (IsUtf8-string_bytes tag.suffix) ∙ ap (λ n. by_name n text) (sym s)
+    ∙ name-chars (string_bytes tag.suffix) text (IsUtf8-string_bytes tag.suffix) ∙ ap (λ n. by_name n text) (sym s ∙ w)
 
 -- ---- the tag `float`, by the bytes of the text
 
-low : (c : ℕ) → is_real_character c ≡ true → nat_lt c 128 ≡ true
-low c h = grind (arith, nat_tests)
-
-word_of : (t : List ℕ) → list_all is_real_character t ≡ true → IsWord t
-word_of t h = ascii_word t (list_all-more is_real_character (λ c. nat_lt c 128) low t h)
-
 decimal_word : (t : List ℕ) → is_decimal t ≡ true → IsWord t
-decimal_word t h = word_of t (decimal-characters t h)
+decimal_word t h =
+    let low : (c : ℕ) → is_real_character c ≡ true → nat_lt c 128 ≡ true = λ c h. grind (arith, nat_tests) in
+    ascii_word t (list_all-more is_real_character (λ c. nat_lt c 128) low t (decimal-characters t h))
 
 same_test : (a b : Bool) → (a ≡ true → b ≡ true) → (b ≡ true → a ≡ true) → a ≡ b
 same_test a b f g = grind (arith, nat_tests)

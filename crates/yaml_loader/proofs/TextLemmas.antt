@@ -1,24 +1,22 @@
 -- What a load answers of a text that means trees.
-use Rattle.std.specs.declared.str.Chars.{Chars}
-use Rattle.yaml_loader.proofs.Common.{[], Answers, ap, BeginsText, Bool, CameFrom, characters_are_the_text, chars, chars_rest, chars_steps, Err, ErrorReport, false, Global, has_no_nul, HasNoNul, IfOk, IsAtStart, IsUtf8, items_view, json_texts_are_read, json_texts_have_no_nul, List, LoadsOnly, LoadsText, MayBe, Means, memory_is_wanted, nested_is_stream, of_parser, OfBasic, OfGiven, OfJson, OfLayout, OfQuoted, OfTexts, Ok, one_meaning, one_reading, Option, Parsed, refl, Result, Scanned, subst, sym, Tree, tree_of, true, up_to_nul, Vec, Yaml, ℕ, ◌∙◌, ◌∷◌, ◌≡◌}
-use Rattle.yaml_chars.proofs.SpelledLemmas.{Chars-spelled}
+use Rattle.yaml_loader.proofs.Common.{[], Answers, ap, Begins-spelled, BeginsText, Bool, CameFrom, characters_are_the_text, chars, Chars-spelled, chars_steps, Err, ErrorReport, false, Global, has_no_nul, HasNoNul, IfOk, IsAtStart, IsUnread, IsUtf8, items_view, json_texts_are_read, json_texts_have_no_nul, List, LoadsOnly, LoadsText, MayBe, Means, memory_is_wanted, nested_is_stream, of_parser, OfBasic, OfGiven, OfJson, OfLayout, OfQuoted, OfTexts, Ok, one_meaning, one_reading, Option, Parsed, refl, Result, Scanned, subst, sym, Tree, tree_of, true, up_to_nul, Vec, Yaml, ℕ, ◌∙◌, ◌∷◌, ◌≡◌}
 use Rattle.defs_layout.specs.Layout as layout
 use Rattle.proof_loads.specs.Spelled.{IsWithoutNul}
 use Rattle.proof_loads.proofs.LayoutNul.{layouts_have_no_nul}
 use Rattle.proof_loads.proofs.LayoutTexts.{layouts_are_read}
 use Rattle.proof_loads.proofs.QuotedTexts.{quoted_texts_are_read, quoted_texts_have_no_nul}
-use Rattle.yaml_loader.specs.Unread as unread
+use Rattle.std.specs.Iterator.{AlwaysYields}
+use Rattle.proof_row.proofs.Pieces.{clean_up_to_end}
+use Rattle.yaml_chars.specs.InMemory.{text_rest}
+use Rattle.yaml_chars.specs.declared.characters.TextInMemory.{TextInMemory}
 
 -- A load of a text that means trees answers just these.
 loads_only : {text : List ℕ} {trees : List Tree} (result : Result (Vec Yaml Global) ErrorReport) → LoadsText false text result → Means false text trees → LoadsOnly result trees
 loads_only {text} {trees} (Ok documents) h x = one_meaning false text (items_view documents.items) trees h x
 loads_only {text} {trees} (Err f) (of_parser why) x = memory_is_wanted false text trees f x why
-loads_only (Err f) (unread.repeated_key es h key twice at tells owned) x = let same = one_reading h.tokens h.documents h.has (nested_is_stream h) x in cc
+loads_only (Err f) (IsUnread.repeated_key es h key twice at tells owned) x = let same = one_reading h.tokens h.documents h.has (nested_is_stream h) x in cc
 
 -- ---- the text after an iterator
-
-pub string_may_be : (start : Chars) (bytes : List ℕ) (s : Scanned) → IsUtf8 bytes → chars_rest start ≡ bytes → CameFrom chars_steps start s.taken s.done → HasNoNul s.taken → MayBe s (up_to_nul (chars bytes))
-string_may_be start bytes s utf8 rest came no_nul = characters_are_the_text chars_steps start (chars bytes) s (Chars-spelled start bytes utf8 rest) came no_nul
 
 pub of_texts : (old new : Parsed) (text : List ℕ) (P : Bool → List ℕ → Type 0) → IsAtStart old → old.keep_tags ≡ false → MayBe new.scanner text → OfTexts old new (P old.keep_tags) → P false text
 of_texts old new text P start keep may h = subst (λ b. P b text) keep (h start text may)
@@ -83,3 +81,18 @@ pub of_whole : (text : List ℕ) (result : Result (Vec Yaml Global) ErrorReport)
 of_whole text result h =
     let all : (s : List ℕ) → IsWithoutNul s → s ≡ text → s ≡ up_to_nul text = λ s free e. sym free ∙ ap up_to_nul e in
     (of_json text (up_to_nul text) all result h, of_basic text (up_to_nul text) all result h, of_layout text (up_to_nul text) all result h, of_quoted text (up_to_nul text) all result h)
+
+-- ---- what came from a text in memory is that text
+
+abbrev steps : TextInMemory → Option ℕ → TextInMemory → Type 0
+steps s r t = chars_steps s.chars r t.chars
+
+always_so : (cs : List ℕ) (s : TextInMemory) → AlwaysYields chars_steps (λ c. c) s.chars cs → AlwaysYields steps (λ c. c) s cs
+always_so [] s h = λ c t step. h c t.chars step
+always_so (c ∷ cs) s h = (λ t step. h.0 t.chars step, λ d t step. let next = h.1 d t.chars step in (next.0, always_so cs t next.1))
+
+-- what holds of each text that begins with what came from a text in memory holds of that text
+pub of_memory : {P : List ℕ → Type 0} (source : TextInMemory) (bytes : List ℕ) → IsUtf8 bytes → text_rest source ≡ bytes → BeginsText steps source (λ a. has_no_nul a ≡ true → P a) → P (up_to_nul (chars bytes))
+of_memory {P} source bytes utf8 rest begun =
+    let always = always_so (chars bytes) source (Chars-spelled source.chars bytes utf8 rest) in
+    Begins-spelled steps {P = λ a. has_no_nul a ≡ true → P a} (chars bytes) source always begun (clean_up_to_end (chars bytes))

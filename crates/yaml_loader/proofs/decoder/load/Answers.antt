@@ -1,5 +1,4 @@
-use Rattle.yaml_loader.proofs.Common.{chars, false, IsUnread, subst}
-use Rattle.defs_text.specs.Text.{string_chars, up_to_nul}
+use Rattle.yaml_loader.proofs.Common.{chars, false, IsUnread, string_chars, subst, up_to_nul}
 use Rattle.yaml_loader.proofs.decoder.load.Goals as goal
 
 -- the fault is the load's

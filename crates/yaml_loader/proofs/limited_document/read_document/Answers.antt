@@ -1,5 +1,6 @@
-use Rattle.yaml_loader.proofs.LimitedCommon.{arith, err_from_is_err_and, HoldsBack, subst}
-use Rattle.yaml_loader.proofs.LimitedReading.{fresh, read_within, stops_within, refuses_within, faults_within, holds_within}
+use Rattle.yaml_loader.proofs.LimitedCommon.{arith, err_from_is_err_and, HoldsBack, stops_by_parser, subst}
+use Rattle.yaml_loader.proofs.LimitedLemmas.{fresh}
+use Rattle.yaml_loader.proofs.LimitedCalls.{read_within, stops_within, refuses_within, holds_within}
 use Rattle.yaml_loader.proofs.limited_document.read_document.Goals as goal
 
 pub returns-in-Some-clause-reads : goal.returns-in-Some-clause-reads
@@ -11,7 +12,7 @@ returns-in-Some-clause-reads g c = λ h.
 pub returns-in-Err-Parser-clause-reads : goal.returns-in-Err-Parser-clause-reads
 returns-in-Err-Parser-clause-reads g c = λ h.
     let takes = c.in-Err-Parser.ensures.takes h.going in
-    faults_within c.args.limits c.in-Err-Parser.fault h (rw c.in-Err-Parser.field-0-is at takes)
+    stops_by_parser c.in-Err-Parser.fault h (rw c.in-Err-Parser.field-0-is at takes)
 
 pub returns-in-Err-Receiver-clause-reads : goal.returns-in-Err-Receiver-clause-reads
 returns-in-Err-Receiver-clause-reads g c = λ h.

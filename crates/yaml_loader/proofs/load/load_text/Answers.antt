@@ -1,5 +1,5 @@
 use Rattle.yaml_loader.proofs.Common.{chars, of_parser, view, wants_memory}
-use Rattle.yaml_loader.proofs.InMemory.{of_memory}
+use Rattle.yaml_loader.proofs.TextLemmas.{of_memory}
 use Rattle.yaml_loader.proofs.JsonTexts.{json_given}
 use Rattle.yaml_loader.proofs.load.load_text.Goals as goal
 

@@ -1,5 +1,4 @@
-use Rattle.yaml_loader.proofs.Common.{err_from_is_err_and, plain}
-use Rattle.yaml_loader.specs.Unread.{of_parser}
+use Rattle.yaml_loader.proofs.Common.{err_from_is_err_and, of_parser, plain}
 use Rattle.yaml_loader.proofs.MarkedTexts.{gives_documents}
 use Rattle.yaml_loader.proofs.marked_load.load_marked.Goals as goal
 

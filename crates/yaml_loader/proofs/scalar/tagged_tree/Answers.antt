@@ -1,4 +1,4 @@
-use Rattle.yaml_loader.proofs.Common.{ap, as_boolean, as_integer, as_null, by_name, chars, string_chars, sym, ◌∙◌}
+use Rattle.yaml_loader.proofs.Common.{ap, as_boolean, as_integer, as_null, chars, refl, string_chars, sym, ◌∙◌}
 use Rattle.yaml_loader.proofs.Tags.{other_tag, core_tag, other_name}
 use Rattle.yaml_loader.proofs.scalar.tagged_tree.Goals as goal
 
@@ -10,35 +10,30 @@ returns-then-ne c =
 pub returns-in-bool : goal.returns-in-bool
 unfolding string_chars
 returns-in-bool c =
-    let text = string_chars c.args.text in
-    let e = core_tag c.args.tag.now _ _ text c.ne.result c.as_str.ensures.value c.ne.ensures c.if-ne.false c.as_str-2.ensures.value in
-    c.boolean_of.ensures ∙ ap (λ b. as_boolean (chars b)) c.as_str-in-bool.ensures.value ∙ sym (e ∙ ap (λ n. by_name n text) c.in-bool.is)
+    c.boolean_of.ensures ∙ ap (λ b. as_boolean (chars b)) c.as_str-in-bool.ensures.value
+    ∙ sym (core_tag c.args.tag.now c.as_str.ensures.value c.ne.ensures c.if-ne.false c.as_str-2.ensures.value c.in-bool.is)
 
 pub returns-in-int : goal.returns-in-int
 unfolding string_chars
 returns-in-int c =
-    let text = string_chars c.args.text in
-    let e = core_tag c.args.tag.now _ _ text c.ne.result c.as_str.ensures.value c.ne.ensures c.if-ne.false c.as_str-2.ensures.value in
-    c.integer_of.ensures ∙ ap (λ b. as_integer (chars b)) c.as_str-in-int.ensures.value ∙ sym (e ∙ ap (λ n. by_name n text) c.in-int.is)
+    c.integer_of.ensures ∙ ap (λ b. as_integer (chars b)) c.as_str-in-int.ensures.value
+    ∙ sym (core_tag c.args.tag.now c.as_str.ensures.value c.ne.ensures c.if-ne.false c.as_str-2.ensures.value c.in-int.is)
 
 pub returns-in-float : goal.returns-in-float
 unfolding string_chars
 returns-in-float c =
-    let text = string_chars c.args.text in
-    let e = core_tag c.args.tag.now _ _ text c.ne.result c.as_str.ensures.value c.ne.ensures c.if-ne.false c.as_str-2.ensures.value in
-    c.real_of.ensures ∙ sym (e ∙ ap (λ n. by_name n text) c.in-float.is)
+    c.real_of.ensures
+    ∙ sym (core_tag c.args.tag.now c.as_str.ensures.value c.ne.ensures c.if-ne.false c.as_str-2.ensures.value c.in-float.is)
 
 pub returns-in-null : goal.returns-in-null
 unfolding string_chars
 returns-in-null c =
-    let text = string_chars c.args.text in
-    let e = core_tag c.args.tag.now _ _ text c.ne.result c.as_str.ensures.value c.ne.ensures c.if-ne.false c.as_str-2.ensures.value in
-    c.null_of.ensures ∙ ap (λ b. as_null (chars b)) c.as_str-in-null.ensures.value ∙ sym (e ∙ ap (λ n. by_name n text) c.in-null.is)
+    c.null_of.ensures ∙ ap (λ b. as_null (chars b)) c.as_str-in-null.ensures.value
+    ∙ sym (core_tag c.args.tag.now c.as_str.ensures.value c.ne.ensures c.if-ne.false c.as_str-2.ensures.value c.in-null.is)
 
 pub returns-in_default : goal.returns-in_default
 unfolding string_chars
 returns-in_default c =
-    let text = string_chars c.args.text in
     let d = c.in_default in
-    let e = core_tag c.args.tag.now _ _ text c.ne.result c.as_str.ensures.value c.ne.ensures c.if-ne.false c.as_str-2.ensures.value in
-    other_name c.as_str-2.result.now text (d.not-bool, (d.not-int, (d.not-float, (d.not-null, tt)))) ∙ sym e
+    other_name c.as_str-2.result.now (string_chars c.args.text) (d.not-bool, (d.not-int, (d.not-float, (d.not-null, tt))))
+    ∙ sym (core_tag c.args.tag.now c.as_str.ensures.value c.ne.ensures c.if-ne.false c.as_str-2.ensures.value refl)

@@ -1,6 +1,5 @@
-use Rattle.std.specs.Option.{option_copied}
-use Rattle.yaml_loader.proofs.LimitedCommon.{ap, extent_at, option_map, refl, single_node, sym, unwrap_or, ◌∙◌}
-use Rattle.yaml_loader.proofs.Anchors.{found_at}
+use Rattle.yaml_loader.proofs.LimitedCommon.{ap, extent_at, option_copied, option_map, refl, single_node, sym, unwrap_or, ◌∙◌}
+use Rattle.yaml_loader.proofs.AliasLemmas.{found_at}
 use Rattle.yaml_loader.proofs.count.Count.extent_at.Goals as goal
 
 pub returns-in-Some : goal.returns-in-Some

@@ -1,5 +1,5 @@
 use Rattle.yaml_loader.proofs.LimitedCommon.{extent_at, refl, single_node}
-use Rattle.yaml_loader.proofs.Anchors.{put_at}
+use Rattle.yaml_loader.proofs.AliasLemmas.{put_at}
 use Rattle.yaml_loader.proofs.count.Count.note.Goals as goal
 
 pub returns-clause-anchors : goal.returns-clause-anchors

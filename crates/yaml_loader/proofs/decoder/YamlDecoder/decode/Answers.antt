@@ -1,5 +1,4 @@
-use Rattle.defs_text.specs.Text.{string_chars}
-use Rattle.yaml_loader.proofs.Common.{Err, Global, List, Ok, Result, Vec, Yaml, ℕ}
+use Rattle.yaml_loader.proofs.Common.{Err, Global, List, Ok, Result, string_chars, Vec, Yaml, ℕ}
 use Rattle.yaml_encoding.specs.Decoding.{Outcome, text}
 use Rattle.yaml_loader.specs.declared.decoder.LoadError.{LoadError}
 use Rattle.yaml_loader.specs.declared.decoder.LoadError.TheVariants.{IO, Scan, Decode}

@@ -1,4 +1,4 @@
-use Rattle.yaml_chars.proofs.SpelledLemmas.{Chars-spelled}
+use Rattle.yaml_loader.proofs.Common.{Chars-spelled}
 use Rattle.yaml_loader.proofs.documents.Documents+Chars.new.Goals as goal
 
 pub returns-clause-text : goal.returns-clause-text

@@ -1,5 +1,5 @@
 use Rattle.yaml_loader.proofs.Common.{Err, None, Ok, refl, Some, true}
-use Rattle.yaml_loader.proofs.DocumentCalls.{gives}
+use Rattle.yaml_loader.proofs.DocumentTexts.{gives}
 use Rattle.yaml_loader.proofs.documents.DocumentsIterator.next.Goals as goal
 
 pub returns-in-Ok-Some-clause-steps : goal.returns-in-Ok-Some-clause-steps

@@ -1,7 +1,6 @@
-use Rattle.yaml_loader.proofs.LimitedCommon.{AnswersText, ap, by_limits, false, Guards, Hands, IfSome, parsed, subst, sym, Waits, ◌∙◌, ◌≡◌}
-use Rattle.proof_loads.specs.AtStart.{IsAtStart}
+use Rattle.yaml_loader.proofs.LimitedCommon.{AnswersText, ap, by_limits, false, Guards, Hands, IfSome, IsAtStart, parsed, subst, sym, too_many, Waits, ◌∙◌, ◌≡◌}
 use Rattle.yaml_loader.proofs.TextLemmas.{begins_given}
-use Rattle.yaml_loader.proofs.HandLemmas.{handed, held_back}
+use Rattle.yaml_loader.proofs.LimitedLemmas.{handed, held_back}
 use Rattle.yaml_loader.proofs.guard.Guard.read.Goals as goal
 
 pub returns-in-Some : goal.returns-in-Some
@@ -13,7 +12,8 @@ returns-in-Some g c =
     begins_given g.S.Characters.next_gives c.args.source c.load-outcome.new.self.start new.scanner (l.start ∙ ap (λ p. p.start) same ∙ e.start) c.note.ensures.came c.note.ensures.no_nul
     (λ text may. λ is_new.
     let waits = subst (λ b. IfSome b (λ w. Waits text w.mark w.tokens)) (sym c.backlog.ensures) (c.note.ensures.scans.scans text may).waits in
-    by_limits _ (held_back c.args.self.now.count.limits text c.backlog.result c.in-Some.mark waits c.in-Some.ensures))
+    let held = held_back c.args.self.now.count.limits text c.backlog.result c.in-Some.mark waits c.in-Some.ensures in
+    by_limits _ (too_many held.0 c.in-Some.mark held.1 held.2))
 
 pub returns : goal.returns
 returns g c =

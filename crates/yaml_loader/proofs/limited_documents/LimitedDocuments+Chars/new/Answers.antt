@@ -1,6 +1,4 @@
-use Rattle.std.specs.Str.Iter.{chars_rest}
-use Rattle.yaml_loader.proofs.LimitedCommon.{ap, false, IsReady, parsed, subst, sym, ◌∙◌}
-use Rattle.yaml_chars.proofs.SpelledLemmas.{Chars-spelled}
+use Rattle.yaml_loader.proofs.LimitedCommon.{ap, Chars-spelled, chars_rest, false, IsReady, parsed, subst, sym, ◌∙◌}
 use Rattle.yaml_loader.proofs.LimitedCalls.{ready_at_start}
 use Rattle.yaml_loader.proofs.limited_documents.LimitedDocuments+Chars.new.Goals as goal
 

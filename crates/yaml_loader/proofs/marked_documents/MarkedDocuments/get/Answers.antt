@@ -18,8 +18,7 @@ pub invariant_of-result : goal.invariant_of-result
 invariant_of-result c =
     let a = (c.in_ok-mark.ensures {u = tt}).lookup in
     let b = (c.in_ok-tree.ensures {u = tt}).lookup in
-    let found = found_document c.args.document c.deref.ensures.value c.deref-2.ensures.value c.as_slice.ensures.value c.in_ok-tree.tree.now c.in_ok-mark.mark.now b.3.0 b.1 a.3.0 a.1 c.args.self.now.fits in
-    record { fits = found.0 }
+    record { fits = (found_document c.args.document c.deref.ensures.value c.deref-2.ensures.value c.as_slice.ensures.value c.in_ok-tree.tree.now c.in_ok-mark.mark.now b.3.0 b.1 a.3.0 a.1 c.args.self.now.fits).0 }
 
 pub returns : goal.returns
 returns c =

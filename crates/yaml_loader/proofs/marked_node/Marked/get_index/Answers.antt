@@ -27,6 +27,5 @@ pub returns-in_ok-mark-in-Array : goal.returns-in_ok-mark-in-Array
 returns-in_ok-mark-in-Array c =
     let n = c.args.self.now in
     let a = (c.in_ok-mark-in-Array.ensures {u = tt}).lookup in
-    let found = node_found n.table.now n.mark.now c.args.index (view n.tree.now) c.in-Array.items (ap view c.in-Array.is) (view c.in_ok-tree-in-Array.tree.now) c.in_ok-mark-in-Array.mark.now c.parts.result.now
-    c.parts.ensures (c.in_ok-tree-in-Array.ensures {u = tt}) a.3.0 a.1 n.fits in
-    found.1
+    (node_found n.table.now n.mark.now c.args.index (view n.tree.now) c.in-Array.items (ap view c.in-Array.is) (view c.in_ok-tree-in-Array.tree.now) c.in_ok-mark-in-Array.mark.now c.parts.result.now
+    c.parts.ensures (c.in_ok-tree-in-Array.ensures {u = tt}) a.3.0 a.1 n.fits).1

@@ -9,10 +9,8 @@ returns-in_err-documents-clause-gives c =
 
 pub invariant_of-result : goal.invariant_of-result
 invariant_of-result c =
-    let given = gives_marks c.in_ok-documents.documents c.events_are_read_as_defined.ensures c.marks_fit_their_trees.ensures c.requires.1 (c.in_ok-documents.ensures {u = tt}) in
-    record { fits = given.0 }
+    record { fits = (gives_marks c.in_ok-documents.documents c.events_are_read_as_defined.ensures c.marks_fit_their_trees.ensures c.requires.1 (c.in_ok-documents.ensures {u = tt})).0 }
 
 pub returns-clause-marks : goal.returns-clause-marks
 returns-clause-marks c = λ text taken.
-    let given = gives_marks c.in_ok-documents.documents c.events_are_read_as_defined.ensures c.marks_fit_their_trees.ensures taken (c.in_ok-documents.ensures {u = tt}) in
-    given.1
+    (gives_marks c.in_ok-documents.documents c.events_are_read_as_defined.ensures c.marks_fit_their_trees.ensures taken (c.in_ok-documents.ensures {u = tt})).1

@@ -1,4 +1,4 @@
-use Rattle.yaml_loader.proofs.InMemory.{of_memory}
+use Rattle.yaml_loader.proofs.TextLemmas.{of_memory}
 use Rattle.yaml_loader.proofs.marked_receiver.MarkedLoader.of_text.Goals as goal
 
 pub returns : goal.returns
