@@ -124,10 +124,10 @@ other_tag tag handle text other e is so =
     sym (λ i. if b i then by_name (string_chars tag.suffix) text else string text)
 
 -- the handle of the core schema, and this suffix
-pub core_tag : (tag : Code) {handle suffix text word : List ℕ} {other : Bool} → handle ≡ string_bytes tag.handle → other ≡ not (bytes_eq handle core_prefix)
+pub core_tag : (tag : Code) {handle suffix word : List ℕ} {other : Bool} (text : List ℕ) → handle ≡ string_bytes tag.handle → other ≡ not (bytes_eq handle core_prefix)
     → other ≡ false → suffix ≡ string_bytes tag.suffix → suffix ≡ word → tagged_tree (tag_of tag) text ≡ by_name word text
 unfolding string_chars
-core_tag tag {handle} {text = text} {other = other} e is so s w =
+core_tag tag {handle} {other = other} text e is so s w =
     let b = core_test tag handle other e is ∙ ap not so in
     (λ i. if b i then by_name (string_chars tag.suffix) text else string text)
     ∙ name-chars (string_bytes tag.suffix) text (IsUtf8-string_bytes tag.suffix) ∙ ap (λ n. by_name n text) (sym s ∙ w)

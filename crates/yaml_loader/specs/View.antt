@@ -50,11 +50,6 @@ Inserts old t new = (u : Unfinished) (outer : List Opened) → with_tree t u (ol
 abbrev pub Repeats : Opened → Tree → Opened → Type 0
 Repeats old t new = (u : Unfinished) (outer : List Opened) → with_tree t u (old ∷ outer) ≡ repeats (repeated_key (new ∷ outer))
 
--- The step, with these anchors in place of its own.
-abbrev pub with_anchors : Anchors → Step → Step
-with_anchors anchors (reads u) = reads (record u { anchors = anchors })
-with_anchors anchors s = s
-
 -- What is known of a step that is refused, and of the open collections after it. Of refused memory nothing is known.
 abbrev pub IsRefusedBy : Refusal → Step → List Opened → Type 0
 IsRefusedBy refusal.OutOfMemory s opened = Unit {0}
